@@ -1,0 +1,112 @@
+-- The state of a job between two steps (document 01, "How a board steps" and "The report"). Assumes nothing: these are
+-- definitions.
+use mathlib.Core.Bool.{Bool, true, false}
+use mathlib.Core.List.{List, []}
+use mathlib.Core.Option.{Option, none, some}
+use Prim.Native.Nat.{ℕ}
+use lib.ListN.{getD, replicate}
+use Rattle.rules.specs.Limits.{absent}
+use Rattle.rules.specs.Sheet.{Sheet, P-of, N-of}
+
+-- the row of an operation: its state (0 not entered, 1 pending, 2 buffered, 3 matched, 5 wait finished), its partner, and of
+-- a matched receive its status: source, tag and length of the message; cut says that the message was truncated
+pub record Entry : Type 0 where
+  pub state : ℕ
+  pub cut : ℕ
+  pub partner : ℕ
+  pub source : ℕ
+  pub tag : ℕ
+  pub long : ℕ
+
+-- where a board stands: operations finished, whether the next one is in its waiting half (an MPI blocking call that has
+-- started and not returned), bytes of its attached buffer in use, and the most in use after any step
+pub record Place : Type 0 where
+  pub finished : ℕ
+  pub waiting : Bool
+  pub in-use : ℕ
+  pub peak : ℕ
+
+-- why, where and at which operation a job stopped: verdict 3 overflow, 4 not ready
+pub record Stop : Type 0 where
+  pub verdict : ℕ
+  pub rank : ℕ
+  pub at-op : ℕ
+
+-- messages: pending messages, by operation, in order of arrival; receives: posted receives in order of posting;
+-- memory: the inboxes
+pub record Job : Type 0 where
+  pub entries : List Entry
+  pub places : List Place
+  pub messages : List ℕ
+  pub receives : List ℕ
+  pub memory : List ℕ
+  pub stop : Option Stop
+  pub steps : ℕ
+
+unfoldable pub entry : (state cut partner source tag long : ℕ) → Entry
+entry a b c d e f =
+    record {
+      state = a;
+      cut = b;
+      partner = c;
+      source = d;
+      tag = e;
+      long = f;
+    }
+
+-- a row with neither partner nor status
+unfoldable pub bare-entry : (state : ℕ) → Entry
+bare-entry v = entry v 0 absent absent absent 0
+
+unfoldable pub place : (finished : ℕ) → (waiting : Bool) → (in-use peak : ℕ) → Place
+place a b c d =
+    record {
+      finished = a;
+      waiting = b;
+      in-use = c;
+      peak = d;
+    }
+
+unfoldable pub job : List Entry → List Place → (messages receives memory : List ℕ) → Option Stop → (steps : ℕ) → Job
+job e p m r i s k =
+    record {
+      entries = e;
+      places = p;
+      messages = m;
+      receives = r;
+      memory = i;
+      stop = s;
+      steps = k;
+    }
+
+-- the start: nothing entered, no buffer in use, the lent inboxes
+unfoldable pub started : Sheet → (inboxes : List ℕ) → Job
+started s i = job (replicate (N-of s) (bare-entry 0)) (replicate (P-of s) (place 0 false 0 0)) [] [] i none 0
+
+unfoldable pub entry-at : Job → (i : ℕ) → Entry
+entry-at x i = getD (x .entries) i (bare-entry 0)
+
+unfoldable pub place-at : Job → (r : ℕ) → Place
+place-at x r = getD (x .places) r (place 0 false 0 0)
+
+-- A JOB WITH ONE PART CHANGED
+unfoldable pub with-entries : List Entry → Job → Job
+with-entries e x = job e (x .places) (x .messages) (x .receives) (x .memory) (x .stop) (x .steps)
+
+unfoldable pub with-places : List Place → Job → Job
+with-places p x = job (x .entries) p (x .messages) (x .receives) (x .memory) (x .stop) (x .steps)
+
+unfoldable pub with-messages : List ℕ → Job → Job
+with-messages m x = job (x .entries) (x .places) m (x .receives) (x .memory) (x .stop) (x .steps)
+
+unfoldable pub with-receives : List ℕ → Job → Job
+with-receives r x = job (x .entries) (x .places) (x .messages) r (x .memory) (x .stop) (x .steps)
+
+unfoldable pub with-memory : List ℕ → Job → Job
+with-memory i x = job (x .entries) (x .places) (x .messages) (x .receives) i (x .stop) (x .steps)
+
+unfoldable pub with-stop : Stop → Job → Job
+with-stop t x = job (x .entries) (x .places) (x .messages) (x .receives) (x .memory) (some t) (x .steps)
+
+unfoldable pub with-steps : ℕ → Job → Job
+with-steps k x = job (x .entries) (x .places) (x .messages) (x .receives) (x .memory) (x .stop) k

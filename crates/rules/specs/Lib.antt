@@ -1,0 +1,21 @@
+-- What a reader must believe, in the order of document 01, and nothing more: definitions, and the bench jobs that test them.
+--   Limits    the numbers of document 01, each under one name
+--   Sheet     the sheet byte by byte, and what its bytes decode to
+--   Crc       CRC-16, bit by bit
+--   Refusal   numbers 1 to 7: when the desk says no to a sheet
+--   Job       the state of a job: rows of operations, places of boards, waiting lists, inbox memory
+--   Step      how a board steps: fits, matches, deliveries, charges, stops
+--   Order     following an order of ranks; the desk's own run
+--   Report    the report, byte by byte
+--   Service   what check, follow and run answer and leave in the lent rooms
+--   Claims    the words in which the promises about orders are stated
+pub mod Limits
+pub mod Sheet
+pub mod Crc
+pub mod Refusal
+pub mod Job
+pub mod Step
+pub mod Order
+pub mod Report
+pub mod Service
+pub mod Claims

@@ -1,0 +1,137 @@
+-- When the desk says no to a sheet (document 01, "When the desk says no"): numbers 1 to 7, lowest first, each over the whole
+-- sheet, each at its place. Assumes nothing: these are definitions.
+use mathlib.Core.Bool.{Bool, true, false, _&&_, _||_, not, cond}
+use mathlib.Core.List.{List}
+use Prim.Native.Nat.{ℕ, zero, suc, _+_, _-_}
+use lib.Dec.{ltb, leb, eqb}
+use lib.ListN.{length}
+use Rattle.rules.specs.Limits.{most-boards, most-comms, most-ops, most-payload, most-attached, most-inbox, tag-limit, most-length, slot-limit, any, header-size, boards-at, ops-at, payload-at, sheet-size}
+use Rattle.rules.specs.Sheet.{Sheet, Op, op, board, P-of, N-of, rank-of, counts-before, inbox-start, is-send, is-receive, is-wait, is-nonblocking, two, P-in, C-in, N-in, L-in, sheet-in}
+use Rattle.rules.specs.Crc.{crc}
+
+-- an answer: number 0 and place 0 is success
+pub record Refusal : Type 0 where
+  pub number : ℕ
+  pub place : ℕ
+
+unfoldable pub refusal : (number place : ℕ) → Refusal
+refusal n p =
+    record {
+      number = n;
+      place = p;
+    }
+
+abbrev pub accepted : Refusal
+accepted = refusal 0 0
+
+unfoldable pub or-else : Refusal → Refusal → Refusal
+or-else a b = cond (eqb (a .number) 0) b a
+
+-- the first index from i on, among `left` of them, where a test fails, refused with a number
+unfoldable pub first-broken : (number : ℕ) → (ℕ → Bool) → (left i : ℕ) → Refusal
+first-broken n f zero i = accepted
+first-broken n f (suc k) i = cond (f i) (first-broken n f k (suc i)) (refusal n i)
+
+-- 2: P, C, N and L in their ranges
+unfoldable pub sizes-good : List ℕ → Bool
+sizes-good bs =
+    ((leb 1 (P-in bs) && leb (P-in bs) most-boards) && (leb 1 (C-in bs) && leb (C-in bs) most-comms))
+    && (leb (N-in bs) most-ops && leb (L-in bs) most-payload)
+
+-- 3: the three offsets and the sheet's length
+unfoldable pub layout-good : List ℕ → Bool
+layout-good bs =
+    ((eqb (two bs 6) boards-at && eqb (two bs 8) (ops-at (P-in bs))) && eqb (two bs 10) (payload-at (P-in bs) (N-in bs)))
+    && eqb (length bs) (sheet-size (P-in bs) (N-in bs) (L-in bs))
+
+-- 4: the CRC in the header
+unfoldable pub crc-good : List ℕ → Bool
+crc-good bs = eqb (crc bs) (two bs 14)
+
+-- 5: a board's first operation is the sum of the counts before it; attached size; running total of the inboxes
+unfoldable pub board-good : Sheet → (r : ℕ) → Bool
+board-good s r =
+    eqb (board s r .first) (counts-before s r)
+    && (leb (board s r .attached) most-attached && leb (inbox-start s (suc r)) most-inbox)
+
+unfoldable pub boards-refusal : Sheet → Refusal
+boards-refusal s =
+    or-else (first-broken 5 (board-good s) (P-of s) 0)
+    (cond (eqb (counts-before s (P-of s)) (N-of s)) accepted (refusal 5 (P-of s)))
+
+-- 6: a receive may name any source and any tag
+unfoldable pub or-any : Op → (limit v : ℕ) → Bool
+or-any o l v = ltb v l || (is-receive o && eqb v any)
+
+unfoldable pub wait-good : Op → Bool
+wait-good o =
+    ((eqb (o .flag) 0 && eqb (o .peer) 0) && (eqb (o .comm) 0 && eqb (o .zero-field) 0))
+    && ((eqb (o .tag) 0 && eqb (o .offset) 0) && (eqb (o .long) 0 && ltb (o .slot) slot-limit))
+
+-- offset plus length stays inside: a send's the payload, a receive's its board's inbox
+unfoldable pub room-for : Sheet → (i : ℕ) → ℕ
+room-for s i = cond (is-receive (op s i)) (board s (rank-of s i) .inbox) (length (s .payload))
+
+unfoldable pub transfer-good : Sheet → (room : ℕ) → Op → Bool
+transfer-good s room o =
+    ((leb (o .flag) 1 && or-any o (P-of s) (o .peer)) && (ltb (o .comm) (s .comms) && eqb (o .zero-field) 0))
+    && ((or-any o tag-limit (o .tag) && leb (o .long) most-length)
+    && (leb (o .offset + o .long) room && cond (eqb (o .flag) 0) (eqb (o .slot) 0) (ltb (o .slot) slot-limit)))
+
+unfoldable pub op-good : Sheet → (i : ℕ) → Bool
+op-good s i =
+    let o = op s i in
+    cond (is-wait o) (wait-good o) ((is-send o || is-receive o) && transfer-good s (room-for s i) o)
+
+unfoldable pub ops-refusal : Sheet → Refusal
+ops-refusal s = first-broken 6 (op-good s) (N-of s) 0
+
+-- 7: slots and areas. A wait among the `left` operations from j on names the slot k
+unfoldable pub freed : Sheet → (left j k : ℕ) → Bool
+freed s zero j k = false
+freed s (suc l) j k = (is-wait (op s j) && eqb (op s j .slot) k) || freed s l (suc j) k
+
+-- operation j is an earlier one of i's board that took its slot, and no wait between them freed it
+unfoldable pub holds : Sheet → (j i : ℕ) → Bool
+holds s j i =
+    (ltb j i && eqb (rank-of s j) (rank-of s i))
+    && (is-nonblocking (op s j) && not (freed s (i - suc j) (suc j) (op s j .slot)))
+
+-- a test holds of one of the numbers below i
+unfoldable pub some-below : (i : ℕ) → (ℕ → Bool) → Bool
+some-below zero f = false
+some-below (suc j) f = f j || some-below j f
+
+-- operation i's board holds the slot k
+unfoldable pub slot-held : Sheet → (i k : ℕ) → Bool
+slot-held s i k = some-below i (λ j. holds s j i && eqb (op s j .slot) k)
+
+-- two areas of one inbox share a byte; an empty area shares nothing
+unfoldable pub share : (a b : Op) → Bool
+share a b =
+    (ltb 0 (a .long) && ltb 0 (b .long))
+    && (ltb (a .offset) (b .offset + b .long) && ltb (b .offset) (a .offset + a .long))
+
+-- operation i's area shares a byte with that of an earlier receive of its board whose slot is held
+unfoldable pub area-taken : Sheet → (i : ℕ) → Bool
+area-taken s i = some-below i (λ j. holds s j i && (is-receive (op s j) && share (op s j) (op s i)))
+
+unfoldable pub request-good : Sheet → (i : ℕ) → Bool
+request-good s i =
+    let o = op s i in
+    cond (is-wait o) (slot-held s i (o .slot))
+    (not (is-nonblocking o && slot-held s i (o .slot)) && not (is-receive o && area-taken s i))
+
+unfoldable pub requests-refusal : Sheet → Refusal
+requests-refusal s = first-broken 7 (request-good s) (N-of s) 0
+
+-- 5 to 7 read the tables that 1 to 4 have found in place
+unfoldable pub tables-refusal : Sheet → Refusal
+tables-refusal s = or-else (boards-refusal s) (or-else (ops-refusal s) (requests-refusal s))
+
+unfoldable pub sheet-refusal : List ℕ → Refusal
+sheet-refusal bs =
+    cond (ltb (length bs) header-size) (refusal 1 0)
+    (cond (not (sizes-good bs)) (refusal 2 0)
+    (cond (not (layout-good bs)) (refusal 3 0)
+    (cond (not (crc-good bs)) (refusal 4 0) (tables-refusal (sheet-in bs)))))

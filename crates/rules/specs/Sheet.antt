@@ -1,0 +1,170 @@
+-- The sheet, byte by byte (document 01, "The sheet, byte by byte"): boards, operations and payload, and what bytes decode to.
+-- Everything that reads a sheet goes through `sheet-in`. Assumes nothing: these are definitions.
+use mathlib.Core.Bool.{Bool, true, false, _&&_, cond}
+use mathlib.Core.List.{List, [], _∷_}
+use Prim.Native.Nat.{ℕ, zero, suc, _+_, _*_}
+use lib.Dec.{ltb, leb, eqb}
+use lib.ListN.{length, getD, take, drop}
+use Rattle.rules.specs.Limits.{boards-at, board-size, op-size, ops-at, payload-at}
+
+-- an operation: a send, a receive, or a wait on a request slot
+pub record Op : Type 0 where
+  pub kind : ℕ
+  pub flag : ℕ
+  pub peer : ℕ
+  pub comm : ℕ
+  pub zero-field : ℕ
+  pub tag : ℕ
+  pub offset : ℕ
+  pub long : ℕ
+  pub slot : ℕ
+
+-- a board is an MPI process: its script, its attached buffer (MPI_Buffer_attach), its inbox
+pub record Board : Type 0 where
+  pub first : ℕ
+  pub count : ℕ
+  pub attached : ℕ
+  pub inbox : ℕ
+
+pub record Sheet : Type 0 where
+  pub comms : ℕ
+  pub boards : List Board
+  pub ops : List Op
+  pub payload : List ℕ
+
+unfoldable pub no-op : Op
+no-op =
+    record {
+      kind = 0;
+      flag = 0;
+      peer = 0;
+      comm = 0;
+      zero-field = 0;
+      tag = 0;
+      offset = 0;
+      long = 0;
+      slot = 0;
+    }
+
+unfoldable pub no-board : Board
+no-board =
+    record {
+      first = 0;
+      count = 0;
+      attached = 0;
+      inbox = 0;
+    }
+
+-- P and N of the header, which are the tables' lengths
+unfoldable pub P-of : Sheet → ℕ
+P-of s = length (s .boards)
+
+unfoldable pub N-of : Sheet → ℕ
+N-of s = length (s .ops)
+
+unfoldable pub op : Sheet → (i : ℕ) → Op
+op s i = getD (s .ops) i no-op
+
+unfoldable pub board : Sheet → (r : ℕ) → Board
+board s r = getD (s .boards) r no-board
+
+-- KINDS: 1 standard, 2 buffered, 3 synchronous, 4 ready send, 5 receive, 6 wait
+unfoldable pub is-send : Op → Bool
+is-send o = leb 1 (o .kind) && leb (o .kind) 4
+
+unfoldable pub is-buffered : Op → Bool
+is-buffered o = eqb (o .kind) 2
+
+unfoldable pub is-ready : Op → Bool
+is-ready o = eqb (o .kind) 4
+
+unfoldable pub is-receive : Op → Bool
+is-receive o = eqb (o .kind) 5
+
+unfoldable pub is-wait : Op → Bool
+is-wait o = eqb (o .kind) 6
+
+-- a nonblocking operation (flag 1) takes its request slot
+unfoldable pub is-nonblocking : Op → Bool
+is-nonblocking o = eqb (o .flag) 1
+
+-- a figure of the boards before rank r, added up: counts give first operations, inbox sizes give inbox starts
+unfoldable pub sum-before : (Board → ℕ) → (r : ℕ) → List Board → ℕ
+sum-before f zero bs = 0
+sum-before f (suc r) [] = 0
+sum-before f (suc r) (b ∷ bs) = f b + sum-before f r bs
+
+unfoldable pub counts-before : Sheet → (r : ℕ) → ℕ
+counts-before s r = sum-before (λ b. b .count) r (s .boards)
+
+-- inboxes lie one after another in rank order in the inbox memory
+unfoldable pub inbox-start : Sheet → (r : ℕ) → ℕ
+inbox-start s r = sum-before (λ b. b .inbox) r (s .boards)
+
+unfoldable pub inbox-total : Sheet → ℕ
+inbox-total s = inbox-start s (P-of s)
+
+-- the rank of the board whose script an operation is in
+unfoldable pub rank-from : (r : ℕ) → List Board → (i : ℕ) → ℕ
+rank-from r [] i = r
+rank-from r (b ∷ bs) i = cond (ltb i (b .first + b .count)) r (rank-from (suc r) bs i)
+
+unfoldable pub rank-of : Sheet → (i : ℕ) → ℕ
+rank-of s i = rank-from 0 (s .boards) i
+
+-- BYTES: numbers are little-endian, 16 bits unless said
+unfoldable pub two : List ℕ → (at : ℕ) → ℕ
+two bs at = getD bs at 0 + 256 * getD bs (at + 1) 0
+
+unfoldable pub board-in : List ℕ → (at : ℕ) → Board
+board-in bs at =
+    record {
+      first = two bs at;
+      count = two bs (at + 2);
+      attached = two bs (at + 4);
+      inbox = two bs (at + 6);
+    }
+
+unfoldable pub boards-in : List ℕ → (left at : ℕ) → List Board
+boards-in bs zero at = []
+boards-in bs (suc k) at = board-in bs at ∷ boards-in bs k (at + board-size)
+
+unfoldable pub op-in : List ℕ → (at : ℕ) → Op
+op-in bs at =
+    record {
+      kind = getD bs at 0;
+      flag = getD bs (at + 1) 0;
+      peer = two bs (at + 2);
+      comm = two bs (at + 4);
+      zero-field = two bs (at + 6);
+      tag = two bs (at + 8);
+      offset = two bs (at + 10);
+      long = two bs (at + 12);
+      slot = two bs (at + 14);
+    }
+
+unfoldable pub ops-in : List ℕ → (left at : ℕ) → List Op
+ops-in bs zero at = []
+ops-in bs (suc k) at = op-in bs at ∷ ops-in bs k (at + op-size)
+
+-- HEADER: P at byte 0, C at 2, N at 4, the offsets of the three tables at 6, 8 and 10, L at 12, CRC at 14
+unfoldable pub P-in : List ℕ → ℕ
+P-in bs = two bs 0
+
+unfoldable pub C-in : List ℕ → ℕ
+C-in bs = two bs 2
+
+unfoldable pub N-in : List ℕ → ℕ
+N-in bs = two bs 4
+
+unfoldable pub L-in : List ℕ → ℕ
+L-in bs = two bs 12
+
+unfoldable pub sheet-in : List ℕ → Sheet
+sheet-in bs =
+    record {
+      comms = C-in bs;
+      boards = boards-in bs (P-in bs) boards-at;
+      ops = ops-in bs (N-in bs) (ops-at (P-in bs));
+      payload = take (L-in bs) (drop (payload-at (P-in bs) (N-in bs)) bs);
+    }

@@ -1,0 +1,204 @@
+-- How a board steps (document 01, "How a board steps"): able, fits, matches, deliveries, charges, stops.
+-- Assumes nothing: these are definitions.
+use mathlib.Core.Bool.{Bool, true, false, _&&_, _||_, not, cond}
+use mathlib.Core.List.{List, [], _∷_, _++_}
+use mathlib.Core.Option.{Option, none, some}
+use Prim.Native.Nat.{ℕ, zero, suc, _+_, _-_, max}
+use lib.Dec.{ltb, leb, eqb}
+use lib.ListN.{length, set, take, drop}
+use Rattle.rules.specs.Limits.{any, absent}
+use Rattle.rules.specs.Sheet.{Sheet, Op, op, board, P-of, rank-of, inbox-start, is-buffered, is-ready, is-receive, is-wait, is-nonblocking}
+use Rattle.rules.specs.Job.{Job, Place, Stop, place, entry, bare-entry, entry-at, place-at, with-entries, with-places, with-messages, with-receives, with-memory, with-stop, with-steps}
+
+-- the operation that is next on a board
+unfoldable pub next-op : Sheet → Job → (r : ℕ) → ℕ
+next-op s x r = board s r .first + place-at x r .finished
+
+-- a board is finished when all its operations are
+unfoldable pub is-finished : Sheet → Job → (r : ℕ) → Bool
+is-finished s x r = leb (board s r .count) (place-at x r .finished)
+
+-- complete: a send buffered or matched, a receive matched
+unfoldable pub complete : Job → (i : ℕ) → Bool
+complete x i = leb 2 (entry-at x i .state)
+
+-- the operation that wait i waits for: the latest one of its board below j that took its slot. On a sheet that passes
+-- check there is one; none is the answer elsewhere, and is never complete
+unfoldable pub waited-below : (j : ℕ) → Sheet → (i : ℕ) → Option ℕ
+waited-below zero s i = none
+waited-below (suc j) s i =
+    cond (eqb (rank-of s j) (rank-of s i) && (is-nonblocking (op s j) && eqb (op s j .slot) (op s i .slot)))
+    (some j) (waited-below j s i)
+
+unfoldable pub waited : Sheet → (i : ℕ) → Option ℕ
+waited s i = waited-below i s i
+
+unfoldable pub complete-if : Job → Option ℕ → Bool
+complete-if x none = false
+complete-if x (some j) = complete x j
+
+-- what must be complete for operation i's waiting half: a wait's operation, else the operation itself
+unfoldable pub half-complete : Sheet → Job → (i : ℕ) → Bool
+half-complete s x i = cond (is-wait (op s i)) (complete-if x (waited s i)) (complete x i)
+
+-- each operation but wait has an initiating step; a blocking one then has a waiting half, a wait is only a waiting half
+unfoldable pub in-waiting-half : Sheet → Job → (r : ℕ) → Bool
+in-waiting-half s x r = place-at x r .waiting || is-wait (op s (next-op s x r))
+
+unfoldable pub is-none : {A : Type 0} → Option A → Bool
+is-none none = true
+is-none (some a) = false
+
+-- able (MPI: the process can make progress): not stopped, unfinished, and an initiating step or a complete waiting half next
+unfoldable pub able : Sheet → Job → (r : ℕ) → Bool
+able s x r =
+    (is-none (x .stop) && (ltb r (P-of s) && not (is-finished s x r)))
+    && (not (in-waiting-half s x r) || half-complete s x (next-op s x r))
+
+-- FIT (004): message m is addressed to the receiver; communicators equal; source equal or any; tag equal or any
+unfoldable pub fits-with : Sheet → (m r : ℕ) → Bool
+fits-with s m r =
+    let a = op s m in
+    let b = op s r in
+    (eqb (a .peer) (rank-of s r) && eqb (a .comm) (b .comm))
+    && ((eqb (b .peer) any || eqb (b .peer) (rank-of s m)) && (eqb (b .tag) any || eqb (b .tag) (a .tag)))
+
+-- the first of a list, in its order, that passes a test
+unfoldable pub first-by : (ℕ → Bool) → List ℕ → Option ℕ
+first-by f [] = none
+first-by f (x ∷ xs) = cond (f x) (some x) (first-by f xs)
+
+-- the earliest-arrived pending message that fits receive r; the earliest-posted pending receive that fits message m
+unfoldable pub first-message : Sheet → (r : ℕ) → List ℕ → Option ℕ
+first-message s r ms = first-by (λ m. fits-with s m r) ms
+
+unfoldable pub first-receive : Sheet → (m : ℕ) → List ℕ → Option ℕ
+first-receive s m rs = first-by (λ r. fits-with s m r) rs
+
+-- a list without the first v in it
+unfoldable pub without : ℕ → List ℕ → List ℕ
+without v [] = []
+without v (x ∷ xs) = cond (eqb x v) xs (x ∷ without v xs)
+
+-- DELIVERY: bytes put into a list at a place; the other bytes keep their values
+unfoldable pub splice : List ℕ → (at : ℕ) → List ℕ → List ℕ
+splice bs at vs = take at bs ++ (vs ++ drop (at + length vs) bs)
+
+-- where receive r's area starts in the inbox memory
+unfoldable pub area-start : Sheet → (r : ℕ) → ℕ
+area-start s r = inbox-start s (rank-of s r) + op s r .offset
+
+-- a message longer than the capacity is cut (MPI: truncated)
+unfoldable pub is-cut : Sheet → (m r : ℕ) → Bool
+is-cut s m r = ltb (op s r .long) (op s m .long)
+
+-- how many bytes a match copies: the whole message, or none where it is cut
+unfoldable pub copied : Sheet → (m r : ℕ) → ℕ
+copied s m r = cond (is-cut s m r) 0 (op s m .long)
+
+unfoldable pub delivered : Sheet → (m r : ℕ) → List ℕ → List ℕ
+delivered s m r bs = splice bs (area-start s r) (take (copied s m r) (drop (op s m .offset) (s .payload)))
+
+-- CHARGES: what an unmatched buffered send is charged
+unfoldable pub charge-of : Op → ℕ
+charge-of o = o .long
+
+unfoldable pub charged : (n : ℕ) → Place → Place
+charged n q = place (q .finished) (q .waiting) (q .in-use + n) (max (q .peak) (q .in-use + n))
+
+unfoldable pub released : (n : ℕ) → Place → Place
+released n q = place (q .finished) (q .waiting) (q .in-use - n) (q .peak)
+
+unfoldable pub with-place : (r : ℕ) → Place → Job → Job
+with-place r q x = with-places (set (x .places) r q) x
+
+unfoldable pub charge : Sheet → (r i : ℕ) → Job → Job
+charge s r i x = with-place r (charged (charge-of (op s i)) (place-at x r)) x
+
+-- a buffered message's charge goes when it is matched
+unfoldable pub release : Sheet → (m : ℕ) → Job → Job
+release s m x =
+    cond (eqb (entry-at x m .state) 2)
+    (with-place (rank-of s m) (released (charge-of (op s m)) (place-at x (rank-of s m))) x) x
+
+-- A MATCH of message m and receive r: both complete, neither is pending any more, the message is delivered
+unfoldable pub matched-rows : Sheet → (m r : ℕ) → Job → Job
+matched-rows s m r x =
+    with-entries
+    (set (set (x .entries) m (entry 3 0 r absent absent 0)) r
+    (entry 3 (cond (is-cut s m r) 1 0) m (rank-of s m) (op s m .tag) (op s m .long)))
+    x
+
+unfoldable pub matched : Sheet → (m r : ℕ) → Job → Job
+matched s m r x =
+    with-memory (delivered s m r (x .memory))
+    (with-receives (without r (x .receives))
+    (with-messages (without m (x .messages)) (matched-rows s m r (release s m x))))
+
+-- INITIATING STEPS
+unfoldable pub with-state : (i state : ℕ) → Job → Job
+with-state i v x = with-entries (set (x .entries) i (bare-entry v)) x
+
+unfoldable pub pend-message : (i state : ℕ) → Job → Job
+pend-message i v x = with-messages (x .messages ++ (i ∷ [])) (with-state i v x)
+
+unfoldable pub pend-receive : (i : ℕ) → Job → Job
+pend-receive i x = with-receives (x .receives ++ (i ∷ [])) (with-state i 1 x)
+
+-- a stopping step's operation isn't entered
+unfoldable pub stopped : (verdict r i : ℕ) → Job → Job
+stopped v r i x =
+    with-stop
+    (record {
+      verdict = v;
+      rank = r;
+      at-op = i;
+    })
+    x
+
+-- an operation is finished after its last step
+unfoldable pub one-finished : Place → Place
+one-finished q = place (suc (q .finished)) false (q .in-use) (q .peak)
+
+unfoldable pub now-waiting : Place → Place
+now-waiting q = place (q .finished) true (q .in-use) (q .peak)
+
+-- after an initiating step a nonblocking operation is finished, a blocking one is in its waiting half
+unfoldable pub initiated : Sheet → (r i : ℕ) → Job → Job
+initiated s r i x =
+    with-place r (cond (is-nonblocking (op s i)) (one-finished (place-at x r)) (now-waiting (place-at x r))) x
+
+-- a send that no posted receive fits. Ready: the job stops, not ready. Buffered: charged where its board's attached buffer
+-- has room, else the job stops, overflow. Standard and synchronous: pending, not complete
+unfoldable pub fits-buffer : Sheet → (r i : ℕ) → Job → Bool
+fits-buffer s r i x = leb (place-at x r .in-use + charge-of (op s i)) (board s r .attached)
+
+unfoldable pub unmatched : Sheet → (r i : ℕ) → Job → Job
+unmatched s r i x =
+    cond (is-ready (op s i)) (stopped 4 r i x)
+    (cond (is-buffered (op s i))
+    (cond (fits-buffer s r i x) (initiated s r i (charge s r i (pend-message i 2 x))) (stopped 3 r i x))
+    (initiated s r i (pend-message i 1 x)))
+
+unfoldable pub sent : Sheet → (r i : ℕ) → Option ℕ → Job → Job
+sent s r i none x = unmatched s r i x
+sent s r i (some q) x = initiated s r i (matched s i q x)
+
+unfoldable pub received : Sheet → (r i : ℕ) → Option ℕ → Job → Job
+received s r i none x = initiated s r i (pend-receive i x)
+received s r i (some m) x = initiated s r i (matched s m i x)
+
+unfoldable pub initiating : Sheet → (r i : ℕ) → Job → Job
+initiating s r i x =
+    cond (is-receive (op s i)) (received s r i (first-message s i (x .messages)) x)
+    (sent s r i (first-receive s i (x .receives)) x)
+
+-- A WAITING HALF ends its operation; a wait's row then says so
+unfoldable pub ended : Sheet → (r i : ℕ) → Job → Job
+ended s r i x = with-place r (one-finished (place-at x r)) (cond (is-wait (op s i)) (with-state i 5 x) x)
+
+-- a step of board r, counted, stopping or not
+unfoldable pub step : Sheet → (r : ℕ) → Job → Job
+step s r x =
+    let i = next-op s x r in
+    with-steps (suc (x .steps)) (cond (in-waiting-half s x r) (ended s r i x) (initiating s r i x))
