@@ -1,0 +1,11 @@
+-- Laws of the definitions in rules, stated once for the promises and for the code.
+--   Tests     Boolean tests: the parts of a conjunction, two tests that agree
+--   Below     a test over the numbers below a bound
+--   Broken    the first index at which a test fails
+--   Decoded   the tables of a decoded sheet, entry by entry
+--   Ranks     sums over boards; the rank of an operation
+pub mod Tests
+pub mod Below
+pub mod Broken
+pub mod Decoded
+pub mod Ranks
