@@ -4,8 +4,14 @@
 --   Broken    the first index at which a test fails
 --   Decoded   the tables of a decoded sheet, entry by entry
 --   Ranks     sums over boards; the rank of an operation
+--   Table     a rule of a constant table, tested once
+--   Xor       exclusive or
+--   CrcStep   a byte of the CRC by a table of remainders
 pub mod Tests
 pub mod Below
 pub mod Broken
 pub mod Decoded
 pub mod Ranks
+pub mod Table
+pub mod Xor
+pub mod CrcStep
