@@ -4,8 +4,9 @@
 use jamturret_host::answer::Answer;
 use jamturret_host::bench_jobs;
 use jamturret_host::desk::{Desk, FILL};
+use jamturret_host::layout::kind::BUFFERED;
 use jamturret_host::layout::word;
-use jamturret_host::sheet::Sheet;
+use jamturret_host::sheet::{Operation, Sheet};
 
 const FINISHED: u8 = 1;
 const DEADLOCK: u8 = 2;
@@ -177,6 +178,15 @@ fn case_7_in_order() {
     );
 }
 
+/// A send takes the earliest-posted receive that fits.
+#[test]
+fn case_7_receives_first() {
+    let outcome = follow(&bench_jobs::case_7(), &[1, 1, 0, 0, 0, 0, 1, 1]);
+    assert_eq!(outcome.desk.report[0], FINISHED);
+    outcome.matched(0, 4);
+    outcome.matched(1, 5);
+}
+
 #[test]
 fn case_8_progress() {
     let outcome = run(&bench_jobs::case_8());
@@ -190,7 +200,9 @@ fn case_9_ready() {
     let outcome = run(&bench_jobs::case_9());
     outcome.ends(NOT_READY, &[0]);
     outcome.stopped_at(0, 0);
+    outcome.counts(0, 0, 0);
     outcome.board(0, (0, 0, 0, 0));
+    assert_eq!(outcome.row(0)[0], 0, "not entered");
 
     let outcome = follow(&bench_jobs::case_9(), &[1, 0, 0, 1]);
     assert_eq!(outcome.desk.report[0], FINISHED);
@@ -264,4 +276,21 @@ fn beginnings_of_case_1() {
     outcome.matched(0, 1);
     outcome.board(0, (0, 0, 0, 1));
     outcome.inbox(&[(INBOX_1, &[1, 2, 3])]);
+}
+
+/// A wait asks for the operation of its own slot, and a retaken slot for the
+/// operation that took it last.
+#[test]
+fn slots_are_told_apart() {
+    let never = Operation::receive(1, 9, 0, 4).nonblocking(0);
+    let empty = Operation::send(BUFFERED, 1, 0, 0, 0).nonblocking(1);
+    let waits_for_1 = [never, empty, Operation::wait(1), empty, Operation::wait(1)];
+    let outcome = run(&Sheet::of_scripts(&[&waits_for_1, &[]], 16));
+    outcome.ends(FINISHED, &[0; 5]);
+    outcome.counts(2, 1, 0);
+
+    let waits_for_0 = [empty, Operation::wait(1), never, Operation::wait(0)];
+    let outcome = run(&Sheet::of_scripts(&[&waits_for_0, &[]], 16));
+    outcome.ends(DEADLOCK, &[0; 3]);
+    outcome.board(0, (3, 0, 0, 0));
 }

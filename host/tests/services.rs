@@ -158,6 +158,46 @@ fn whole_orders_end_alike() {
     }
 }
 
+/// The same page: two neighbouring steps of different able ranks may be
+/// exchanged, whatever stands after them.
+#[test]
+fn neighbours_exchanged() {
+    let mut exchanged = 0;
+    for (mut sheet, mut random) in accepted(13, 3000) {
+        tame(&mut sheet);
+        let boards = usize::from(word(&sheet, 0));
+        let mut order = Vec::new();
+        loop {
+            let mut desk = Desk::for_sheet(&sheet);
+            assert_eq!(desk.follow(&sheet, &order), Answer::SUCCESS);
+            let able = desk.able();
+            if able.is_empty() {
+                break;
+            }
+            if let [.., one, other] = able[..] {
+                let after = random.below(boards) as u8;
+                let both = [[one, other, after], [other, one, after]];
+                let ends = both.map(|three| end(&sheet, &[&order[..], &three[..]].concat()));
+                assert_eq!(ends[0], ends[1], "{order:?}, then {both:?}");
+                exchanged += 1;
+            }
+            order.push(random.pick(&able));
+        }
+    }
+    assert!(exchanged > 1000, "{exchanged}");
+}
+
+/// The answer, inboxes and report, peaks aside.
+fn end(sheet: &[u8], order: &[u8]) -> (Answer, (Vec<u8>, Vec<u8>)) {
+    let mut desk = Desk::for_sheet(sheet);
+    let answer = desk.follow(sheet, order);
+    let rooms = match answer {
+        Answer::SUCCESS => desk.without_peaks(),
+        _ => (desk.inbox, desk.report),
+    };
+    (answer, rooms)
+}
+
 /// Makes a sheet one that the claim speaks of.
 fn tame(sheet: &mut [u8]) {
     let boards = usize::from(word(sheet, 0));

@@ -3,6 +3,7 @@
 --   Below     a test over the numbers below a bound
 --   Broken    the first index at which a test fails
 --   Decoded   the tables of a decoded sheet, entry by entry
+--   Laid      what refusals 1 to 3 settle
 --   Ranks     sums over boards; the rank of an operation
 --   Table     a rule of a constant table, tested once
 --   Xor       exclusive or
@@ -11,6 +12,7 @@ pub mod Tests
 pub mod Below
 pub mod Broken
 pub mod Decoded
+pub mod Laid
 pub mod Ranks
 pub mod Table
 pub mod Xor

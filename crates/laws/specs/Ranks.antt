@@ -11,7 +11,7 @@ use native.Mathlib.Decide.{decLt, ℕ-discrete}
 use borrow.Author.Tests.{lt-ltb, le-ltb, ltb-true}
 use lib.Dec.{ltb}
 use lib.ListN.{length, getD}
-use Rattle.rules.specs.Sheet.{Sheet, Board, board, P-of, rank-from, rank-of, sum-before, counts-before, no-board}
+use Rattle.rules.specs.Sheet.{Sheet, Board, board, P-of, rank-from, rank-of, sum-before, counts-before, inbox-start, no-board}
 use Rattle.laws.specs.Tests.{cond-true, cond-false}
 
 -- one board more
@@ -20,6 +20,22 @@ unfolding sum-before
 sum-before-more f [] r h = absurd (omega arith)
 sum-before-more f (b ∷ bs) zero h = let e : sum-before f zero bs ≡ 0 = refl in omega arith
 sum-before-more f (b ∷ bs) (suc r) h = let e = sum-before-more f bs r (omega arith) in omega arith
+
+pub counts-more : (s : Sheet) (r : ℕ) → r < P-of s → counts-before s (suc r) ≡ counts-before s r + board s r .count
+unfolding counts-before board P-of
+counts-more s r h = sum-before-more (λ b. b .count) (s .boards) r h
+
+pub inbox-start-more : (s : Sheet) (r : ℕ) → r < P-of s → inbox-start s (suc r) ≡ inbox-start s r + board s r .inbox
+unfolding inbox-start board P-of
+inbox-start-more s r h = sum-before-more (λ b. b .inbox) (s .boards) r h
+
+pub counts-none : (s : Sheet) → counts-before s 0 ≡ 0
+unfolding counts-before sum-before
+counts-none s = refl
+
+pub inbox-start-none : (s : Sheet) → inbox-start s 0 ≡ 0
+unfolding inbox-start sum-before
+inbox-start-none s = refl
 
 -- sums only grow
 pub sum-before-grows : (f : Board → ℕ) (bs : List Board) (r k : ℕ) → sum-before f r bs ≤ sum-before f (r + k) bs
@@ -76,8 +92,7 @@ Consecutive s = (r : ℕ) → r < P-of s → board s r .first ≡ counts-before 
 module _ (s : Sheet) (c : Consecutive s) where
   -- a script ends where the next one starts
   pub script-next : (r : ℕ) → r < P-of s → board s r .first + board s r .count ≡ counts-before s (suc r)
-  unfolding board P-of counts-before
-  script-next r h = let e = sum-before-more (λ b. b .count) (s .boards) r h in let f = c r h in omega arith
+  script-next r h = let e = counts-more s r h in let f = c r h in omega arith
 
   -- a script ends before each later one starts
   pub script-before : (k r : ℕ) → k < r → r ≤ P-of s → board s k .first + board s k .count ≤ counts-before s r
@@ -100,7 +115,7 @@ module _ (s : Sheet) (c : Consecutive s) where
   -- an operation before board r's script has a lower rank
   pub rank-before-script : (r i : ℕ) → r < P-of s → i < board s r .first → rank-of s i < r
   unfolding rank-of board P-of
-  rank-before-script zero i h lo = absurd (let e = c zero h in let z : counts-before s 0 ≡ 0 = unfold counts-before sum-before in refl in omega arith)
+  rank-before-script zero i h lo = absurd (let e = c zero h in let z = counts-none s in omega arith)
   rank-before-script (suc r) i h lo =
       let e = script-next r (omega arith) in
       let f = c (suc r) h in
@@ -113,7 +128,7 @@ module _ (s : Sheet) (c : Consecutive s) where
   rank-lies i h = go (P-of s) refl
     where
       go : (p : ℕ) → P-of s ≡ p → (rank-of s i < P-of s) × (board s (rank-of s i) .first ≤ i) × (i < board s (rank-of s i) .first + board s (rank-of s i) .count)
-      go zero e = absurd (let z : counts-before s 0 ≡ 0 = unfold counts-before sum-before in refl in let y = ap (λ (n : ℕ). counts-before s n) e in omega arith)
+      go zero e = absurd (let z = counts-none s in let y = ap (λ (n : ℕ). counts-before s n) e in omega arith)
       go (suc p) e =
           let last = script-next p (omega arith) in
           let y = ap (λ (n : ℕ). counts-before s n) e in

@@ -148,16 +148,16 @@ ops-in bs zero at = []
 ops-in bs (suc k) at = op-in bs at ∷ ops-in bs k (at + op-size)
 
 -- HEADER: P at byte 0, C at 2, N at 4, the offsets of the three tables at 6, 8 and 10, L at 12, CRC at 14
-unfoldable pub P-in : List ℕ → ℕ
+abbrev pub P-in : List ℕ → ℕ
 P-in bs = two bs 0
 
-unfoldable pub C-in : List ℕ → ℕ
+abbrev pub C-in : List ℕ → ℕ
 C-in bs = two bs 2
 
-unfoldable pub N-in : List ℕ → ℕ
+abbrev pub N-in : List ℕ → ℕ
 N-in bs = two bs 4
 
-unfoldable pub L-in : List ℕ → ℕ
+abbrev pub L-in : List ℕ → ℕ
 L-in bs = two bs 12
 
 unfoldable pub sheet-in : List ℕ → Sheet

@@ -1,3 +1,5 @@
--- What the contracts of this crate's functions cite beside rules.
+-- What the contracts of this crate's functions cite beside rules, and the laws that their proofs cite, a file for each of src/.
 --   Remainders   the CRC table
+--   Boards       refusal 5 as a walk over the board table
 pub mod Remainders
+pub mod Boards

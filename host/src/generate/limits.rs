@@ -2,7 +2,7 @@
 //! otherwise right, with the answer written down by hand.
 
 use crate::layout::kind::{BUFFERED, RECEIVE, STANDARD, WAIT};
-use crate::layout::{board, header, ANY, HEADER_BYTES};
+use crate::layout::{board, header, ANY, HEADER_BYTES, MOST_BOARDS, MOST_OPERATIONS};
 use crate::random::Random;
 use crate::sheet::{add_word, board_at, mend_crc, Board, Operation, Sheet};
 
@@ -70,6 +70,21 @@ fn rooms(attached: u16, inboxes: [u16; 2]) -> Vec<u8> {
     sheet.boards[0].inbox = inboxes[0];
     sheet.boards[1].inbox = inboxes[1];
     sheet.bytes()
+}
+
+/// Sixteen boards, the last one changed.
+fn last_board(change: fn(&mut Board)) -> Vec<u8> {
+    let empty: &[Operation] = &[];
+    let mut sheet = Sheet::of_scripts(&[empty; MOST_BOARDS], 0);
+    change(&mut sheet.boards[MOST_BOARDS - 1]);
+    sheet.bytes()
+}
+
+/// 1,024 operations on one board, the last one given.
+fn last_operation(operation: Operation) -> Vec<u8> {
+    let mut operations = vec![Operation::send(BUFFERED, 0, 0, 0, 0); MOST_OPERATIONS];
+    operations[MOST_OPERATIONS - 1] = operation;
+    script(&[&operations, &[]])
 }
 
 /// Two boards of one operation each with an amount added to a field.
@@ -143,6 +158,9 @@ pub const LIMITS: &[Limit] = &[
     ("count of rank 1 one less", || shifted(board_at(1) + board::COUNT, -1), 5, 2),
     ("count of rank 1 one more", || shifted(board_at(1) + board::COUNT, 1), 5, 2),
     ("count of rank 1 65,535", || shifted(board_at(1) + board::COUNT, 65_534), 5, 2),
+    ("attached of rank 15", || last_board(|board| board.attached = 16_385), 5, 15),
+    ("inbox of rank 15", || last_board(|board| board.inbox = 16_385), 5, 15),
+    ("script of rank 15", || last_board(|board| board.script = vec![send()]), 0, 0),
     // Refusal 6.
     ("kind 0", || field(with(send(), |o| o.kind = 0)), 6, 1),
     ("kind 1", || field(with(send(), |o| o.kind = 1)), 0, 0),
@@ -206,6 +224,7 @@ pub const LIMITS: &[Limit] = &[
     ("wait tag 1", || behind(with(wait(), |o| o.tag = 1)), 6, 2),
     ("wait offset 1", || behind(with(wait(), |o| o.offset = 1)), 6, 2),
     ("wait length 1", || behind(with(wait(), |o| o.length = 1)), 6, 2),
+    ("last of 1,024 operations", || last_operation(with(send(), |o| o.zero = 1)), 6, 1023),
     // Refusal 7, slots.
     ("all 32 slots of two boards", all_slots, 0, 0),
     ("held slot taken", || behind(send().nonblocking(31)), 7, 2),
@@ -216,6 +235,7 @@ pub const LIMITS: &[Limit] = &[
     ("slot retaken", || script(&[&[send().nonblocking(31), wait(), send().nonblocking(31)], &[]]), 0, 0),
     ("slot of another board", || script(&[&[send().nonblocking(31)], &[wait()]]), 7, 1),
     ("blocking does not take slot 0", || script(&[&[send(), Operation::wait(0)], &[]]), 7, 1),
+    ("wait as last of 1,024 operations", || last_operation(wait()), 7, 1023),
     // Refusal 7, areas.
     ("first byte shared", || behind(Operation::receive(0, 0, 91, 10)), 7, 2),
     ("touching in front", || behind(Operation::receive(0, 0, 90, 10)), 0, 0),
@@ -234,7 +254,7 @@ pub const LIMITS: &[Limit] = &[
     ("send over a held receive", || behind(Operation::send(STANDARD, 0, 0, 100, 10)), 0, 0),
     ("slot retaken by a send, area free", || script(&[&[receive().nonblocking(4), Operation::wait(4), send().nonblocking(4), receive()], &[]]), 0, 0),
     // The lowest number first, then the first place.
-    ("6 early, 5 late", || six_and_five(), 5, 1),
+    ("6 early, 5 late", six_and_five, 5, 1),
     ("7 early, 6 late", || script(&[&[wait()], &[with(send(), |o| o.zero = 1)]]), 6, 1),
     ("two of 6", || script(&[&[with(send(), |o| o.kind = WAIT)], &[with(send(), |o| o.zero = 1)]]), 6, 0),
     ("two of 7", || script(&[&[send(), wait()], &[wait()]]), 7, 1),

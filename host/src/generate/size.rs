@@ -15,7 +15,10 @@ pub struct Size {
 
 pub fn small(random: &mut Random) -> Size {
     Size {
-        boards: random.between(1, 4),
+        boards: match random.chance(10) {
+            true => layout::MOST_BOARDS,
+            false => random.between(1, 4),
+        },
         communicators: communicators(random),
         operations: random.between(0, 24),
         payload: random.between(0, 64),
