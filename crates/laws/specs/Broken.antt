@@ -6,7 +6,8 @@ use Prim.Native.Nat.{ℕ, zero, suc, _+_, _<_, _≤_, _-_}
 use native.Mathlib.Omega.{arith}
 use native.Mathlib.Decide.{ℕ-discrete}
 use native.Mathlib.Nat.{add-suc, add-zero, zero-add, suc-add}
-use lib.Dec.{eqb, eqb·suc-zero}
+use lib.Dec.{eqb}
+use borrow.Author.Tests.{eq-eqb, ne-eqb}
 use Rattle.rules.specs.Refusal.{Refusal, refusal, accepted, or-else, first-broken}
 use Rattle.laws.specs.Tests.{cond-true, cond-false, true-not-false}
 
@@ -38,14 +39,11 @@ module _ (n : ℕ) (f : ℕ → Bool) where
   broken-parts zero b i h = rw (zero-add b, add-zero i)
   broken-parts (suc a) b i h = rw (suc-add a b) (go (broken-parts a b (suc i) h) (f i) refl)
     where
-      ne : (m : ℕ) → (m ≡ 0 → ⊥) → eqb m 0 ≡ false
-      ne zero q = absurd (q refl)
-      ne (suc m) q = eqb·suc-zero m
       go : first-broken n f (a + b) (suc i) ≡ or-else (first-broken n f a (suc i)) (first-broken n f b (suc i + a)) → (t : Bool) → f i ≡ t → cond t (first-broken n f (a + b) (suc i)) (refusal n i) ≡ or-else (cond t (first-broken n f a (suc i)) (refusal n i)) (first-broken n f b (i + suc a))
       go ih true e =
           let s : i + suc a ≡ suc i + a = omega arith in
           rw s ih
-      go ih false e = sym (cond-false (eqb n 0) (first-broken n f b (i + suc a)) (refusal n i) (ne n h))
+      go ih false e = sym (cond-false (eqb n 0) (first-broken n f b (i + suc a)) (refusal n i) (ne-eqb n 0 h))
 
   -- what a search that accepts has seen: the test passes at each index of its range
   pub broken-passed : (left i : ℕ) → (n ≡ 0 → ⊥) → first-broken n f left i .number ≡ 0 → (j : ℕ) → i ≤ j → j < i + left → f j ≡ true
@@ -57,3 +55,20 @@ module _ (n : ℕ) (f : ℕ → Bool) where
       go ih true p q (yes d) = subst (λ (m : ℕ). f m ≡ true) (sym d) p
       go ih true p q (no d) = ih q (omega arith)
       go ih false p q d = absurd (h q)
+
+  -- a search that has come to i, and the part of k indices from there: passed, or refused
+  pub broken-part-on : (total i k : ℕ) → (n ≡ 0 → ⊥) → i + k ≤ total → first-broken n f k i .number ≡ 0 → first-broken n f (total - i) i ≡ first-broken n f (total - (i + k)) (i + k)
+  unfolding or-else
+  broken-part-on total i k h l e =
+      let split : total - i ≡ k + (total - (i + k)) = omega arith in
+      ap (λ (m : ℕ). first-broken n f m i) split
+      ∙ (broken-parts k (total - (i + k)) i h
+      ∙ cond-true (eqb (first-broken n f k i .number) 0) (first-broken n f (total - (i + k)) (i + k)) (first-broken n f k i) (eq-eqb (first-broken n f k i .number) 0 e))
+
+  pub broken-part-here : (total i k : ℕ) → (n ≡ 0 → ⊥) → i + k ≤ total → (first-broken n f k i .number ≡ 0 → ⊥) → first-broken n f (total - i) i ≡ first-broken n f k i
+  unfolding or-else
+  broken-part-here total i k h l e =
+      let split : total - i ≡ k + (total - (i + k)) = omega arith in
+      ap (λ (m : ℕ). first-broken n f m i) split
+      ∙ (broken-parts k (total - (i + k)) i h
+      ∙ cond-false (eqb (first-broken n f k i .number) 0) (first-broken n f (total - (i + k)) (i + k)) (first-broken n f k i) (ne-eqb (first-broken n f k i .number) 0 e))

@@ -5,6 +5,7 @@
 --   Decoded   the tables of a decoded sheet, entry by entry
 --   Laid      what refusals 1 to 3 settle
 --   Ranks     sums over boards; the rank of an operation
+--   Tabled    what refusal 5 settles
 --   Table     a rule of a constant table, tested once
 --   Xor       exclusive or
 --   CrcStep   a byte of the CRC by a table of remainders
@@ -14,6 +15,7 @@ pub mod Broken
 pub mod Decoded
 pub mod Laid
 pub mod Ranks
+pub mod Tabled
 pub mod Table
 pub mod Xor
 pub mod CrcStep

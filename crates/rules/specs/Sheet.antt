@@ -116,7 +116,7 @@ rank-of s i = rank-from 0 (s .boards) i
 unfoldable pub two : List ℕ → (at : ℕ) → ℕ
 two bs at = getD bs at 0 + 256 * getD bs (at + 1) 0
 
-unfoldable pub board-in : List ℕ → (at : ℕ) → Board
+abbrev pub board-in : List ℕ → (at : ℕ) → Board
 board-in bs at =
     record {
       first = two bs at;
@@ -129,7 +129,7 @@ unfoldable pub boards-in : List ℕ → (left at : ℕ) → List Board
 boards-in bs zero at = []
 boards-in bs (suc k) at = board-in bs at ∷ boards-in bs k (at + board-size)
 
-unfoldable pub op-in : List ℕ → (at : ℕ) → Op
+abbrev pub op-in : List ℕ → (at : ℕ) → Op
 op-in bs at =
     record {
       kind = getD bs at 0;

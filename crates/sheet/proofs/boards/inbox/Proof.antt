@@ -1,6 +1,6 @@
 -- `sheet::boards::inbox` meets its contract: the entry of board r stands at its place in the table. Assumes nothing.
 use mathlib.Core.Path.{_∙_, ap, sym}
-use Rattle.rules.specs.Sheet.{Board, board-in}
+use Rattle.rules.specs.Sheet.{Board}
 use Rattle.laws.specs.Decoded.{board-decoded}
 use borrow.Author.Needs.{needs}
 use Rattle.sheet.proofs.boards.inbox.Statement.{statement}
@@ -27,7 +27,6 @@ two-at-requires c κs = search needs
 
 -- src/boards.rt:38:1
 returns : tie.Need-returns
-unfolding board-in
 returns c =
     let a = c .before .before .args in
     (c .two-at .ensures .0 ∙ ap (λ (b : Board). b .inbox) (sym (board-decoded (a .s .now) (a .r) (c .before .before .pre .1))), c .two-at .ensures .1)
