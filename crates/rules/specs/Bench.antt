@@ -12,7 +12,7 @@ use Rattle.rules.specs.Step.{next-op, is-finished, complete, waited-belo
 use Rattle.rules.specs.Order.{followed, follow-from, follow, lowest-able, next-rank, none-able, ran, run-next, run-from, run}
 use Rattle.rules.specs.Report.{low-two, count-from, is-pending-message, is-pending-receive, pending-messages, pending-receives, cut-messages, all-finished, verdict-of, stop-bytes, header-bytes, board-state, board-row, board-rows, op-row, op-rows, report}
 use Rattle.rules.specs.BenchJob.{BenchJob, scripts-of, lines-of, P-drafted, N-drafted, as-words, line-bytes, all-line-bytes, entry-bytes, draft-bytes, same, verdict-bytes, opening, rows-bytes, partner-by, rows-match, same-if-given, reported, driven, as-expected, all}
-use Rattle.rules.specs.BenchNumbered.{case-1-sheet, ready-sheet, any-source-sheet, numbered-jobs}
+use Rattle.rules.specs.BenchNumbered.{case-1-sheet, nonblocking-sheet, ready-sheet, any-source-sheet, numbered-jobs}
 use Rattle.rules.specs.BenchFurther.{further-jobs}
 
 unfoldable pub bench-jobs : List BenchJob
@@ -22,7 +22,7 @@ pub bench-jobs-hold : all as-expected bench-jobs ≡ true
 unfolding
     bench-jobs
     further-jobs
-    case-1-sheet ready-sheet any-source-sheet numbered-jobs
+    case-1-sheet nonblocking-sheet ready-sheet any-source-sheet numbered-jobs
     scripts-of lines-of P-drafted N-drafted as-words line-bytes all-line-bytes entry-bytes draft-bytes same
     verdict-bytes opening rows-bytes partner-by rows-match same-if-given reported driven as-expected all
     low-two count-from is-pending-message is-pending-receive pending-messages pending-receives cut-messages all-finished

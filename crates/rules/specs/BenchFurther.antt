@@ -2,9 +2,8 @@
 -- receives, charges, waits, orders that stop early. Worked out by hand; BenchNumbered says how to read them. Assumes nothing.
 use mathlib.Core.List.{List, [], _∷_}
 use mathlib.Core.Option.{Option, none, some}
-use Rattle.rules.specs.Limits.{any}
-use Rattle.rules.specs.BenchJob.{standard, buffered, synchronous, Line, send, isend, receive, ireceive, wait, Script, script, Draft, draft, Drive, runs, follows, Verdict, still-able, finished, deadlock, overflow, Match, _meets_, Row, row, BenchJob}
-use Rattle.rules.specs.BenchNumbered.{case-1-sheet}
+use Rattle.rules.specs.BenchJob.{standard, buffered, synchronous, any, Line, send, isend, receive, ireceive, wait, Script, script, Draft, draft, Drive, runs, follows, Verdict, still-able, finished, deadlock, overflow, Match, _meets_, Row, row, BenchJob}
+use Rattle.rules.specs.BenchNumbered.{case-1-sheet, nonblocking-sheet}
 
 unfoldable pub further-jobs : List BenchJob
 further-jobs =
@@ -98,6 +97,20 @@ further-jobs =
       inbox-after = 12 ∷ 11 ∷ 92 ∷ [];
       whole = none;
     }
+    -- Job 7's sheet with both receives posted before the sends, which both fit both: a matched receive is posted no longer
+    ∷ record {
+      sheet = nonblocking-sheet;
+      drive = follows (1 ∷ 1 ∷ 0 ∷ 0 ∷ 0 ∷ 0 ∷ 1 ∷ 1 ∷ []);
+      inbox = 90 ∷ 91 ∷ 92 ∷ 93 ∷ [];
+      verdict = finished;
+      steps = 8;
+      matches = 0 meets 4 ∷ 1 meets 5 ∷ [];
+      pending = (0, 0);
+      cut = 0;
+      boards = row 4 0 0 2 ∷ row 4 0 0 2 ∷ [];
+      inbox-after = 11 ∷ 12 ∷ 13 ∷ 14 ∷ [];
+      whole = none;
+    }
     -- BUFFERED SENDS. One that meets a posted receive is charged nothing, not even in the peak: its attached size is 0
     ∷ record {
       sheet =
@@ -182,21 +195,22 @@ further-jobs =
       inbox-after = 90 ∷ 91 ∷ [];
       whole = none;
     }
-    -- WAITS. An unmatched synchronous send is not complete, and its wait is not able: deadlock
+    -- WAITS. An unmatched synchronous send is not complete, and its wait is not able: deadlock. The blocking send between them
+    -- holds no slot, and is not what the wait looks at
     ∷ record {
       sheet =
-          draft 1 0x1391 (11 ∷ [])
-          (script 0 0 (isend synchronous 1 0 1 0 1 0 ∷ wait 0 ∷ [])
+          draft 1 0x5443 (11 ∷ 12 ∷ [])
+          (script 0 0 (isend synchronous 1 0 1 0 1 0 ∷ send standard 1 0 2 1 1 ∷ wait 0 ∷ [])
           ∷ script 0 1 (receive 0 0 2 0 1 ∷ []) ∷ []);
-      drive = runs (0 ∷ 1 ∷ []);
+      drive = runs (0 ∷ 0 ∷ 1 ∷ 0 ∷ 1 ∷ []);
       inbox = 90 ∷ [];
       verdict = deadlock;
-      steps = 2;
-      matches = [];
-      pending = (1, 1);
+      steps = 5;
+      matches = 1 meets 3 ∷ [];
+      pending = (1, 0);
       cut = 0;
-      boards = row 1 0 0 0 ∷ row 0 0 0 0 ∷ [];
-      inbox-after = 90 ∷ [];
+      boards = row 2 0 0 0 ∷ row 1 0 0 2 ∷ [];
+      inbox-after = 12 ∷ [];
       whole = none;
     }
     -- An unmatched buffered send is complete: its wait ends, and the message stays pending and charged under verdict 1

@@ -1,20 +1,19 @@
 -- A bench job (document 01, "Bench jobs"): its sheet as a person writes it, how it is driven, what must come out, and the test
--- of all that. A sheet is tested as the bytes that it stands for and an outcome as the bytes of the report. Byte layouts are
--- written here a second time, in numbers, so that a slip in the definitions cannot hide behind itself. Assumes nothing.
+-- of all that. The definitions are handed the sheet's bytes, and what they report is compared as bytes. The layouts of sheet and
+-- report stand here a second time, in numbers, so that the test shares no mistake with the definitions. Assumes nothing.
 use mathlib.Core.Bool.{Bool, true, false, _&&_, not, cond}
 use mathlib.Core.List.{List, [], _∷_, _++_}
 use mathlib.Core.Option.{Option, none, some}
 use Prim.Native.Nat.{ℕ, zero, suc, _+_, _*_, _/_, _%_}
 use lib.Dec.{eqb}
 use lib.ListN.{length, getD, take, drop}
-use Rattle.rules.specs.Sheet.{Sheet, sheet-in, two}
+use Rattle.rules.specs.Sheet.{Sheet, sheet-in}
 use Rattle.rules.specs.Refusal.{sheet-refusal}
 use Rattle.rules.specs.Job.{Job}
 use Rattle.rules.specs.Step.{is-none}
 use Rattle.rules.specs.Order.{follow, run}
 use Rattle.rules.specs.Report.{report}
 
-infix 70 _meets_
 -- SCRIPTS: a line is an operation, under the name of MPI's call. The mode of a send is its kind
 abbrev pub standard : ℕ
 standard = 1
@@ -28,6 +27,10 @@ synchronous = 3
 abbrev pub ready : ℕ
 ready = 4
 
+-- any source, any tag
+abbrev pub any : ℕ
+any = 65535
+
 -- `isend` and `ireceive` are nonblocking and take a request slot; `wait` names one
 pub data Line : Type 0 where
   send : (mode to comm tag offset long : ℕ) → Line
@@ -40,7 +43,7 @@ pub data Line : Type 0 where
 pub data Script : Type 0 where
   script : (attached inbox : ℕ) → List Line → Script
 
--- a sheet: how many communicators, its CRC, which is worked out elsewhere and written down as a number, its payload, its boards
+-- a sheet: how many communicators; its CRC, a number from another program than these definitions; its payload; its boards
 pub data Draft : Type 0 where
   draft : (comms crc : ℕ) → (payload : List ℕ) → List Script → Draft
 
@@ -101,6 +104,7 @@ pub data Verdict : Type 0 where
   not-ready : (rank op : ℕ) → Verdict
 
 -- a send and the receive that it was matched with, as operations
+infix 70 _meets_
 pub data Match : Type 0 where
   _meets_ : (send receive : ℕ) → Match
 
@@ -158,7 +162,8 @@ unfoldable pub rows-match : (report : List ℕ) → List Match → (left i at : 
 rows-match r ms zero i at = true
 rows-match r ms (suc k) i at =
     let p = partner-by ms i in
-    (eqb (two r (at + 2)) p && cond (eqb p 65535) (not (eqb (getD r at 0) 3)) (eqb (getD r at 0) 3))
+    (same (take 2 (drop (at + 2) r)) (as-words (p ∷ []))
+    && cond (eqb p 65535) (not (eqb (getD r at 0) 3)) (eqb (getD r at 0) 3))
     && rows-match r ms k (suc i) (at + 12)
 
 unfoldable pub same-if-given : (report : List ℕ) → Option (List ℕ) → Bool

@@ -12,8 +12,7 @@
 -- Assumes nothing.
 use mathlib.Core.List.{List, [], _∷_}
 use mathlib.Core.Option.{Option, none, some}
-use Rattle.rules.specs.Limits.{any}
-use Rattle.rules.specs.BenchJob.{standard, buffered, synchronous, ready, Line, send, isend, receive, ireceive, wait, Script, script, Draft, draft, Drive, runs, follows, Verdict, finished, deadlock, overflow, not-ready, Match, _meets_, Row, row, BenchJob}
+use Rattle.rules.specs.BenchJob.{standard, buffered, synchronous, ready, any, Line, send, isend, receive, ireceive, wait, Script, script, Draft, draft, Drive, runs, follows, Verdict, finished, deadlock, overflow, not-ready, Match, _meets_, Row, row, BenchJob}
 
 -- the sheet of job 1
 unfoldable pub case-1-sheet : Draft
@@ -21,6 +20,13 @@ case-1-sheet =
     draft 1 0xde40 (11 ∷ 12 ∷ 13 ∷ [])
     (script 0 0 (send synchronous 1 0 7 0 3 ∷ [])
     ∷ script 0 4 (receive 0 0 any 0 4 ∷ []) ∷ [])
+
+-- the sheet of job 7
+unfoldable pub nonblocking-sheet : Draft
+nonblocking-sheet =
+    draft 1 0x88cb (11 ∷ 12 ∷ 13 ∷ 14 ∷ [])
+    (script 0 0 (isend standard 1 0 0 0 2 0 ∷ isend standard 1 0 0 2 2 1 ∷ wait 0 ∷ wait 1 ∷ [])
+    ∷ script 0 4 (ireceive 0 0 any 0 2 0 ∷ ireceive 0 0 0 2 2 1 ∷ wait 0 ∷ wait 1 ∷ []) ∷ [])
 
 -- the sheet of job 9
 unfoldable pub ready-sheet : Draft
@@ -164,10 +170,7 @@ numbered-jobs =
     }
     -- 7. Message ordering for nonblocking operations (002): both sends, both receives, waits; in order
     ∷ record {
-      sheet =
-          draft 1 0x88cb (11 ∷ 12 ∷ 13 ∷ 14 ∷ [])
-          (script 0 0 (isend standard 1 0 0 0 2 0 ∷ isend standard 1 0 0 2 2 1 ∷ wait 0 ∷ wait 1 ∷ [])
-          ∷ script 0 4 (ireceive 0 0 any 0 2 0 ∷ ireceive 0 0 0 2 2 1 ∷ wait 0 ∷ wait 1 ∷ []) ∷ []);
+      sheet = nonblocking-sheet;
       drive = runs (0 ∷ 0 ∷ 1 ∷ 0 ∷ 1 ∷ 0 ∷ 1 ∷ 1 ∷ []);
       inbox = 90 ∷ 91 ∷ 92 ∷ 93 ∷ [];
       verdict = finished;
