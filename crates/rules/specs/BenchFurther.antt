@@ -7,8 +7,8 @@ use Rattle.rules.specs.BenchNumbered.{case-1-sheet, nonblocking-sheet}
 
 unfoldable pub further-jobs : List BenchJob
 further-jobs =
-    -- FITS. Two communicators: the receive, of any tag, is on communicator 1. It leaves the earlier message, on communicator 0,
-    -- which stays pending though all boards are finished; its slot is held at the end
+    -- A. Fits: two communicators: the receive, of any tag, is on communicator 1. It leaves the earlier message, on
+    -- communicator 0, which stays pending though all boards are finished; its slot is held at the end
     record {
       sheet =
           draft 2 0x4e89 (11 ∷ 12 ∷ [])
@@ -25,7 +25,7 @@ further-jobs =
       inbox-after = 12 ∷ [];
       whole = none;
     }
-    -- The same with the receive posted first, of any source and any tag: no message on its communicator, deadlock
+    -- B. The same with the receive posted first, of any source and any tag: no message on its communicator, deadlock
     ∷ record {
       sheet =
           draft 2 0x87e7 (11 ∷ [])
@@ -42,7 +42,7 @@ further-jobs =
       inbox-after = 90 ∷ [];
       whole = none;
     }
-    -- A receive from any source, of any tag, leaves the earlier message, which is addressed to another board
+    -- C. A receive from any source, of any tag, leaves the earlier message, which is addressed to another board
     ∷ record {
       sheet =
           draft 1 0xb884 (11 ∷ 12 ∷ [])
@@ -60,7 +60,7 @@ further-jobs =
       inbox-after = 90 ∷ 91 ∷ 12 ∷ [];
       whole = none;
     }
-    -- A receive from rank 1 leaves rank 0's message, which arrived first
+    -- D. A receive from rank 1 leaves rank 0's message, which arrived first
     ∷ record {
       sheet =
           draft 1 0x5f64 (11 ∷ 12 ∷ [])
@@ -78,8 +78,8 @@ further-jobs =
       inbox-after = 12 ∷ [];
       whole = none;
     }
-    -- POSTED RECEIVES. The first send goes past the earliest posted receive, whose tag differs, to the next that fits; the third,
-    -- which fits too, was posted later and stays pending
+    -- E. Posted receives: the first send goes past the earliest posted receive, whose tag differs, to the next that fits;
+    -- the third, which fits too, was posted later and stays pending
     ∷ record {
       sheet =
           draft 1 0x4ee1 (11 ∷ 12 ∷ [])
@@ -97,7 +97,8 @@ further-jobs =
       inbox-after = 12 ∷ 11 ∷ 92 ∷ [];
       whole = none;
     }
-    -- Job 7's sheet with both receives posted before the sends, which both fit both: a matched receive is posted no longer
+    -- F. Job 7's sheet with both receives posted before the sends, which both fit both: a matched receive is posted no
+    -- longer
     ∷ record {
       sheet = nonblocking-sheet;
       drive = follows (1 ∷ 1 ∷ 0 ∷ 0 ∷ 0 ∷ 0 ∷ 1 ∷ 1 ∷ []);
@@ -111,7 +112,7 @@ further-jobs =
       inbox-after = 11 ∷ 12 ∷ 13 ∷ 14 ∷ [];
       whole = none;
     }
-    -- BUFFERED SENDS. One that meets a posted receive is charged nothing, not even in the peak: its attached size is 0
+    -- G. Buffered sends: one that meets a posted receive is charged nothing, not even in the peak: its attached size is 0
     ∷ record {
       sheet =
           draft 1 0xee55 (11 ∷ 12 ∷ [])
@@ -128,8 +129,8 @@ further-jobs =
       inbox-after = 11 ∷ 12 ∷ [];
       whole = none;
     }
-    -- Charges go at the match, and the peak stays: 4, then 4 and 2, then 2, then 2 and 3 of 6 bytes. The order stops early, rank 1
-    -- being able: verdict 0. Two sends share payload bytes
+    -- H. Charges go at the match, and the peak stays: 4, then 4 and 2, then 2, then 2 and 3 of 6 bytes. The order stops
+    -- early, rank 1 being able: verdict 0. Two sends share payload bytes
     ∷ record {
       sheet =
           draft 1 0xadc5 (11 ∷ 12 ∷ 13 ∷ 14 ∷ 15 ∷ 16 ∷ [])
@@ -154,7 +155,7 @@ further-jobs =
           ∷ 0x02 ∷ 0x00 ∷ 0xff ∷ 0xff ∷ 0xff ∷ 0xff ∷ 0xff ∷ 0xff ∷ 0x00 ∷ 0x00 ∷ 0x00 ∷ 0x00
           ∷ 0x03 ∷ 0x00 ∷ 0x00 ∷ 0x00 ∷ 0x00 ∷ 0x00 ∷ 0x01 ∷ 0x00 ∷ 0x04 ∷ 0x00 ∷ 0x00 ∷ 0x00 ∷ []);
     }
-    -- The second send does not fit with the first still charged: overflow at rank 1, operation 2
+    -- I. The second send does not fit with the first still charged: overflow at rank 1, operation 2
     ∷ record {
       sheet =
           draft 1 0xc66a (11 ∷ 12 ∷ 13 ∷ 14 ∷ 15 ∷ [])
@@ -178,7 +179,7 @@ further-jobs =
           ∷ 0x02 ∷ 0x00 ∷ 0xff ∷ 0xff ∷ 0xff ∷ 0xff ∷ 0xff ∷ 0xff ∷ 0x00 ∷ 0x00 ∷ 0x00 ∷ 0x00
           ∷ 0x00 ∷ 0x00 ∷ 0xff ∷ 0xff ∷ 0xff ∷ 0xff ∷ 0xff ∷ 0xff ∷ 0x00 ∷ 0x00 ∷ 0x00 ∷ 0x00 ∷ []);
     }
-    -- Two cut messages: neither is copied, and the buffered one's charge goes at the match
+    -- J. Two cut messages: neither is copied, and the buffered one's charge goes at the match
     ∷ record {
       sheet =
           draft 1 0xa4d1 (11 ∷ 12 ∷ 13 ∷ 14 ∷ 15 ∷ [])
@@ -195,8 +196,8 @@ further-jobs =
       inbox-after = 90 ∷ 91 ∷ [];
       whole = none;
     }
-    -- WAITS. An unmatched synchronous send is not complete, and its wait is not able: deadlock. The blocking send between them
-    -- holds no slot, and is not what the wait looks at
+    -- K. Waits: an unmatched synchronous send is not complete, and its wait is not able: deadlock. The blocking send between
+    -- them holds no slot, and is not what the wait looks at
     ∷ record {
       sheet =
           draft 1 0x5443 (11 ∷ 12 ∷ [])
@@ -213,7 +214,7 @@ further-jobs =
       inbox-after = 12 ∷ [];
       whole = none;
     }
-    -- An unmatched buffered send is complete: its wait ends, and the message stays pending and charged under verdict 1
+    -- L. An unmatched buffered send is complete: its wait ends, and the message stays pending and charged under verdict 1
     ∷ record {
       sheet =
           draft 1 0xa6a4 (11 ∷ 12 ∷ [])
@@ -236,8 +237,8 @@ further-jobs =
           ∷ 0x02 ∷ 0x00 ∷ 0xff ∷ 0xff ∷ 0xff ∷ 0xff ∷ 0xff ∷ 0xff ∷ 0x00 ∷ 0x00 ∷ 0x00 ∷ 0x00
           ∷ 0x05 ∷ 0x00 ∷ 0xff ∷ 0xff ∷ 0xff ∷ 0xff ∷ 0xff ∷ 0xff ∷ 0x00 ∷ 0x00 ∷ 0x00 ∷ 0x00 ∷ []);
     }
-    -- A wait frees its slot, which is taken again, with the same area; the second wait looks at the later receive, which is
-    -- pending: deadlock
+    -- M. A wait frees its slot, which is taken again, with the same area; the second wait looks at the later receive, which
+    -- is pending: deadlock
     ∷ record {
       sheet =
           draft 1 0xf568 (11 ∷ [])
@@ -254,7 +255,7 @@ further-jobs =
       inbox-after = 11 ∷ [];
       whole = none;
     }
-    -- ORDERS. No step: nothing is entered, and both boards are able
+    -- N. Orders: no step: nothing is entered, and both boards are able
     ∷ record {
       sheet = case-1-sheet;
       drive = follows [];
@@ -268,7 +269,7 @@ further-jobs =
       inbox-after = 90 ∷ 91 ∷ 92 ∷ 93 ∷ [];
       whole = none;
     }
-    -- One step: the synchronous send is pending, and rank 0 is not able
+    -- O. One step: the synchronous send is pending, and rank 0 is not able
     ∷ record {
       sheet = case-1-sheet;
       drive = follows (0 ∷ []);
@@ -282,7 +283,8 @@ further-jobs =
       inbox-after = 90 ∷ 91 ∷ 92 ∷ 93 ∷ [];
       whole = none;
     }
-    -- Two steps: both operations are complete, neither is finished. The inbox room is longer than the inboxes, and keeps its excess
+    -- P. Two steps: both operations are complete, neither is finished. The inbox room is longer than the inboxes, and keeps
+    -- its excess
     ∷ record {
       sheet = case-1-sheet;
       drive = follows (0 ∷ 1 ∷ []);
