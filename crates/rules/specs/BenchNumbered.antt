@@ -182,8 +182,8 @@ numbered-jobs =
       inbox-after = 11 ∷ 12 ∷ 13 ∷ 14 ∷ [];
       whole = none;
     }
-    -- 8. Progress (002): the synchronous send completes when the nonblocking receive is posted, though its board waits in
-    -- another receive
+    -- 8. Progress (002): the synchronous send completes when the nonblocking receive is initiated, before its board reaches the
+    -- wait
     ∷ record {
       sheet =
           draft 1 0x6965 (11 ∷ 12 ∷ [])
