@@ -32,22 +32,23 @@ below-found (suc i) f h = ⊎-elim here (λ t. later (below-found i f t)) (or-ca
   where
     here : f i ≡ true → Found (suc i) f
     here t =
-        record
-          { at = i
-          ; below = omega arith
-          ; passed = t
-          }
+        record {
+          at = i;
+          below = omega arith;
+          passed = t;
+        }
+
     later : Found i f → Found (suc i) f
     later r =
-        record
-          { at = r .at
-          ; below = omega arith
-          ; passed = r .passed
-          }
+        record {
+          at = r .at;
+          below = omega arith;
+          passed = r .passed;
+        }
 
 -- tests over two ranges agree where each number that passes in one has one that passes in the other
 pub below-same : (i k : ℕ) (f g : ℕ → Bool) → ((j : ℕ) → j < i → f j ≡ true → Found k g) → ((j : ℕ) → j < k → g j ≡ true → Found i f) → some-below i f ≡ some-below k g
 below-same i k f g to back =
     same-test (some-below i f) (some-below k g)
-        (λ h. let r : Found i f = below-found i f h in let q : Found k g = to (r .at) (r .below) (r .passed) in below-some k g (q .at) (q .below) (q .passed))
-        (λ h. let r : Found k g = below-found k g h in let q : Found i f = back (r .at) (r .below) (r .passed) in below-some i f (q .at) (q .below) (q .passed))
+    (λ h. let r : Found i f = below-found i f h in let q : Found k g = to (r .at) (r .below) (r .passed) in below-some k g (q .at) (q .below) (q .passed))
+    (λ h. let r : Found k g = below-found k g h in let q : Found i f = back (r .at) (r .below) (r .passed) in below-some i f (q .at) (q .below) (q .passed))

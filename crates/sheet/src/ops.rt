@@ -10,7 +10,6 @@ ghost use Rattle.rules.specs.Refusal.{envelope-good, extent-good, wait-good, fi
 ghost use Rattle.rules.specs.Service.{told};
 ghost use Rattle.laws.specs.Laid.{Laid};
 ghost use Rattle.laws.specs.Tabled.{Tabled};
-
 use crate::Answer;
 use crate::boards;
 use crate::header;

@@ -6,9 +6,9 @@ use jamturret_host::layout::kind::STANDARD;
 use jamturret_host::layout::{MOST_BOARDS, MOST_PAYLOAD, SLOTS};
 use jamturret_host::sheet::{Board, Operation, Sheet};
 use jamturret_host::{bench_jobs, ffi, judge};
-use std::env;
 use std::hint::black_box;
 use std::time::Instant;
+use std::{env, process};
 
 const ROUNDS: usize = 300;
 /// Operations a board: 1,024 on sixteen boards.
@@ -16,36 +16,19 @@ const SCRIPT: usize = 64;
 const INBOX: u16 = 1024;
 
 fn main() {
+    if cfg!(debug_assertions) {
+        eprintln!("bench: times say something only with --release");
+        process::exit(2);
+    }
     let rounds = env::args().nth(1).and_then(|text| text.parse().ok());
     let rounds = rounds.unwrap_or(ROUNDS).max(1);
-    let held = |slot: u16| area(slot).nonblocking(slot);
-    let sheets = [
-        ("blocking, 1,024 operations", 1, full(blocking)),
-        (
-            "32 receives, 32 waits a board",
-            1,
-            full(|index| match index < SLOTS {
-                true => held(index as u16),
-                false => Operation::wait((index - SLOTS) as u16),
-            }),
-        ),
-        (
-            "32 held, 32 blocking a board",
-            1,
-            full(|index| match index < SLOTS {
-                true => held(index as u16),
-                false => area(index as u16),
-            }),
-        ),
-        ("case 1", 500, bench_jobs::case_1()),
-    ];
     println!("check, median of {rounds} rounds, library and judge in turn;");
     println!("both sides are release builds and the buffers were warm.");
     println!(
         "{:<32}{:>8}{:>14}{:>14}{:>8}",
         "sheet", "bytes", "library ns", "judge ns", "ratio"
     );
-    for (name, calls, sheet) in sheets {
+    for (name, calls, sheet) in sheets() {
         let bytes = sheet.bytes();
         let (library, judge) = medians(&bytes, rounds, calls);
         let ratio = library / judge;
@@ -54,6 +37,23 @@ fn main() {
             bytes.len()
         );
     }
+}
+
+/// Name, calls a measurement (a short call is made often), sheet.
+fn sheets() -> [(&'static str, usize, Sheet); 4] {
+    let then = |after: fn(u16) -> Operation| {
+        full(move |index| match index < SLOTS {
+            true => area(index as u16).nonblocking(index as u16),
+            false => after(index as u16),
+        })
+    };
+    let waits = then(|index| Operation::wait(index - SLOTS as u16));
+    [
+        ("blocking, 1,024 operations", 1, full(blocking)),
+        ("32 receives, 32 waits a board", 1, waits),
+        ("32 held, 32 blocking a board", 1, then(area)),
+        ("case 1", 500, bench_jobs::case_1()),
+    ]
 }
 
 /// Sixteen boards with the same script and the largest payload.
