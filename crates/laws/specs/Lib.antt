@@ -6,6 +6,7 @@
 --   Laid      what refusals 1 to 3 settle
 --   Ranks     sums over boards; the rank of an operation
 --   Tabled    what refusal 5 settles
+--   Scripts   a search over all operations, script by script
 --   Table     a rule of a constant table, tested once
 --   Xor       exclusive or
 --   CrcStep   a byte of the CRC by a table of remainders
@@ -16,6 +17,7 @@ pub mod Decoded
 pub mod Laid
 pub mod Ranks
 pub mod Tabled
+pub mod Scripts
 pub mod Table
 pub mod Xor
 pub mod CrcStep

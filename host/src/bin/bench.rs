@@ -1,5 +1,9 @@
 //! `bench [ROUNDS]`: the time of the library's *check* beside our judge's, on
 //! the largest sheets and on a small one. Both are asked in turn, in one run.
+//!
+//! The judge beside itself gives 1.00. The judge beside a second build of its
+//! own source gave 0.89 to 1.02, so a ratio from 0.85 to 1.15 does not tell
+//! the two apart.
 
 use jamturret_host::answer::Answer;
 use jamturret_host::layout::kind::STANDARD;
@@ -24,6 +28,7 @@ fn main() {
     let rounds = rounds.unwrap_or(ROUNDS).max(1);
     println!("check, median of {rounds} rounds, library and judge in turn;");
     println!("both sides are release builds and the buffers were warm.");
+    println!("A ratio from 0.85 to 1.15 does not tell the two apart.");
     println!(
         "{:<32}{:>8}{:>14}{:>14}{:>8}",
         "sheet", "bytes", "library ns", "judge ns", "ratio"
