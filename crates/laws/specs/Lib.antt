@@ -7,6 +7,7 @@
 --   Ranks     sums over boards; the rank of an operation
 --   Tabled    what refusal 5 settles
 --   Scripts   a search over all operations, script by script
+--   Holding   which operations of a board hold their slot
 --   Table     a rule of a constant table, tested once
 --   Xor       exclusive or
 --   CrcStep   a byte of the CRC by a table of remainders
@@ -18,6 +19,7 @@ pub mod Laid
 pub mod Ranks
 pub mod Tabled
 pub mod Scripts
+pub mod Holding
 pub mod Table
 pub mod Xor
 pub mod CrcStep
