@@ -7,7 +7,7 @@ use Prim.Native.Nat.{ℕ, zero, suc, _+_, _-_, _<_, _≤_}
 use native.Mathlib.Omega.{arith}
 use native.Mathlib.Nat.{add-zero, add-suc, suc-add}
 use lib.Dec.{ltb, eqb}
-use borrow.Author.Tests.{lt-ltb, eq-eqb, eqb-true}
+use borrow.Author.Tests.{lt-ltb, eq-eqb, eqb-true, not-true}
 use Rattle.rules.specs.Sheet.{Sheet, op, rank-of, is-wait, is-nonblocking}
 use Rattle.rules.specs.Refusal.{freed, holds, some-below, slot-held}
 use Rattle.laws.specs.Tests.{and-left, and-right, and-both, not-so, true-not-false}
@@ -88,3 +88,70 @@ unfolding held-by
 held-stricter s r i f g e none =
     below-none i (λ j. holds-for s r j i && g j)
       (λ j l h. true-not-false (below-some i (λ j. holds-for s r j i && f j) j l (and-both (and-left (holds-for s r j i) (g j) h) (e j (and-right (holds-for s r j i) (g j) h)))) none)
+
+-- a holder of the slot k passes the test `rest`
+abbrev pub by-slot : Sheet → (r i k : ℕ) → (ℕ → Bool) → Bool
+by-slot s r i k rest = held-by s r i (λ j. eqb (op s j .slot) k && rest j)
+
+module _ (s : Sheet) (r i : ℕ) (e : rank-of s i ≡ r) (rest : ℕ → Bool) where
+  abbrev named : (k j : ℕ) → Bool
+  named k j = eqb (op s j .slot) k && rest j
+
+  -- a slot that operation i does not name is held as before
+  pub by-slot-other : (k : ℕ) → (k ≡ op s i .slot → ⊥) → by-slot s r (suc i) k rest ≡ by-slot s r i k rest
+  by-slot-other k d =
+      held-more s r i e (named k)
+      ∙ (ap₂ (λ (a b : Bool). a || b) (none-new (is-nonblocking (op s i)) (eqb (op s i .slot) k) refl) (held-equal s r i (λ j. not (ends s r i j) && named k j) (named k) same))
+    where
+      none-new : (a b : Bool) → eqb (op s i .slot) k ≡ b → (a && (b && rest i)) ≡ false
+      none-new true true h = absurd (d (sym (eqb-true (op s i .slot) k h)))
+      none-new true false h = refl
+      none-new false b h = refl
+      same : (j : ℕ) → (not (ends s r i j) && named k j) ≡ named k j
+      same j = go (eqb (op s j .slot) k) refl (is-wait (op s i)) (eqb (op s i .slot) (op s j .slot)) refl
+        where
+          go : (a : Bool) → eqb (op s j .slot) k ≡ a → (w b : Bool) → eqb (op s i .slot) (op s j .slot) ≡ b → (not (w && b) && (a && rest j)) ≡ (a && rest j)
+          go false p w b q = all-false (not (w && b))
+            where
+              all-false : (z : Bool) → (z && false) ≡ false
+              all-false true = refl
+              all-false false = refl
+          go true p false b q = refl
+          go true p true false q = refl
+          go true p true true q = absurd (d (sym (eqb-true (op s i .slot) (op s j .slot) q ∙ eqb-true (op s j .slot) k p)))
+
+  -- a wait leaves nobody holding its slot
+  pub by-slot-freed : is-wait (op s i) ≡ true → is-nonblocking (op s i) ≡ false → by-slot s r (suc i) (op s i .slot) rest ≡ false
+  unfolding held-by
+  by-slot-freed w n =
+      held-more s r i e (named (op s i .slot))
+      ∙ (ap₂ (λ (a b : Bool). a || b) (ap (λ (b : Bool). b && named (op s i .slot) i) n)
+          (below-none i (λ j. holds-for s r j i && (not (ends s r i j) && named (op s i .slot) j)) (λ j l h. ended j (and-right (holds-for s r j i) (not (ends s r i j) && named (op s i .slot) j) h))))
+    where
+      ended : (j : ℕ) → (not (ends s r i j) && named (op s i .slot) j) ≡ true → ⊥
+      ended j h =
+          let k : op s j .slot ≡ op s i .slot = eqb-true (op s j .slot) (op s i .slot) (and-left (eqb (op s j .slot) (op s i .slot)) (rest j) (and-right (not (ends s r i j)) (named (op s i .slot) j) h)) in
+          let z : ends s r i j ≡ true = and-both w (eq-eqb (op s i .slot) (op s j .slot) (sym k)) in
+          true-not-false z (not-true (ends s r i j) (and-left (not (ends s r i j)) (named (op s i .slot) j) h))
+
+  -- a nonblocking operation that takes a free slot is its only holder
+  pub by-slot-taken : is-wait (op s i) ≡ false → is-nonblocking (op s i) ≡ true → by-slot s r i (op s i .slot) (λ j. true) ≡ false → by-slot s r (suc i) (op s i .slot) rest ≡ rest i
+  by-slot-taken w n free =
+      held-more s r i e (named (op s i .slot))
+      ∙ (ap₂ (λ (a b : Bool). a || b) (new (is-nonblocking (op s i)) n (eqb (op s i .slot) (op s i .slot)) (eq-eqb (op s i .slot) (op s i .slot) refl))
+          (held-stricter s r i (λ j. eqb (op s j .slot) (op s i .slot) && true) (λ j. not (ends s r i j) && named (op s i .slot) j) looser free)
+        ∙ or-false (rest i))
+    where
+      new : (a : Bool) → a ≡ true → (b : Bool) → b ≡ true → (a && (b && rest i)) ≡ rest i
+      new true p true q = refl
+      new true p false q = true-not-false q refl
+      new false p b q = true-not-false p refl
+      looser : (j : ℕ) → (not (ends s r i j) && named (op s i .slot) j) ≡ true → (eqb (op s j .slot) (op s i .slot) && true) ≡ true
+      looser j h = and-both (and-left (eqb (op s j .slot) (op s i .slot)) (rest j) (and-right (not (ends s r i j)) (named (op s i .slot) j) h)) refl
+
+  -- a blocking send or receive changes no hold
+  pub by-slot-same : is-wait (op s i) ≡ false → is-nonblocking (op s i) ≡ false → (k : ℕ) → by-slot s r (suc i) k rest ≡ by-slot s r i k rest
+  by-slot-same w n k =
+      held-more s r i e (named k)
+      ∙ ap₂ (λ (a b : Bool). a || b) (ap (λ (b : Bool). b && named k i) n)
+          (held-equal s r i (λ j. not (ends s r i j) && named k j) (named k) (λ j. ap (λ (b : Bool). not (b && eqb (op s i .slot) (op s j .slot)) && named k j) w))

@@ -2,6 +2,10 @@
 --   Remainders   the CRC table
 --   Boards       refusal 5 as a walk over the board table
 --   Ops          refusal 6 as a walk over the scripts
+--   Slots        refusal 7 by a table of slots
+--   Requests     the table is right
 pub mod Remainders
 pub mod Boards
 pub mod Ops
+pub mod Slots
+pub mod Requests
