@@ -3,6 +3,7 @@ pub mod boards;
 pub mod crc;
 pub mod header;
 pub mod ops;
+pub mod requests;
 
 // What a service answers: number 0 and place 0, or the number of a refusal and its place.
 #[repr(C)]
