@@ -1,5 +1,6 @@
 // Checking a job sheet: refusals 1 to 7 of document 01, and the field readers that the engine shares.
 pub mod boards;
+pub mod check;
 pub mod crc;
 pub mod header;
 pub mod ops;

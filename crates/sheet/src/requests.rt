@@ -12,7 +12,6 @@ ghost use Rattle.laws.specs.Tabled.{Tabled};
 ghost use Rattle.laws.specs.Scripts.{script-broken};
 ghost use Rattle.sheet.specs.Slots.{hit, table-good, starts-after, ends-after, Slotted};
 ghost use Rattle.sheet.specs.Ops.{Fielded};
-
 use crate::Answer;
 use crate::boards;
 use crate::header;

@@ -53,9 +53,11 @@ loop-again : tie.Need-loop-again Inv-loop μ-loop
 unfolding hit
 loop-again c =
     let a = c .before .before .before .before .args in
-    let l = c .before .before .before .loop in
-    (omega arith, ap (λ (b : Bool). hit (a .starts .now) (a .ends .now) (a .from) (a .to) (l .k) || b) (l .inv .1)
-      ∙ sym (below-more (l .k) (hit (a .starts .now) (a .ends .now) (a .from) (a .to))))
+    let l = c .before .before .before .loop in (
+      omega arith,
+      ap (λ (b : Bool). hit (a .starts .now) (a .ends .now) (a .from) (a .to) (l .k) || b) (l .inv .1)
+          ∙ sym (below-more (l .k) (hit (a .starts .now) (a .ends .now) (a .from) (a .to))),
+    )
 
 -- src/requests.rt:23:1
 returns : tie.Need-returns Inv-loop μ-loop

@@ -106,8 +106,8 @@ returns-3 c =
     let from = c .before .before .offset .ensures .0 in
     let size = c .before .long .ensures .0 in
     let e =
-          after-area (op-in (a .s .now) (a .at)) (a .starts .now) (a .ends .now) (λ e. c .before .before .before .before .before .if1 .left (kind ∙ e)) (sym (c .before .before .before .before .flag .ensures .0) ∙ c .before .before .before .if2 .left)
-            (ap₂ (λ (m n : ℕ). eqb m 5 && ltb 0 n) (sym kind) (sym size) ∙ c .if3 .taken) in
+    after-area (op-in (a .s .now) (a .at)) (a .starts .now) (a .ends .now) (λ e. c .before .before .before .before .before .if1 .left (kind ∙ e)) (sym (c .before .before .before .before .flag .ensures .0) ∙ c .before .before .before .if2 .left)
+    (ap₂ (λ (m n : ℕ). eqb m 5 && ltb 0 n) (sym kind) (sym size) ∙ c .if3 .taken) in
     (ap₂ (λ (m n : ℕ). set (a .starts .now) m n) k from ∙ e .0, ap₂ (λ (m n : ℕ). set (a .ends .now) m n) k (ap₂ (λ (m n : ℕ). m + n) from size) ∙ e .1)
 
 -- src/requests.rt:80:5
@@ -133,8 +133,8 @@ returns-4 c =
     let k = c .before .before .before .before .before .before .slot .ensures .0 in
     let kind = c .before .before .before .before .before .before .before .kind .ensures .0 in
     let e =
-          after-no-area (op-in (a .s .now) (a .at)) (a .starts .now) (a .ends .now) (λ e. c .before .before .before .before .before .if1 .left (kind ∙ e)) (sym (c .before .before .before .before .flag .ensures .0) ∙ c .before .before .before .if2 .left)
-            (ap₂ (λ (m n : ℕ). eqb m 5 && ltb 0 n) (sym kind) (sym (c .before .long .ensures .0)) ∙ c .if3 .left) in
+    after-no-area (op-in (a .s .now) (a .at)) (a .starts .now) (a .ends .now) (λ e. c .before .before .before .before .before .if1 .left (kind ∙ e)) (sym (c .before .before .before .before .flag .ensures .0) ∙ c .before .before .before .if2 .left)
+    (ap₂ (λ (m n : ℕ). eqb m 5 && ltb 0 n) (sym kind) (sym (c .before .long .ensures .0)) ∙ c .if3 .left) in
     (ap (λ (n : ℕ). set (a .starts .now) n 0) k ∙ e .0, ap (λ (n : ℕ). set (a .ends .now) n 0) k ∙ e .1)
 
 pub note-spec : {M : Type 1} → statement M

@@ -53,10 +53,11 @@ add-end c = omega arith
 loop-holds : tie.Need-loop-holds Inv-loop μ-loop
 loop-holds c =
     let z = c .before .before .before .before in
-    let s = sheet-in (z .args .s .now) in
-    (searched-none s 7 (request-good s) (z .args .r) (c .before .first .result) (c .before .first .result + c .count .result)
-      (c .before .first .ensures .0) (ap (λ (n : ℕ). c .before .first .result + n) (c .count .ensures .0)),
-      kept-none s (z .pre .1 .consecutive) (z .args .r) (c .before .first .result) (omega (arith, z .pre .3, P-decoded (z .args .s .now))) (c .before .first .ensures .0))
+    let s = sheet-in (z .args .s .now) in (
+      searched-none s 7 (request-good s) (z .args .r) (c .before .first .result) (c .before .first .result + c .count .result)
+          (c .before .first .ensures .0) (ap (λ (n : ℕ). c .before .first .result + n) (c .count .ensures .0)),
+      kept-none s (z .pre .1 .consecutive) (z .args .r) (c .before .first .result) (omega (arith, z .pre .3, P-decoded (z .args .s .now))) (c .before .first .ensures .0),
+    )
 
 -- src/requests.rt:95:23
 mul-at : tie.Need-mul-at Inv-loop μ-loop
@@ -105,13 +106,13 @@ module _ (c : tie.In-loop Inv-loop μ-loop) where
   answered =
       ap (λ (o : Op). table-good (c .before .loop .starts) (c .before .loop .ends) o) here
       ∙ table-answer (sheet-in bytes) (z .args .r) i (c .before .loop .starts) (c .before .loop .ends) (c .before .loop .inv .1) ranked
-        (λ j l. slot-fits bytes (z .pre .0) (z .pre .1) (z .pre .2) j (omega (arith, inside)))
+      (λ j l. slot-fits bytes (z .pre .0) (z .pre .1) (z .pre .2) j (omega (arith, inside)))
 
   kept-next : request-good (sheet-in bytes) i ≡ true → Kept (sheet-in bytes) (z .args .r) (i + 1) (starts-after (op (sheet-in bytes) i) (c .before .loop .starts)) (ends-after (op (sheet-in bytes) i) (c .before .loop .ends))
   kept-next good =
       kept-more (sheet-in bytes) (z .args .r) i (c .before .loop .starts) (c .before .loop .ends) (c .before .loop .inv .1) ranked (op-slotted bytes (z .pre .0) (z .pre .1) (z .pre .2) i inside)
-        (waits-block bytes (z .pre .0) (z .pre .1) (z .pre .2) i inside)
-        (ap (λ (o : Op). table-good (c .before .loop .starts) (c .before .loop .ends) o) (sym here) ∙ (answered ∙ good))
+      (waits-block bytes (z .pre .0) (z .pre .1) (z .pre .2) i inside)
+      (ap (λ (o : Op). table-good (c .before .loop .starts) (c .before .loop .ends) o) (sym here) ∙ (answered ∙ good))
 
 -- src/requests.rt:96:13
 table-is-good-requires : tie.Need-table-is-good-requires Inv-loop μ-loop
@@ -122,7 +123,7 @@ returns : tie.Need-returns Inv-loop μ-loop
 returns c =
     let b = sheet-in (bytes (c .before .before .before .before)) in
     searched-bad b 7 (request-good b) (c .before .before .before .before .before .before .before .before .before .before .args .r) (c .before .before .before .before .before .loop .i) (c .before .before .before .before .before .before .before .first .result + c .before .before .before .before .before .before .count .result) (c .before .before .before .before .before .loop .inv .0) (c .before .before .before .before .loop-test .taken)
-      (sym (answered (c .before .before .before .before)) ∙ (sym (c .before .table-is-good .ensures) ∙ not-true _ (c .if1 .taken)))
+    (sym (answered (c .before .before .before .before)) ∙ (sym (c .before .table-is-good .ensures) ∙ not-true _ (c .if1 .taken)))
 
 -- src/requests.rt:102:9
 note-requires : tie.Need-note-requires Inv-loop μ-loop
@@ -140,11 +141,12 @@ loop-less c = omega arith
 loop-again : tie.Need-loop-again Inv-loop μ-loop
 loop-again c =
     let b = sheet-in (bytes (c .before .before .before .before .before .before .before)) in
-    let good : request-good b (c .before .before .before .before .before .before .before .before .loop .i) ≡ true = sym (answered (c .before .before .before .before .before .before .before)) ∙ (sym (c .before .before .before .before .table-is-good .ensures) ∙ not-false _ (c .before .before .before .if1 .left)) in
-    (searched-more b 7 (request-good b) (c .before .before .before .before .before .before .before .before .before .before .before .before .before .args .r) (c .before .before .before .before .before .before .before .before .loop .i) (c .before .before .before .before .before .before .before .before .before .before .first .result + c .before .before .before .before .before .before .before .before .before .count .result) (c .before .before .before .before .before .before .before .before .loop .inv .0) (c .before .before .before .before .before .before .before .loop-test .taken) good,
+    let good : request-good b (c .before .before .before .before .before .before .before .before .loop .i) ≡ true = sym (answered (c .before .before .before .before .before .before .before)) ∙ (sym (c .before .before .before .before .table-is-good .ensures) ∙ not-false _ (c .before .before .before .if1 .left)) in (
+      searched-more b 7 (request-good b) (c .before .before .before .before .before .before .before .before .before .before .before .before .before .args .r) (c .before .before .before .before .before .before .before .before .loop .i) (c .before .before .before .before .before .before .before .before .before .before .first .result + c .before .before .before .before .before .before .before .before .before .count .result) (c .before .before .before .before .before .before .before .before .loop .inv .0) (c .before .before .before .before .before .before .before .loop-test .taken) good,
       subst₂ (λ (x y : List ℕ). Kept b (c .before .before .before .before .before .before .before .before .before .before .before .before .before .args .r) (c .before .before .before .before .before .before .before .before .loop .i + 1) x y)
-        (sym (c .note .ensures .0 ∙ ap (λ (o : Op). starts-after o (c .before .before .before .before .before .before .before .before .loop .starts)) (here (c .before .before .before .before .before .before .before))))
-        (sym (c .note .ensures .1 ∙ ap (λ (o : Op). ends-after o (c .before .before .before .before .before .before .before .before .loop .ends)) (here (c .before .before .before .before .before .before .before)))) (kept-next (c .before .before .before .before .before .before .before) good))
+          (sym (c .note .ensures .0 ∙ ap (λ (o : Op). starts-after o (c .before .before .before .before .before .before .before .before .loop .starts)) (here (c .before .before .before .before .before .before .before))))
+          (sym (c .note .ensures .1 ∙ ap (λ (o : Op). ends-after o (c .before .before .before .before .before .before .before .before .loop .ends)) (here (c .before .before .before .before .before .before .before)))) (kept-next (c .before .before .before .before .before .before .before) good),
+    )
 
 -- src/requests.rt:85:1
 returns-2 : tie.Need-returns-2 Inv-loop μ-loop

@@ -54,7 +54,7 @@ unfolding slot-taken
 returns-2 c =
     let a = c .before .before .before .before .before .before .before .args in
     good-not-free (a .starts .now) (a .ends .now) (op-in (a .s .now) (a .at)) (λ e. c .before .before .if1 .left (c .before .before .before .before .before .kind .ensures .0 ∙ e))
-      (ap₂ (λ (m n : ℕ). eqb m 1 && slot-taken (a .starts .now) n) (sym (c .before .flag .ensures .0)) (sym (c .before .before .before .before .slot .ensures .0)) ∙ c .if2 .taken)
+    (ap₂ (λ (m n : ℕ). eqb m 1 && slot-taken (a .starts .now) n) (sym (c .before .flag .ensures .0)) (sym (c .before .before .before .before .slot .ensures .0)) ∙ c .if2 .taken)
 
 -- src/requests.rt:50:9
 offset-requires : tie.Need-offset-requires
@@ -90,8 +90,8 @@ returns-3 c =
     let size = c .before .before .long .ensures .0 in
     ap not (c .any-hit .ensures ∙ ap₂ (λ (m n : ℕ). some-below 32 (hit (a .starts .now) (a .ends .now) m n)) from (ap₂ (λ (m n : ℕ). m + n) from size))
     ∙ good-area (a .starts .now) (a .ends .now) (op-in (a .s .now) (a .at)) (λ e. c .before .before .before .before .before .before .if1 .left (kind ∙ e))
-      (ap₂ (λ (m n : ℕ). eqb m 1 && slot-taken (a .starts .now) n) (sym (c .before .before .before .before .before .flag .ensures .0)) (sym (c .before .before .before .before .before .before .before .before .slot .ensures .0)) ∙ c .before .before .before .before .if2 .left)
-      (ap₂ (λ (m n : ℕ). eqb m 5 && ltb 0 n) (sym kind) (sym size) ∙ c .before .if3 .taken)
+    (ap₂ (λ (m n : ℕ). eqb m 1 && slot-taken (a .starts .now) n) (sym (c .before .before .before .before .before .flag .ensures .0)) (sym (c .before .before .before .before .before .before .before .before .slot .ensures .0)) ∙ c .before .before .before .before .if2 .left)
+    (ap₂ (λ (m n : ℕ). eqb m 5 && ltb 0 n) (sym kind) (sym size) ∙ c .before .if3 .taken)
 
 -- src/requests.rt:37:1
 returns-4 : tie.Need-returns-4
@@ -100,8 +100,8 @@ returns-4 c =
     let a = c .before .before .before .before .before .before .before .before .before .before .args in
     let kind = c .before .before .before .before .before .before .before .before .kind .ensures .0 in
     good-no-area (a .starts .now) (a .ends .now) (op-in (a .s .now) (a .at)) (λ e. c .before .before .before .before .before .if1 .left (kind ∙ e))
-      (ap₂ (λ (m n : ℕ). eqb m 1 && slot-taken (a .starts .now) n) (sym (c .before .before .before .before .flag .ensures .0)) (sym (c .before .before .before .before .before .before .before .slot .ensures .0)) ∙ c .before .before .before .if2 .left)
-      (ap₂ (λ (m n : ℕ). eqb m 5 && ltb 0 n) (sym kind) (sym (c .before .long .ensures .0)) ∙ c .if3 .left)
+    (ap₂ (λ (m n : ℕ). eqb m 1 && slot-taken (a .starts .now) n) (sym (c .before .before .before .before .flag .ensures .0)) (sym (c .before .before .before .before .before .before .before .slot .ensures .0)) ∙ c .before .before .before .if2 .left)
+    (ap₂ (λ (m n : ℕ). eqb m 5 && ltb 0 n) (sym kind) (sym (c .before .long .ensures .0)) ∙ c .if3 .left)
 
 pub table-is-good-spec : {M : Type 1} → statement M
 table-is-good-spec =
