@@ -47,9 +47,9 @@ fn table_is_good(s: &[u8], at: usize, starts: &[u16; 32], ends: &[u16; 32]) -> b
         return false;
     }
     let from = ops::offset(s, at);
-    let size = ops::long(s, at);
-    if (k == 5) & (0 < size) {
-        return !any_hit(starts, ends, from as u16, (from + size) as u16);
+    let capacity = ops::long(s, at);
+    if (k == 5) & (0 < capacity) {
+        return !any_hit(starts, ends, from as u16, (from + capacity) as u16);
     }
     true
 }
