@@ -1,3 +1,5 @@
+pub mod Statements
 pub mod Good
 pub mod Sums
 pub mod Lists
+pub mod Invariant
