@@ -3,3 +3,5 @@ pub mod Good
 pub mod Sums
 pub mod Lists
 pub mod Invariant
+pub mod Kinds
+pub mod Keep
