@@ -5,3 +5,5 @@ pub mod Lists
 pub mod Invariant
 pub mod Kinds
 pub mod Keep
+pub mod Changes
+pub mod Stable
