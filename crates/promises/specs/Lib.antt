@@ -7,3 +7,6 @@ pub mod Kinds
 pub mod Keep
 pub mod Changes
 pub mod Stable
+pub mod Moves
+pub mod Outcome
+pub mod Effects
