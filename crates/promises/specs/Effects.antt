@@ -112,18 +112,20 @@ module _ (s : Sheet) (g : Good s) (lent : List ℕ) (x : Job) (R : Reached s len
       refl refl refl none-fits
 
   -- a message and a receive are matched
-  set-matches : (m q : ℕ) (y : Job) → m < N-of s → q < N-of s → m ≢ q → (E : List Entry) → E ≡ x .entries →
-      y .entries ≡ set (set E m (entry 3 0 q absent absent 0)) q (entry 3 (cond (is-cut s m q) 1 0) m (rank-of s m) (op s m .tag) (op s m .long)) →
-      (entry-at y m ≡ entry 3 0 q absent absent 0)
-      × (entry-at y q ≡ entry 3 (cond (is-cut s m q) 1 0) m (rank-of s m) (op s m .tag) (op s m .long))
-      × ((j : ℕ) → j ≢ m → j ≢ q → entry-at y j ≡ entry-at x j)
-  unfolding entry-at
-  set-matches m q y lm lq d E same are = (
-    at m ∙ getD-set-other (set E m A) q m B z d ∙ getD-set-same E m A z (omega (arith, long)),
-    at q ∙ getD-set-same (set E m A) q B z (omega (arith, long, length-set E m A)),
-    λ j a b. at j ∙ getD-set-other (set E m A) q j B z b ∙ getD-set-other E m j A z a ∙ ap (λ (e : List Entry). getD e j z) same,
-  )
+  outcome-meets : (m q : ℕ) → place-at x r .waiting ≡ false → is-send (op s m) ≡ true → is-receive (op s q) ≡ true → fits-with s m q ≡ true →
+      m < N-of s → q < N-of s → state-at x m ≢ 3 → state-at x q ≢ 3 → (m ≢ here → Entered x m) → (q ≢ here → Entered x q) →
+      ((q ≡ here) × (first-message s here (x .messages) ≡ some m)) ⊎ ((m ≡ here) × (first-receive s here (x .receives) ≡ some q)) →
+      Outcome s x (with-steps (suc (x .steps)) (initiated s r here (matched s m q x))) r here
+  unfolding initiated with-place with-places with-steps job place-at entry-at
+  outcome-meets m q w sm rq fit lm lq free-m free-q there-m there-q found =
+      subst (λ (z : Job). Outcome s x (with-steps (suc (x .steps)) (initiated s r here z)) r here) (sym (matched-is s m q x))
+      (let p = stepped-moved y (used-released s x (R .in-use-peak) m (omega (arith, g .rank-small m lm, R .placed .places-long))) r nb places-inside refl
+           (length-set (set (x .entries) m A) q B ∙ length-set (x .entries) m A) refl refl in
+      meets m q w (p .0) (p .1) rows refl refl refl found)
     where
+      nb : Bool
+      nb = is-nonblocking (op s here)
+
       A : Entry
       A = entry 3 0 q absent absent 0
 
@@ -133,8 +135,93 @@ module _ (s : Sheet) (g : Good s) (lent : List ℕ) (x : Job) (R : Reached s len
       z : Entry
       z = bare-entry 0
 
-      at : (j : ℕ) → getD (y .entries) j z ≡ getD (set (set E m A) q B) j z
-      at j = ap (λ (e : List Entry). getD e j z) are
+      y : Job
+      y =
+          job (set (set (x .entries) m A) q B) (stepped-places (released-places s x m) r nb) (without m (x .messages)) (without q (x .receives))
+          (delivered s m q (x .memory)) (x .stop) (suc (x .steps))
 
-      long : length E ≡ N-of s
-      long = ap (λ (e : List Entry). length e) same ∙ R .placed .entries-long
+      long : length (x .entries) ≡ N-of s
+      long = R .placed .entries-long
+
+      one : ((q ≡ here) × (first-message s here (x .messages) ≡ some m)) ⊎ ((m ≡ here) × (first-receive s here (x .receives) ≡ some q)) →
+          (here ≡ m) ⊎ (here ≡ q)
+      one (inl e) = inr (sym (e .0))
+      one (inr e) = inl (sym (e .0))
+
+      rows : Matches s x y m q here
+      rows =
+          record {
+            sends = sm;
+            receives = rq;
+            fit = fit;
+            message-row = getD-set-other (set (x .entries) m A) q m B z (send-receive-differ s m q sm rq) ∙ getD-set-same (x .entries) m A z (omega (arith, long));
+            receive-row = getD-set-same (set (x .entries) m A) q B z (omega (arith, long, length-set (x .entries) m A));
+            other = λ j a b. getD-set-other (set (x .entries) m A) q j B z b ∙ getD-set-other (x .entries) m j A z a;
+            message-free = free-m;
+            receive-free = free-q;
+            one = one found;
+            fresh = next-fresh s x r (R .placed) n w;
+            message-there = there-m;
+            receive-there = there-q;
+          }
+
+  -- what the searches find is pending, and fits
+  found-message : (m : ℕ) → first-message s here (x .messages) ≡ some m → Found (Came-before (R .came)) (λ k. fits-with s k here) (x .messages) m
+  unfolding first-message
+  found-message m e = first-by-some (λ k. fits-with s k here) (x .messages) (R .messages-held .sorted) m e
+
+  found-receive : (q : ℕ) → first-receive s here (x .receives) ≡ some q → Found (Posted-before s) (λ k. fits-with s here k) (x .receives) q
+  unfolding first-receive
+  found-receive q e = first-by-some (λ k. fits-with s here k) (x .receives) (R .receives-held .sorted) q e
+
+  -- INITIATING
+  outcome-received : (o : Option ℕ) → first-message s here (x .messages) ≡ o → place-at x r .waiting ≡ false → is-receive (op s here) ≡ true →
+      Outcome s x (with-steps (suc (x .steps)) (received s r here o x)) r here
+  unfolding received
+  outcome-received none e w k = outcome-posts w k e
+  outcome-received (some m) e w k =
+      let f = found-message m e in
+      let p = R .messages-held .sound m (f .member) in
+      outcome-meets m here w (p .sends) k (f .passes) (R .placed .entered-only m (p .entered) .0) (n .inside) (p .unmatched)
+      (λ c. omega (arith, next-fresh s x r (R .placed) n w)) (λ d. p .entered) (λ d. absurd (d refl)) (inl (refl, e))
+
+  outcome-unmatched : place-at x r .waiting ≡ false → is-send (op s here) ≡ true → first-receive s here (x .receives) ≡ none →
+      Outcome s x (with-steps (suc (x .steps)) (unmatched s r here x)) r here
+  unfolding unmatched
+  outcome-unmatched w k e = go (is-ready (op s here)) (is-buffered (op s here)) refl (fits-buffer s r here x)
+    where
+      go : (a b : Bool) → is-buffered (op s here) ≡ b → (c : Bool) →
+          Outcome s x
+          (with-steps (suc (x .steps))
+          (cond a (stopped 4 r here x)
+          (cond b (cond c (initiated s r here (charge s r here (pend-message here 2 x))) (stopped 3 r here x)) (initiated s r here (pend-message here 1 x)))))
+          r here
+      go true b h c = stops 4 (inr refl) w k e refl
+      go false true h true = outcome-buffers w k h e
+      go false true h false = stops 3 (inl refl) w k e refl
+      go false false h c = outcome-pends w k h e
+
+  outcome-sent : (o : Option ℕ) → first-receive s here (x .receives) ≡ o → place-at x r .waiting ≡ false → is-send (op s here) ≡ true →
+      Outcome s x (with-steps (suc (x .steps)) (sent s r here o x)) r here
+  unfolding sent
+  outcome-sent none e w k = outcome-unmatched w k e
+  outcome-sent (some q) e w k =
+      let f = found-receive q e in
+      let p = R .receives-held .sound q (f .member) in
+      outcome-meets here q w k (p .receives) (f .passes) (n .inside) (R .placed .entered-only q (p .entered) .0)
+      (λ c. omega (arith, next-fresh s x r (R .placed) n w)) (p .unmatched) (λ d. absurd (d refl)) (λ d. p .entered) (inr (refl, e))
+
+  pub outcome : Outcome s x (step s r x) r here
+  unfolding step in-waiting-half initiating
+  outcome = go (place-at x r .waiting) refl (is-wait (op s here)) refl (is-receive (op s here)) refl
+    where
+      go : (w : Bool) → place-at x r .waiting ≡ w → (a : Bool) → is-wait (op s here) ≡ a → (b : Bool) → is-receive (op s here) ≡ b →
+          Outcome s x
+          (with-steps (suc (x .steps))
+          (cond (w || a) (ended s r here x)
+          (cond b (received s r here (first-message s here (x .messages)) x) (sent s r here (first-receive s here (x .receives)) x))))
+          r here
+      go true e a f b h = outcome-half e
+      go false e true f b h = outcome-wait e f
+      go false e false f true h = outcome-received (first-message s here (x .messages)) refl e h
+      go false e false f false h = outcome-sent (first-receive s here (x .receives)) refl e (kind-send s g here (n .inside) f h)
