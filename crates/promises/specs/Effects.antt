@@ -120,7 +120,7 @@ module _ (s : Sheet) (g : Good s) (lent : List ℕ) (x : Job) (R : Reached s len
   outcome-meets m q w sm rq fit lm lq free-m free-q there-m there-q found =
       subst (λ (z : Job). Outcome s x (with-steps (suc (x .steps)) (initiated s r here z)) r here) (sym (matched-is s m q x))
       (let p = stepped-moved y (used-released s x (R .in-use-peak) m (omega (arith, g .rank-small m lm, R .placed .places-long))) r nb places-inside refl
-           (length-set (set (x .entries) m A) q B ∙ length-set (x .entries) m A) refl refl in
+      (length-set (set (x .entries) m A) q B ∙ length-set (x .entries) m A) refl refl in
       meets m q w (p .0) (p .1) rows refl refl refl found)
     where
       nb : Bool

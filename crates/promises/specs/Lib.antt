@@ -10,3 +10,4 @@ pub mod Stable
 pub mod Moves
 pub mod Outcome
 pub mod Effects
+pub mod Placing
