@@ -1,0 +1,13 @@
+pub mod Statements
+pub mod Good
+pub mod Sums
+pub mod Lists
+pub mod Invariant
+pub mod Kinds
+pub mod Keep
+pub mod Changes
+pub mod Stable
+pub mod Moves
+pub mod Outcome
+pub mod Effects
+pub mod Placing
