@@ -12,3 +12,4 @@ pub mod Outcome
 pub mod Effects
 pub mod Placing
 pub mod FromBytes
+pub mod Areas
