@@ -13,3 +13,4 @@ pub mod Effects
 pub mod Placing
 pub mod FromBytes
 pub mod Areas
+pub mod Splice
