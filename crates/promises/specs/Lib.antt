@@ -14,3 +14,4 @@ pub mod Placing
 pub mod FromBytes
 pub mod Areas
 pub mod Splice
+pub mod Extents
