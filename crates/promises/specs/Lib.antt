@@ -11,3 +11,4 @@ pub mod Moves
 pub mod Outcome
 pub mod Effects
 pub mod Placing
+pub mod Counting
