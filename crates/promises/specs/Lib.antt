@@ -12,3 +12,7 @@ pub mod Outcome
 pub mod Effects
 pub mod Placing
 pub mod Counting
+pub mod Arrivals
+pub mod Shaping
+pub mod Queues
+pub mod Charging
