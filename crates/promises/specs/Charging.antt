@@ -43,7 +43,7 @@ charging-other s {x} {y} {i} {v} E d r = sum-same (N-of s) (charge-in s x r) (ch
         charge-none s x r j (λ c. omega (arith, E .fresh, state-name x e)) ∙ sym (charge-none s y r j (λ c. d (sym (enters-state E) ∙ state-name y (sym e) ∙ c)))
     at j (no c) = charge-same s x y r j (state-same (E .other j c))
 
-unmatched-send : (s : Sheet) (i : ℕ) → is-send (op s i) ≡ true → unmatched-state (op s i) ≡ cond (is-buffered (op s i)) 2 1
+pub unmatched-send : (s : Sheet) (i : ℕ) → is-send (op s i) ≡ true → unmatched-state (op s i) ≡ cond (is-buffered (op s i)) 2 1
 unfolding unmatched-state
 unmatched-send s i e = ap (λ (c : Bool). cond c 5 (cond (is-buffered (op s i)) 2 1)) (send-no-wait (op s i) e)
 
@@ -89,7 +89,7 @@ charging-enters s {x} {y} {i} r q n E l mine e told =
     go true ea false eb sums zero-before = omega (arith, sums, zero-before, charge-now true ea false eb, told)
     go false ea b eb sums zero-before = omega (arith, sums, zero-before, charge-now false ea b eb, told)
 
-unmatched-receive : (s : Sheet) (r : ℕ) → is-receive (op s r) ≡ true → unmatched-state (op s r) ≡ 1
+pub unmatched-receive : (s : Sheet) (r : ℕ) → is-receive (op s r) ≡ true → unmatched-state (op s r) ≡ 1
 unfolding unmatched-state
 unmatched-receive s r e =
     ap (λ (c : Bool). cond c 5 (cond (is-buffered (op s r)) 2 1)) (receive-no-wait (op s r) e) ∙ ap (λ (c : Bool). cond c 2 1) (receive-no-buffered (op s r) e)

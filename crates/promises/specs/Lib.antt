@@ -16,3 +16,5 @@ pub mod Arrivals
 pub mod Shaping
 pub mod Queues
 pub mod Charging
+pub mod Ground
+pub mod Painting
