@@ -1,5 +1,9 @@
 pub mod Statements
 pub mod Good
+pub mod FromBytes
+pub mod Areas
+pub mod Splice
+pub mod Extents
 pub mod Sums
 pub mod Lists
 pub mod Invariant
@@ -11,7 +15,10 @@ pub mod Moves
 pub mod Outcome
 pub mod Effects
 pub mod Placing
-pub mod FromBytes
-pub mod Areas
-pub mod Splice
-pub mod Extents
+pub mod Counting
+pub mod Arrivals
+pub mod Shaping
+pub mod Queues
+pub mod Charging
+pub mod Ground
+pub mod Painting

@@ -1,8 +1,7 @@
--- A step moves its board on by one, and keeps `Placed` and the count of steps. Assumes nothing.
+-- A step moves its board on by one, and keeps `Placed`. Assumes nothing.
 --   Advances        what becomes entered by a step of operation i
 --   Turn            a step that goes on: where its board goes, and why it may
 --   placed-step     the places stay right
---   steps-step      the count of steps stays right
 --   prefix          on one board everything before an entered operation is entered
 use mathlib.Core.Path.{_≡_, refl, sym, ap, subst, _∙_}
 use mathlib.Core.Logic.{_⊎_, inl, inr, _≢_}
@@ -19,8 +18,7 @@ use Rattle.rules.specs.Job.{Job, place-at}
 use Rattle.rules.specs.Step.{next-op, in-waiting-half, half-complete, complete, complete-if, waited}
 use Rattle.promises.specs.Good.{Good}
 use Rattle.promises.specs.Kinds.{clash}
-use Rattle.promises.specs.Sums.{sum-below, sum-change}
-use Rattle.promises.specs.Invariant.{Entered, state-at, Placed, reach, steps-of, steps-done}
+use Rattle.promises.specs.Invariant.{Entered, state-at, Placed, reach, steps-of}
 use Rattle.promises.specs.Moves.{Next, Moved, moved-finished, moved-waiting, moved-finished-other, moved-waiting-other}
 
 pub record Advances (x y : Job) (i : ℕ) : Type 0 where
@@ -60,17 +58,17 @@ prefix s x p j i h l e =
     p .entered-if j (omega (arith, only .0)) (omega (arith, only .1, ap (λ (z : ℕ). reach s x z) e))
 
 module _ {s : Sheet} {x y : Job} {r : ℕ} {last : Bool} (g : Good s) (p : Placed s x) (T : Turn s x y r last) where
-  abbrev here : ℕ
+  abbrev pub here : ℕ
   here = next-op s x r
 
   n : Next s x r
   n = T .next
 
-  abbrev waits : ℕ
+  abbrev pub waits : ℕ
   waits = cond (place-at x r .waiting) 1 0
 
   -- the operations that were next and reached, and are
-  next-here : next-op s y r ≡ cond last (suc here) here
+  pub next-here : next-op s y r ≡ cond last (suc here) here
   unfolding next-op
   next-here = go last (moved-finished (T .moved))
     where
@@ -79,7 +77,7 @@ module _ {s : Sheet} {x y : Job} {r : ℕ} {last : Bool} (g : Good s) (p : Place
       go true e = omega (arith, e)
       go false e = omega (arith, e)
 
-  reach-here : reach s y r ≡ suc here
+  pub reach-here : reach s y r ≡ suc here
   unfolding reach
   reach-here = go last next-here (moved-waiting (T .moved))
     where
@@ -87,36 +85,36 @@ module _ {s : Sheet} {x y : Job} {r : ℕ} {last : Bool} (g : Good s) (p : Place
       go true e w = subst (λ (c : Bool). next-op s y r + cond c 1 0 ≡ suc here) (sym w) (omega (arith, e))
       go false e w = subst (λ (c : Bool). next-op s y r + cond c 1 0 ≡ suc here) (sym w) (omega (arith, e))
 
-  reach-before : reach s x r ≡ here + waits
+  pub reach-before : reach s x r ≡ here + waits
   unfolding reach
   reach-before = refl
 
-  waits-most : waits ≤ 1
+  pub waits-most : waits ≤ 1
   waits-most = go (place-at x r .waiting)
     where
       go : (b : Bool) → cond b 1 0 ≤ 1
       go true = omega arith
       go false = omega arith
 
-  next-other : (q : ℕ) → q ≢ r → next-op s y q ≡ next-op s x q
+  pub next-other : (q : ℕ) → q ≢ r → next-op s y q ≡ next-op s x q
   unfolding next-op
   next-other q d = ap (λ (k : ℕ). board s q .first + k) (moved-finished-other (T .moved) q d)
 
-  reach-other : (q : ℕ) → q ≢ r → reach s y q ≡ reach s x q
+  pub reach-other : (q : ℕ) → q ≢ r → reach s y q ≡ reach s x q
   unfolding reach
   reach-other q d = ap (λ (k : ℕ). k + cond (place-at y q .waiting) 1 0) (next-other q d) ∙ ap (λ (b : Bool). next-op s x q + cond b 1 0) (moved-waiting-other (T .moved) q d)
 
   -- the same of an operation's own board
-  reach-mine : (j : ℕ) → rank-of s j ≡ r → reach s y (rank-of s j) ≡ suc here
+  pub reach-mine : (j : ℕ) → rank-of s j ≡ r → reach s y (rank-of s j) ≡ suc here
   reach-mine j e = ap (λ (z : ℕ). reach s y z) e ∙ reach-here
 
-  reach-mine-before : (j : ℕ) → rank-of s j ≡ r → reach s x (rank-of s j) ≡ here + waits
+  pub reach-mine-before : (j : ℕ) → rank-of s j ≡ r → reach s x (rank-of s j) ≡ here + waits
   reach-mine-before j e = ap (λ (z : ℕ). reach s x z) e ∙ reach-before
 
-  next-mine : (j : ℕ) → rank-of s j ≡ r → next-op s y (rank-of s j) ≡ cond last (suc here) here
+  pub next-mine : (j : ℕ) → rank-of s j ≡ r → next-op s y (rank-of s j) ≡ cond last (suc here) here
   next-mine j e = ap (λ (z : ℕ). next-op s y z) e ∙ next-here
 
-  next-mine-before : (j : ℕ) → rank-of s j ≡ r → next-op s x (rank-of s j) ≡ here
+  pub next-mine-before : (j : ℕ) → rank-of s j ≡ r → next-op s x (rank-of s j) ≡ here
   next-mine-before j e = ap (λ (z : ℕ). next-op s x z) e
 
   pub placed-step : Placed s y
