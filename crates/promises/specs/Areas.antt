@@ -1,28 +1,25 @@
--- A pending receive still holds its slot, so no later receive of its board that has entered shares a byte with its area. Let
--- r < q be entered operations of one board, r a pending receive. The board has passed r and all before q. A passed blocking
--- receive is complete, so r is nonblocking. A wait on r's slot between them would be passed too; the first one waits for r,
--- since rule 7 lets nobody retake a slot that is held, and r is not complete. So the slot is held at q. Assumes nothing.
+-- A receive that still holds its slot has its area to itself. Let r < q be receives of one board, r nonblocking, and let no wait
+-- between them wait for r. Then no wait between them names r's slot at all: the first that did would wait for r, since rule 7
+-- lets nobody retake a slot that is held. So r holds its slot at q, and rule 7 keeps their areas apart. Assumes nothing.
 --   waited-some     what a wait waits for
 --   freed-none      a slot that no wait names is not freed
---   pending-holds   a pending receive holds its slot at every later entered operation
---   areas-apart     and its area shares no byte with that of a later entered receive
+--   rule-slot ..    rule 7, read at an operation that is no wait
+--   held-apart      the law
 use mathlib.Core.Path.{_≡_, refl, sym, ap, subst, _∙_}
 use mathlib.Core.Bool.{Bool, true, false, _&&_, _||_, not, cond}
 use mathlib.Core.Option.{Option, none, some}
 use Prim.Native.Nat.{ℕ, zero, suc, _+_, _-_, _≤_, _<_}
 use native.Mathlib.Omega.{arith}
 use native.Mathlib.Decide.{ℕ-discrete}
-use lib.Dec.{ltb, leb, eqb}
-use borrow.Author.Tests.{leb-true, lt-ltb, eq-eqb, eqb-true, not-true}
-use Rattle.rules.specs.Sheet.{Sheet, op, board, P-of, N-of, rank-of, is-receive, is-wait, is-nonblocking}
+use lib.Dec.{eqb}
+use borrow.Author.Tests.{lt-ltb, eq-eqb, eqb-true, not-true}
+use Rattle.rules.specs.Sheet.{Sheet, op, board, N-of, rank-of, is-receive, is-wait, is-nonblocking}
 use Rattle.rules.specs.Refusal.{freed, holds, slot-held, share, area-taken, request-good}
-use Rattle.rules.specs.Job.{Job, place-at}
-use Rattle.rules.specs.Step.{next-op, complete, complete-if, half-complete, waited-below, waited}
+use Rattle.rules.specs.Step.{waited-below, waited}
 use Rattle.laws.specs.Tests.{and-left, and-right, and-both, not-so, true-not-false, cond-true, cond-false}
 use Rattle.laws.specs.Below.{below-some}
 use Rattle.promises.specs.Good.{Good}
-use Rattle.promises.specs.Kinds.{receive-no-wait, receive-no-buffered, wait-blocking, is-true}
-use Rattle.promises.specs.Invariant.{Entered, state-at, Pending-receive, Placed, Shaped, reach, unmatched-state}
+use Rattle.promises.specs.Kinds.{receive-no-wait, wait-blocking}
 
 -- operation j took the slot that wait i names
 abbrev pub takes-slot-of : Sheet → (j i : ℕ) → Bool
@@ -88,83 +85,42 @@ module _ (s : Sheet) (g : Good s) (i : ℕ) (l : i < N-of s) (no-wait : is-wait 
       (not-true (is-receive (op s i) && area-taken s i)
       (and-right (not (is-nonblocking (op s i) && slot-held s i (op s i .slot))) (not (is-receive (op s i) && area-taken s i)) rule-read)))
 
--- A PENDING RECEIVE r and a later entered operation q of its board
-module _ (s : Sheet) (g : Good s) (x : Job) (p : Placed s x) (sh : Shaped s x) (r q : ℕ) (pending : Pending-receive s x r) (entered : Entered x q)
-    (l : r < q) (same : rank-of s r ≡ rank-of s q) where
-  q-inside : q < N-of s
-  q-inside = p .entered-only q entered .0
-
+-- RECEIVES r AND q of one board, r nonblocking, no wait between them waiting for r
+module _ (s : Sheet) (g : Good s) (r q : ℕ) (l : r < q) (inside : q < N-of s) (same : rank-of s r ≡ rank-of s q) (taken : is-nonblocking (op s r) ≡ true)
+    (never : (w : ℕ) → r < w → w < q → rank-of s w ≡ rank-of s r → is-wait (op s w) ≡ true → waited s w ≡ some r → ⊥) where
   between-inside : (j : ℕ) → j < q → j < N-of s
-  between-inside j b = omega (arith, q-inside)
+  between-inside j b = omega arith
 
-  -- what lies between them is of their board, and the board has passed it
-  between-ranked : (j : ℕ) → r ≤ j → j < q → rank-of s j ≡ rank-of s q
+  -- what lies between them is of their board
+  between-ranked : (j : ℕ) → r ≤ j → j < q → rank-of s r ≡ rank-of s j
   between-ranked j a b =
-      g .script-ranked (rank-of s q) j (g .rank-small q q-inside)
-      (omega (arith, g .rank-low r (between-inside r l), ap (λ (z : ℕ). board s z .first) same)) (omega (arith, g .rank-high q q-inside))
-
-  between-passed : (j : ℕ) → r ≤ j → j < q → j < next-op s x (rank-of s j)
-  unfolding reach
-  between-passed j a b =
-      subst (λ (z : ℕ). j < next-op s x z) (sym (between-ranked j a b)) (go (place-at x (rank-of s q) .waiting) (p .entered-only q entered .1))
-    where
-      go : (w : Bool) → q < next-op s x (rank-of s q) + cond w 1 0 → j < next-op s x (rank-of s q)
-      go true h = omega arith
-      go false h = omega arith
-
-  -- r is not complete, so it is nonblocking
-  r-state : state-at x r ≡ 1
-  unfolding unmatched-state
-  r-state =
-      sh .unmatched r (pending .entered) (pending .unmatched)
-      ∙ cond-false (is-wait (op s r)) 5 _ (receive-no-wait (op s r) (pending .receives))
-      ∙ cond-false _ 2 1 (receive-no-buffered (op s r) (pending .receives))
-
-  r-incomplete : complete x r ≡ true → ⊥
-  unfolding complete
-  r-incomplete h = omega (arith, leb-true 2 (state-at x r) h, r-state)
-
-  r-nonblocking : is-nonblocking (op s r) ≡ true
-  unfolding half-complete
-  r-nonblocking =
-      is-true (is-nonblocking (op s r))
-      (λ blocking.
-      r-incomplete
-      (sym (cond-false (is-wait (op s r)) (complete-if x (waited s r)) (complete x r) (receive-no-wait (op s r) (pending .receives)))
-      ∙ p .passed-complete r (between-inside r l) (between-passed r (omega arith) l) blocking))
+      same
+      ∙ sym
+      (g .script-ranked (rank-of s q) j (g .rank-small q inside)
+      (omega (arith, g .rank-low r (between-inside r l), ap (λ (z : ℕ). board s z .first) same)) (omega (arith, g .rank-high q inside)))
 
   -- a wait w on r's slot, the first: nobody retook the slot before it, so it waits for r
   first-wait : (w : ℕ) → r < w → w < q → ((v : ℕ) → r < v → v < w → frees s (op s r .slot) v ≡ false) → frees s (op s r .slot) w ≡ true → ⊥
-  unfolding half-complete waited complete-if
-  first-wait w a b before h =
-      r-incomplete
-      (ap (λ (o : Option ℕ). complete-if x o) (sym waits)
-      ∙ sym (cond-true (is-wait (op s w)) (complete-if x (waited s w)) (complete x w) is-one)
-      ∙ p .passed-complete w (between-inside w b) (between-passed w (omega arith) b) (wait-blocking s g w (between-inside w b) is-one))
+  unfolding waited
+  first-wait w a b before h = never w a b (sym (between-ranked w (omega arith) b)) (and-left (is-wait (op s w)) (eqb (op s w .slot) (op s r .slot)) h) waits
     where
-      is-one : is-wait (op s w) ≡ true
-      is-one = and-left (is-wait (op s w)) (eqb (op s w .slot) (op s r .slot)) h
-
       slot-same : op s w .slot ≡ op s r .slot
       slot-same = eqb-true (op s w .slot) (op s r .slot) (and-right (is-wait (op s w)) (eqb (op s w .slot) (op s r .slot)) h)
 
-      one-board : (j : ℕ) → r ≤ j → j < q → rank-of s r ≡ rank-of s j
-      one-board j c d = between-ranked r (omega arith) l ∙ sym (between-ranked j c d)
-
       retaken : (j : ℕ) → r < j → j < w → takes-slot-of s j w ≡ true → ⊥
       retaken j c d t =
-          let parts = is-nonblocking (op s j) && eqb (op s j .slot) (op s w .slot) in
-          let rest = and-right (eqb (rank-of s j) (rank-of s w)) parts t in
-          let taken = and-left (is-nonblocking (op s j)) (eqb (op s j .slot) (op s w .slot)) rest in
+          let here : j < N-of s = between-inside j (omega arith) in
+          let rest = and-right (eqb (rank-of s j) (rank-of s w)) (is-nonblocking (op s j) && eqb (op s j .slot) (op s w .slot)) t in
+          let takes = and-left (is-nonblocking (op s j)) (eqb (op s j .slot) (op s w .slot)) rest in
           let slots = eqb-true (op s j .slot) (op s w .slot) (and-right (is-nonblocking (op s j)) (eqb (op s j .slot) (op s w .slot)) rest) in
-          let held = unfreed-holds s r j c (one-board j (omega arith) (omega arith)) r-nonblocking (λ v e f. before v e (omega arith)) in
-          let no-wait = not-so (is-wait (op s j)) (λ e. true-not-false taken (wait-blocking s g j (between-inside j (omega arith)) e)) in
-          rule-slot s g j (between-inside j (omega arith)) no-wait r c held taken (sym slot-same ∙ sym slots)
+          let held = unfreed-holds s r j c (between-ranked j (omega arith) (omega arith)) taken (λ v e f. before v e (omega arith)) in
+          let no-wait = not-so (is-wait (op s j)) (λ e. true-not-false takes (wait-blocking s g j here e)) in
+          rule-slot s g j here no-wait r c held takes (sym slot-same ∙ sym slots)
 
       waits : waited s w ≡ some r
       waits =
           waited-some s w w r a
-          (and-both (eq-eqb (rank-of s r) (rank-of s w) (one-board w (omega arith) b)) (and-both r-nonblocking (eq-eqb (op s r .slot) (op s w .slot) (sym slot-same))))
+          (and-both (eq-eqb (rank-of s r) (rank-of s w) (between-ranked w (omega arith) b)) (and-both taken (eq-eqb (op s r .slot) (op s w .slot) (sym slot-same))))
           (λ k c d. not-so (takes-slot-of s k w) (retaken k c d))
 
   -- so there is none, by induction on a bound
@@ -172,8 +128,8 @@ module _ (s : Sheet) (g : Good s) (x : Job) (p : Placed s x) (sh : Shaped s x) (
   unfreed-below zero w h a b = absurd (omega arith)
   unfreed-below (suc n) w h a b = not-so (frees s (op s r .slot) w) (first-wait w a b (λ v c d. unfreed-below n v (omega arith) c (omega arith)))
 
-  pub pending-holds : holds s r q ≡ true
-  pending-holds = unfreed-holds s r q l same r-nonblocking (λ w a b. unfreed-below q w b a b)
+  pub held-at : holds s r q ≡ true
+  held-at = unfreed-holds s r q l same taken (λ w a b. unfreed-below q w b a b)
 
-  pub areas-apart : is-receive (op s q) ≡ true → share (op s r) (op s q) ≡ false
-  areas-apart receives = rule-area s g q q-inside (receive-no-wait (op s q) receives) r l pending-holds (pending .receives) receives
+  pub held-apart : is-receive (op s r) ≡ true → is-receive (op s q) ≡ true → share (op s r) (op s q) ≡ false
+  held-apart receives receives-later = rule-area s g q inside (receive-no-wait (op s q) receives-later) r l held-at receives receives-later
