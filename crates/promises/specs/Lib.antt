@@ -4,6 +4,7 @@ pub mod FromBytes
 pub mod Areas
 pub mod Splice
 pub mod Extents
+pub mod Delivering
 pub mod Sums
 pub mod Lists
 pub mod Invariant
