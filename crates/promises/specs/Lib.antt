@@ -5,6 +5,8 @@ pub mod Areas
 pub mod Splice
 pub mod Extents
 pub mod Delivering
+pub mod Telling
+pub mod Reporting
 pub mod Sums
 pub mod Lists
 pub mod Invariant
