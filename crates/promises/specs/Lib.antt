@@ -7,6 +7,7 @@ pub mod Extents
 pub mod Delivering
 pub mod Telling
 pub mod Reporting
+pub mod Level
 pub mod Sums
 pub mod Lists
 pub mod Invariant
