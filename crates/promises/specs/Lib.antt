@@ -8,6 +8,7 @@ pub mod Delivering
 pub mod Telling
 pub mod Reporting
 pub mod Level
+pub mod Judging
 pub mod Sums
 pub mod Lists
 pub mod Invariant
