@@ -56,7 +56,7 @@ module _ (s : Sheet) (g : Good s) (m r : ℕ) (receives : is-receive (op s r) �
       getD (delivered s m r bs) i 0 ≡ cond (within (area-start s r) (copied s m r) i) (getD (s .payload) (op s m .offset + (i - area-start s r)) 0) (getD bs i 0)
   unfolding delivered
   delivered-at sends i =
-      splice-at bs (area-start s r) (copied-bytes s m r) delivered-room i
+      splice-at bs (area-start s r) (copied-bytes s m r) (omega (arith, delivered-room)) i
       ∙ ap (λ (n : ℕ). cond (within (area-start s r) n i) (getD (copied-bytes s m r) (i - area-start s r) 0) (getD bs i 0)) (copied-length s g m r sends)
       ∙ go (within (area-start s r) (copied s m r) i) refl
     where

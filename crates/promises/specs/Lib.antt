@@ -9,6 +9,7 @@ pub mod Telling
 pub mod Reporting
 pub mod Level
 pub mod Judging
+pub mod Memory
 pub mod Sums
 pub mod Lists
 pub mod Invariant

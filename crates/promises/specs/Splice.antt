@@ -4,15 +4,17 @@
 --   splice-length   a splice inside keeps the length
 --   splice-at       each byte of a splice
 --   splice-swap     two splices commute
+--   Near            two lists, long enough, that agree on their first n bytes
+--   splice-near     and do so after the same splice
 use mathlib.Core.Path.{_≡_, refl, sym, ap, subst, _∙_}
 use mathlib.Core.Bool.{Bool, true, false, _&&_, cond}
 use mathlib.Core.List.{List, [], _∷_, _++_}
-use Prim.Native.Nat.{ℕ, zero, suc, _+_, _-_, _≤_, _<_}
+use Prim.Native.Nat.{ℕ, zero, suc, _+_, _-_, _≤_, _<_, min}
 use native.Mathlib.Omega.{arith}
 use native.Mathlib.Decide.{decLt, decLe}
 use lib.Dec.{ltb, leb}
 use borrow.Author.Tests.{leb-true, ltb-true, le-leb, lt-leb, lt-ltb, le-ltb}
-use lib.ListN.{length, getD, take, drop, length-append, length-drop, List·getD-append}
+use lib.ListN.{length, getD, take, drop, length-append, length-take, length-drop, List·getD-append}
 use lib.Seq.{length-take-le, getD-take, getD-drop, getD-append-add, ext-getD}
 use Rattle.rules.specs.Step.{splice}
 use Rattle.laws.specs.Tests.{and-left, and-right, and-both, not-so}
@@ -32,20 +34,30 @@ within-both at n i a b = and-both (le-leb at i a) (lt-ltb i (at + n) b)
 within-not : (at n i : ℕ) → (at ≤ i → i < at + n → ⊥) → within at n i ≡ false
 within-not at n i h = not-so (within at n i) (λ e. h (within-low at n i e) (within-high at n i e))
 
-module _ (bs : List ℕ) (at : ℕ) (vs : List ℕ) (room : at + length vs ≤ length bs) where
-  front-length : length (take at bs) ≡ at
-  front-length = length-take-le at bs (omega arith)
-
-  pub splice-length : length (splice bs at vs) ≡ length bs
+-- LENGTHS
+module _ (bs : List ℕ) (at : ℕ) (vs : List ℕ) where
+  splice-lengths : length (splice bs at vs) ≡ min at (length bs) + (length vs + (length bs - (at + length vs)))
   unfolding splice
-  splice-length =
+  splice-lengths =
       let rest = drop (at + length vs) bs in
-      omega (arith, length-append (take at bs) (vs ++ rest), length-append vs rest, front-length, length-drop (at + length vs) bs)
+      omega (arith, length-append (take at bs) (vs ++ rest), length-append vs rest, length-take at bs, length-drop (at + length vs) bs)
 
-  splice-before : (i : ℕ) → i < at → getD (splice bs at vs) i 0 ≡ getD bs i 0
+  pub splice-length : at + length vs ≤ length bs → length (splice bs at vs) ≡ length bs
+  splice-length room = omega (arith, splice-lengths)
+
+  -- no splice is shorter than what it goes into
+  splice-longer : length bs ≤ length (splice bs at vs)
+  splice-longer = omega (arith, splice-lengths)
+
+  splice-before : (i : ℕ) → i < at → i < length bs → getD (splice bs at vs) i 0 ≡ getD bs i 0
   unfolding splice
-  splice-before i h =
-      List·getD-append (take at bs) (vs ++ drop (at + length vs) bs) 0 i (omega (arith, front-length)) ∙ getD-take at bs i 0 h
+  splice-before i h l =
+      List·getD-append (take at bs) (vs ++ drop (at + length vs) bs) 0 i (omega (arith, length-take at bs)) ∙ getD-take at bs i 0 h
+
+-- BYTES of a splice that starts inside
+module _ (bs : List ℕ) (at : ℕ) (vs : List ℕ) (start : at ≤ length bs) where
+  front-length : length (take at bs) ≡ at
+  front-length = length-take-le at bs start
 
   -- past the front
   splice-behind : (i : ℕ) → at ≤ i → getD (splice bs at vs) i 0 ≡ getD (vs ++ drop (at + length vs) bs) (i - at) 0
@@ -76,7 +88,7 @@ module _ (bs : List ℕ) (at : ℕ) (vs : List ℕ) (room : at + length vs ≤ l
 
       go : Dec (i < at) → Dec (i < at + length vs) →
           getD (splice bs at vs) i 0 ≡ cond (within at (length vs) i) (getD vs (i - at) 0) (getD bs i 0)
-      go (yes a) _ = chosen false (within-not at (length vs) i (λ c d. omega arith)) (splice-before i a)
+      go (yes a) _ = chosen false (within-not at (length vs) i (λ c d. omega arith)) (splice-before bs at vs i a (omega arith))
       go (no a) (yes b) = chosen true (within-both at (length vs) i (omega arith) b) (splice-in i (omega arith) b)
       go (no a) (no b) = chosen false (within-not at (length vs) i (λ c d. omega arith)) (splice-after i (omega arith))
 
@@ -109,10 +121,10 @@ module _ (bs : List ℕ) (a : ℕ) (vs : List ℕ) (b : ℕ) (ws : List ℕ) (v-
     where
       byte : (i : ℕ) → getD (splice first-vs b ws) i 0 ≡ getD (splice first-ws a vs) i 0
       byte i =
-          splice-at first-vs b ws w-room-after i
-          ∙ ap (λ (z : ℕ). cond (within b (length ws) i) (getD ws (i - b) 0) z) (splice-at bs a vs v-room i)
+          splice-at first-vs b ws (omega (arith, w-room-after)) i
+          ∙ ap (λ (z : ℕ). cond (within b (length ws) i) (getD ws (i - b) 0) z) (splice-at bs a vs (omega arith) i)
           ∙ go (within a (length vs) i) refl (within b (length ws) i) refl
-          ∙ sym (splice-at first-ws a vs v-room-after i ∙ ap (λ (z : ℕ). cond (within a (length vs) i) (getD vs (i - a) 0) z) (splice-at bs b ws w-room i))
+          ∙ sym (splice-at first-ws a vs (omega (arith, v-room-after)) i ∙ ap (λ (z : ℕ). cond (within a (length vs) i) (getD vs (i - a) 0) z) (splice-at bs b ws (omega arith) i))
         where
           go : (t : Bool) → within a (length vs) i ≡ t → (u : Bool) → within b (length ws) i ≡ u →
               cond u (getD ws (i - b) 0) (cond t (getD vs (i - a) 0) (getD bs i 0)) ≡ cond t (getD vs (i - a) 0) (cond u (getD ws (i - b) 0) (getD bs i 0))
@@ -120,3 +132,40 @@ module _ (bs : List ℕ) (a : ℕ) (vs : List ℕ) (b : ℕ) (ws : List ℕ) (v-
               absurd (apart i (within-low a (length vs) i e) (within-high a (length vs) i e) (within-low b (length ws) i f) (within-high b (length ws) i f))
           go true e false f = refl
           go false e u f = refl
+
+-- THE FIRST n BYTES
+pub record Near (n : ℕ) (bs cs : List ℕ) : Type 0 where
+  pub long : n ≤ length bs
+  pub long-too : n ≤ length cs
+  pub same : take n bs ≡ take n cs
+
+near-byte : {n : ℕ} {bs cs : List ℕ} → Near n bs cs → (i : ℕ) → i < n → getD bs i 0 ≡ getD cs i 0
+near-byte {n} {bs} {cs} h i l = sym (getD-take n bs i 0 l) ∙ ap (λ (z : List ℕ). getD z i 0) (h .same) ∙ getD-take n cs i 0 l
+
+pub splice-near : {n : ℕ} {bs cs : List ℕ} → Near n bs cs → (at : ℕ) (vs : List ℕ) → Near n (splice bs at vs) (splice cs at vs)
+splice-near {n} {bs} {cs} h at vs =
+    record {
+      long = long;
+      long-too = long-too;
+      same =
+          ext-getD 0 (take n (splice bs at vs)) (take n (splice cs at vs))
+          (length-take-le n (splice bs at vs) long ∙ sym (length-take-le n (splice cs at vs) long-too))
+          (λ i l. taken i (omega (arith, length-take-le n (splice bs at vs) long)));
+    }
+  where
+    long : n ≤ length (splice bs at vs)
+    long = omega (arith, splice-longer bs at vs, h .long)
+
+    long-too : n ≤ length (splice cs at vs)
+    long-too = omega (arith, splice-longer cs at vs, h .long-too)
+
+    byte : (i : ℕ) → i < n → Dec (i < at) → getD (splice bs at vs) i 0 ≡ getD (splice cs at vs) i 0
+    byte i l (yes a) =
+        splice-before bs at vs i a (omega (arith, h .long)) ∙ near-byte h i l ∙ sym (splice-before cs at vs i a (omega (arith, h .long-too)))
+    byte i l (no a) =
+        splice-at bs at vs (omega (arith, h .long)) i
+        ∙ ap (λ (z : ℕ). cond (within at (length vs) i) (getD vs (i - at) 0) z) (near-byte h i l)
+        ∙ sym (splice-at cs at vs (omega (arith, h .long-too)) i)
+
+    taken : (i : ℕ) → i < n → getD (take n (splice bs at vs)) i 0 ≡ getD (take n (splice cs at vs)) i 0
+    taken i l = getD-take n (splice bs at vs) i 0 l ∙ byte i l (decLt i at) ∙ sym (getD-take n (splice cs at vs) i 0 l)
