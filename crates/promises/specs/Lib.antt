@@ -10,6 +10,7 @@ pub mod Reporting
 pub mod Level
 pub mod Judging
 pub mod Memory
+pub mod Calls
 pub mod Sums
 pub mod Lists
 pub mod Invariant
