@@ -1,7 +1,7 @@
 -- What a call of follow or run on a sheet that passes has said, once number 8 does not refuse it: the rooms suffice, the
 -- answer is the order's, and on success inbox and report hold what the job left. Assumes nothing.
 --   Follow-answer, follow-answer     of a call of follow
---   follow-left                      and of one that answered 0
+--   follow-accepted ..               and of one that answered 0
 --   Run-answer, run-answer           of a call of run
 --   front-report                     the report at the front of its room
 use mathlib.Core.Path.{_≡_, refl, sym, ap, subst, _∙_}
@@ -150,3 +150,37 @@ module _ {bs o : List ℕ} (p : passes bs ≡ true) (f : Follow-call bs o) where
     pub follow-report : f .report-now ≡ in-front (report (sheet-in bs) (left-by (sheet-in bs) o (f .inbox))) (f .report)
     unfolding Follow-says left-by
     follow-report = f .said .2 ∙ kept-new (follow-number .number) _ (f .report) number-zero
+
+-- RUN, which answers 0 where number 8 does not refuse it
+pub record Run-answer {bs : List ℕ} (f : Run-call bs) : Type 0 where
+  pub inbox-room : inbox-total (sheet-in bs) ≤ length (f .inbox)
+  pub number-zero : f .number ≡ 0
+  pub inbox-is : f .inbox-now ≡ run (sheet-in bs) (f .inbox) .end .memory
+  pub report-is : f .report-now ≡ in-front (report (sheet-in bs) (run (sheet-in bs) (f .inbox) .end)) (f .report)
+
+pub run-answer : {bs : List ℕ} → passes bs ≡ true → (f : Run-call bs) → Run-answer f
+unfolding Run-says told run-refusal refusal
+run-answer {bs} p f =
+    record {
+      inbox-room = enough .inbox;
+      number-zero = f .said .0 .0 ∙ all-zero;
+      inbox-is = f .said .1 ∙ kept-new (answer .number) _ (f .inbox) all-zero;
+      report-is = f .said .2 ∙ kept-new (answer .number) _ (f .report) all-zero;
+    }
+  where
+    answer : Refusal
+    answer = run-refusal bs (length (f .inbox)) (length (f .report)) (length (f .order)) (length (f .scratch))
+
+    run-rooms : Refusal
+    run-rooms = room-refusal (sheet-in bs) (length (f .inbox)) (length (f .report)) (length (f .order)) (length (f .scratch))
+
+    answer-rooms : answer ≡ run-rooms
+    answer-rooms = or-else-next (sheet-refusal bs) run-rooms (passed-number bs p)
+
+    enough : Rooms (sheet-in bs) (length (f .inbox)) (length (f .report)) (length (f .order)) (length (f .scratch))
+    enough =
+        rooms (sheet-in bs) (length (f .inbox)) (length (f .report)) (length (f .order)) (length (f .scratch))
+        (λ e. f .not-short (f .said .0 .0 ∙ ap (λ (z : Refusal). z .number) answer-rooms ∙ e))
+
+    all-zero : answer .number ≡ 0
+    all-zero = ap (λ (z : Refusal). z .number) (answer-rooms ∙ enough .accepts-all)

@@ -11,6 +11,7 @@ pub mod Level
 pub mod Judging
 pub mod Memory
 pub mod Calls
+pub mod Services
 pub mod Sums
 pub mod Lists
 pub mod Invariant
