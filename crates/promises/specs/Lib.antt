@@ -18,3 +18,6 @@ pub mod Queues
 pub mod Charging
 pub mod Ground
 pub mod Painting
+pub mod Same
+pub mod Turns
+pub mod Sound
