@@ -20,4 +20,5 @@ pub mod Ground
 pub mod Painting
 pub mod Same
 pub mod Turns
+pub mod Earliest
 pub mod Sound
