@@ -22,3 +22,4 @@ pub mod Same
 pub mod Turns
 pub mod Earliest
 pub mod Sound
+pub mod Start
