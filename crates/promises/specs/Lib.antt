@@ -23,3 +23,4 @@ pub mod Turns
 pub mod Earliest
 pub mod Sound
 pub mod Start
+pub mod Behind
