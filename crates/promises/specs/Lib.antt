@@ -24,3 +24,5 @@ pub mod Earliest
 pub mod Sound
 pub mod Start
 pub mod Behind
+pub mod After
+pub mod Like
