@@ -142,6 +142,14 @@ module _ {s : Sheet} {x y : Job} {r : ℕ} (n : Next s x r) where
 pub step-after : {s : Sheet} (g : Good s) {lent : List ℕ} {x : Job} → Reached s lent x → (r : ℕ) → able s x r ≡ true → After s x (step s r x) r
 step-after {s} g {lent} {x} R r a = let n = able-next s g x r a in after n (outcome s g lent x R r n)
 
+-- every step is counted
+pub step-counted : {s : Sheet} (g : Good s) {lent : List ℕ} {x : Job} → Reached s lent x → (r : ℕ) → able s x r ≡ true → step s r x .steps ≡ suc (x .steps)
+step-counted {s} g {lent} {x} R r a = go (step-after g R r a)
+  where
+    go : After s x (step s r x) r → step s r x .steps ≡ suc (x .steps)
+    go (goes-on e m) = m .steps-more
+    go (halts t e p k) = k
+
 -- where the board stands after a step that goes on
 unfoldable pub stand-on : (last : Bool) → (finished : ℕ) → ℕ
 stand-on last f = 2 * cond last (suc f) f + cond (not last) 1 0

@@ -66,11 +66,16 @@ pub record Behind {s : Sheet} {i j : List ℕ} {x y : Job} (X : Reached s i x) (
   pub places : (r : ℕ) → r < P-of s → stand x r ≤ stand y r
   pub order : Same-order s (X .came) x (Y .came) y
 
+-- what is entered goes by the places
+pub places-entered : {s : Sheet} → Good s → {x y : Job} → Placed s x → Placed s y → ((r : ℕ) → r < P-of s → stand x r ≤ stand y r) →
+    (k : ℕ) → Entered x k → Entered y k
+places-entered {s} g {x} {y} p q l k h =
+    let only = p .entered-only k h in
+    q .entered-if k (only .0) (omega (arith, only .1, stand-reach s x y (rank-of s k) (l (rank-of s k) (g .rank-small k (only .0)))))
+
 module _ {s : Sheet} (g : Good s) {i j : List ℕ} {x y : Job} (X : Reached s i x) (Y : Reached s j y) (B : Behind X Y) where
   pub behind-entered : (k : ℕ) → Entered x k → Entered y k
-  behind-entered k h =
-      let only = X .placed .entered-only k h in
-      Y .placed .entered-if k (only .0) (omega (arith, only .1, stand-reach s x y (rank-of s k) (B .places (rank-of s k) (g .rank-small k (only .0)))))
+  behind-entered = places-entered g (X .placed) (Y .placed) (B .places)
 
   pub behind-met : (m r : ℕ) → Met s x m r → Met s y m r
   behind-met =

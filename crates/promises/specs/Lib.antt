@@ -25,4 +25,5 @@ pub mod Sound
 pub mod Start
 pub mod Behind
 pub mod After
+pub mod Grew
 pub mod Like

@@ -29,8 +29,9 @@ use Rattle.promises.specs.Charging.{charge-same}
 use Rattle.promises.specs.Queues.{pending-receive-same}
 use Rattle.promises.specs.Moves.{Next, Moved, able-next}
 use Rattle.promises.specs.Sound.{Extended, step-sound}
-use Rattle.promises.specs.Behind.{stand, stand-finished, stand-waiting, Behind, still-able, level-rows}
-use Rattle.promises.specs.After.{stop-after, step-stop, After, goes-on, halts, step-after, finishing, stand-on, moved-stand, moved-stand-other, places-stand}
+use Rattle.promises.specs.Grew.{Grew, grew-step, grew-order}
+use Rattle.promises.specs.Behind.{stand, stand-finished, stand-waiting, Behind, still-able, level-rows, places-entered, behind-entered}
+use Rattle.promises.specs.After.{stop-after, step-stop, After, goes-on, halts, step-after, step-counted, finishing, stand-on, moved-stand, moved-stand-other, places-stand}
 
 pub record Like {s : Sheet} {i j : List ℕ} {x y : Job} (X : Reached s i x) (Y : Reached s j y) : Type 0 where
   pub stop : x .stop ≡ y .stop
@@ -142,3 +143,70 @@ module _ {s : Sheet} (g : Good s) {i j : List ℕ} {x y : Job} {X : Reached s i 
       step-stop s r x
       ∙ cc (same-next r l, same-half r l, same-room r l, same-found (next-op s y r), K .stop)
       ∙ sym (step-stop s r y)
+
+  -- ONE STEP, where there is room for the inboxes of both
+  module _ (A : Ground s) (room-x : inbox-total s ≤ length i) (room-y : inbox-total s ≤ length j) (r : ℕ) (a : able s x r ≡ true) (b : able s y r ≡ true) where
+    abbrev EX : Extended X (step s r x) (next-op s x r)
+    EX = step-sound g A room-x X r a
+
+    abbrev EY : Extended Y (step s r y) (next-op s y r)
+    EY = step-sound g A room-y Y r b
+
+    small : r < P-of s
+    small = able-next s g x r a .rank-small
+
+    step-places : (q : ℕ) → q < P-of s → stand (step s r x) q ≡ stand (step s r y) q
+    step-places q l = go (step-after g X r a) (step-after g Y r b)
+      where
+        moved : Moved x (step s r x) r (finishing s x r) → Moved y (step s r y) r (finishing s y r) → Dec (q ≡ r) → stand (step s r x) q ≡ stand (step s r y) q
+        moved m n (yes e) =
+            subst (λ (z : ℕ). stand (step s r x) z ≡ stand (step s r y) z) (sym e)
+            (moved-stand m ∙ ap (λ (k : ℕ). stand-on (finishing s x r) k) (same-finished r small)
+            ∙ ap (λ (c : Bool). stand-on c (place-at y r .finished)) (same-finishing r small) ∙ sym (moved-stand n))
+        moved m n (no d) = moved-stand-other m q d ∙ K .places q l ∙ sym (moved-stand-other n q d)
+
+        -- one cannot stop where the other goes on
+        apart : {o : Option Stop} {t : Stop} → o ≡ none → o ≡ some t → ⊥
+        apart p q = let z : _≡_ {A = ℕ} 0 1 = cc in omega arith
+
+        go : After s x (step s r x) r → After s y (step s r y) r → stand (step s r x) q ≡ stand (step s r y) q
+        go (goes-on p m) (goes-on o n) = moved m n (ℕ-discrete q r)
+        go (goes-on p m) (halts t o e k) = absurd (apart p (like-stop r small ∙ o))
+        go (halts t p e k) (goes-on o n) = absurd (apart o (sym (like-stop r small) ∙ p))
+        go (halts t p e k) (halts u o f n) = places-stand x (step s r x) e q ∙ K .places q l ∙ sym (places-stand y (step s r y) f q)
+
+    step-steps : step s r x .steps ≡ step s r y .steps
+    step-steps = counted X r a ∙ ap suc (K .steps) ∙ sym (counted Y r b)
+      where
+        counted : {l : List ℕ} {z : Job} (Z : Reached s l z) (r : ℕ) → able s z r ≡ true → step s r z .steps ≡ suc (z .steps)
+        counted Z r c = step-counted g Z r c
+
+    entered-on : (k : ℕ) → Entered (step s r x) k → Entered (step s r y) k
+    entered-on = places-entered g (EX .reached .placed) (EY .reached .placed) (λ q l. omega (arith, step-places q l))
+
+    entered-back : (k : ℕ) → Entered (step s r y) k → Entered (step s r x) k
+    entered-back = places-entered g (EY .reached .placed) (EX .reached .placed) (λ q l. omega (arith, step-places q l))
+
+    -- only one operation entered
+    one-entered : (k m : ℕ) → Entered (step s r x) k → Entered (step s r x) m → (Entered x k → ⊥) → (Entered x m → ⊥) → k ≢ m → ⊥
+    one-entered k m hk hm out gone d = go (ℕ-discrete k (next-op s x r)) (ℕ-discrete m (next-op s x r))
+      where
+        go : Dec (k ≡ next-op s x r) → Dec (m ≡ next-op s x r) → ⊥
+        go (no c) _ = out (EX .back k c hk)
+        go (yes c) (no e) = gone (EX .back m e hm)
+        go (yes c) (yes e) = d (c ∙ sym e)
+
+    pub like-step : Like (EX .reached) (EY .reached)
+    like-step =
+        record {
+          stop = like-stop r small;
+          steps = step-steps;
+          places = step-places;
+          order =
+              grew-order (grew-step EX) (grew-step EY) (behind-entered g X Y like-behind) (behind-entered g Y X like-ahead) entered-back (K .order)
+              (λ k m q sk sm rq fk fm hk hm out gone d. one-entered k m (entered-back k hk) hm out gone d);
+          order-back =
+              grew-order (grew-step EY) (grew-step EX) (behind-entered g Y X like-ahead) (behind-entered g X Y like-behind) entered-on (K .order-back)
+              (λ k m q sk sm rq fk fm hk hm out gone d.
+              one-entered k m hk (entered-back m hm) (λ h. out (behind-entered g X Y like-behind k h)) (λ h. gone (behind-entered g X Y like-behind m h)) d);
+        }
