@@ -27,3 +27,4 @@ pub mod Behind
 pub mod After
 pub mod Grew
 pub mod Like
+pub mod Orders
