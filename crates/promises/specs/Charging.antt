@@ -89,6 +89,10 @@ charging-enters s {x} {y} {i} r q n E l mine e told =
     go true ea false eb sums zero-before = omega (arith, sums, zero-before, charge-now true ea false eb, told)
     go false ea b eb sums zero-before = omega (arith, sums, zero-before, charge-now false ea b eb, told)
 
+pub unmatched-wait : (s : Sheet) (i : ℕ) → is-wait (op s i) ≡ true → unmatched-state (op s i) ≡ 5
+unfolding unmatched-state
+unmatched-wait s i e = ap (λ (c : Bool). cond c 5 (cond (is-buffered (op s i)) 2 1)) e
+
 pub unmatched-receive : (s : Sheet) (r : ℕ) → is-receive (op s r) ≡ true → unmatched-state (op s r) ≡ 1
 unfolding unmatched-state
 unmatched-receive s r e =

@@ -13,11 +13,16 @@ use Rattle.rules.specs.Step.{fits-with}
 use Rattle.promises.specs.Kinds.{fit-one-board}
 use Rattle.promises.specs.Invariant.{Entered, state-at, partner-at, Pending-message, Pending-receive, Met, Stable, Arrived}
 
+-- of messages that one receive could take, what came before one of x's messages in y came before it in x
+abbrev pub Same-order : Sheet → (ℕ → ℕ) → Job → (ℕ → ℕ) → Job → Type 0
+Same-order s cx x cy y =
+    (k m r : ℕ) → is-send (op s k) ≡ true → is-send (op s m) ≡ true → is-receive (op s r) ≡ true → fits-with s k r ≡ true → fits-with s m r ≡ true →
+    Entered x m → Entered y k → cy k < cy m → Entered x k × (cx k < cx m)
+
 -- x is within y: see above. `cx` and `cy` give the order of arrival in each
 pub record Within (s : Sheet) (cx : ℕ → ℕ) (x : Job) (cy : ℕ → ℕ) (y : Job) : Type 0 where
   pub entered : (j : ℕ) → Entered x j → Entered y j
-  pub order : (k m r : ℕ) → is-send (op s k) ≡ true → is-send (op s m) ≡ true → fits-with s k r ≡ true → fits-with s m r ≡ true →
-      Entered x m → Entered y k → cy k < cy m → Entered x k × (cx k < cx m)
+  pub order : Same-order s cx x cy y
 
 -- on one board everything before an entered operation is entered
 abbrev pub Prefix : Sheet → Job → Type 0
@@ -61,7 +66,7 @@ module _ (s : Sheet) (cx : ℕ → ℕ) (x : Job) (cy : ℕ → ℕ) (y : Job) (
           let t = Y .first-sent k r m b (a .sends) (W .entered m m-there) l (a .fit) in
           keep-no-earlier m r (partner-at y m) below a (Y .message-met m (a .sends) (t .0)) (t .1)
       go (no n) (yes l) =
-          let w = W .order k m r (b .sends) (a .sends) (b .fit) (a .fit) m-there k-there l in
+          let w = W .order k m r (b .sends) (a .sends) (a .receives) (b .fit) (a .fit) m-there k-there l in
           let t = X .first-sent m r k a (b .sends) (w .0) (w .1) (b .fit) in
           let e : partner-at x k ≡ r = met-receive-same (below k (partner-at x k) (t .1) (X .message-met k (b .sends) (t .0))) b in
           omega (arith, t .1)

@@ -30,3 +30,13 @@ pub mod Queues
 pub mod Charging
 pub mod Ground
 pub mod Painting
+pub mod Same
+pub mod Turns
+pub mod Earliest
+pub mod Sound
+pub mod Start
+pub mod Behind
+pub mod After
+pub mod Grew
+pub mod Like
+pub mod Orders

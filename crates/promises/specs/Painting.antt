@@ -72,6 +72,12 @@ painted-same s x y (suc n) bs h =
 pub painted-rows : (s : Sheet) (x y : Job) (n : ℕ) (bs : List ℕ) → ((j : ℕ) → entry-at y j ≡ entry-at x j) → painted s y n bs ≡ painted s x n bs
 painted-rows s x y n bs h = painted-same s x y n bs (λ j cs l. paint-same s x y j cs (h j))
 
+-- where nothing is matched, nothing is painted
+pub painted-none : (s : Sheet) (x : Job) (n : ℕ) (bs : List ℕ) → ((j : ℕ) → state-at x j ≡ 3 → ⊥) → painted s x n bs ≡ bs
+unfolding painted
+painted-none s x zero bs h = refl
+painted-none s x (suc n) bs h = paint-none s x n (painted s x n bs) (λ a b. h n b) ∙ painted-none s x n bs h
+
 -- what enters unmatched paints nothing
 pub painted-enters : (s : Sheet) {x y : Job} {i v : ℕ} (n : ℕ) (bs : List ℕ) → Enters x y i v → painted s y n bs ≡ painted s x n bs
 painted-enters s {x} {y} {i} {v} n bs E = painted-same s x y n bs (λ j cs l. at j cs (ℕ-discrete j i))

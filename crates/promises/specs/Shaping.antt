@@ -18,7 +18,7 @@ use Rattle.promises.specs.Invariant.{Entered, state-at, partner-at, row-
 use Rattle.promises.specs.Changes.{Enters, Matches, state-same, partner-same, state-name, enters-state, matches-message-state, matches-receive-state, matches-met}
 
 -- the three rows
-row-bare : (s : Sheet) (j v p : ℕ) → v ≢ 3 → row-of s j v p ≡ bare-entry v
+pub row-bare : (s : Sheet) (j v p : ℕ) → v ≢ 3 → row-of s j v p ≡ bare-entry v
 unfolding row-of
 row-bare s j v p d =
     ap
