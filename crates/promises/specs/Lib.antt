@@ -9,9 +9,11 @@ pub mod Telling
 pub mod Reporting
 pub mod Level
 pub mod Judging
+pub mod Using
 pub mod Memory
 pub mod Calls
 pub mod Services
+pub mod Kept
 pub mod Sums
 pub mod Lists
 pub mod Invariant
