@@ -14,6 +14,7 @@ pub mod Memory
 pub mod Calls
 pub mod Services
 pub mod Kept
+pub mod Likeness
 pub mod Sums
 pub mod Lists
 pub mod Invariant
