@@ -2,8 +2,8 @@
 //!
 //! The library is made by `rt staticlib jamturret` at the repository root and
 //! stands in target/staticlib there. The environment variable
-//! JAMTURRET_LIB_DIR names another folder, for instance one with a stand-in
-//! library that is broken on purpose to try the differential tests.
+//! JAMTURRET_LIB_DIR names another folder (relative to host/), for instance one
+//! with a stand-in library that is broken on purpose to try the tests.
 
 use std::env;
 use std::path::PathBuf;

@@ -174,7 +174,7 @@ pub fn set_word(sheet: &mut [u8], at: usize, value: u16) {
     sheet[at..at + 2].copy_from_slice(&value.to_le_bytes());
 }
 
-/// Adds to a field, round the corner of 16 bits.
+/// Adds to a field, modulo 65,536.
 pub fn add_word(sheet: &mut [u8], at: usize, amount: i32) {
     let value = i32::from(word(sheet, at)) + amount;
     set_word(sheet, at, value as u16);

@@ -141,7 +141,7 @@ fn run_is_a_followed_order() {
 #[test]
 fn whole_orders_end_alike() {
     for (mut sheet, mut random) in accepted(12, 3000) {
-        tame(&mut sheet);
+        bring_under_claim(&mut sheet);
         let mut ran = Desk::for_sheet(&sheet);
         assert_eq!(ran.run(&sheet), Answer::SUCCESS);
         let mut order = Vec::new();
@@ -164,7 +164,7 @@ fn whole_orders_end_alike() {
 fn neighbours_exchanged() {
     let mut exchanged = 0;
     for (mut sheet, mut random) in accepted(13, 3000) {
-        tame(&mut sheet);
+        bring_under_claim(&mut sheet);
         let boards = usize::from(word(&sheet, 0));
         let mut order = Vec::new();
         loop {
@@ -199,7 +199,7 @@ fn end(sheet: &[u8], order: &[u8]) -> (Answer, (Vec<u8>, Vec<u8>)) {
 }
 
 /// Makes a sheet one that the claim speaks of.
-fn tame(sheet: &mut [u8]) {
+fn bring_under_claim(sheet: &mut [u8]) {
     let boards = usize::from(word(sheet, 0));
     for rank in 0..boards {
         set_word(sheet, board_at(rank) + board::ATTACHED, 16_384);

@@ -124,10 +124,10 @@ crc-byte-by-table c b h l =
     let split : hi * 256 + lo ≡ c = omega arith in
     let wide : b * 256 + 0 ≡ 256 * b = omega arith in
     let mixed : xor 16 c (256 * b) ≡ k * 256 + lo =
-          sym (xor-is 16 c (256 * b) h (omega arith))
-          ∙ (ap₂ bitXor (sym split) (sym wide) ∙ (xor-block 8 hi b lo 0 (omega arith) (omega arith) ∙ ap (λ (n : ℕ). k * 256 + n) (xor-zero-r lo))) in
+    sym (xor-is 16 c (256 * b) h (omega arith))
+    ∙ (ap₂ bitXor (sym split) (sym wide) ∙ (xor-block 8 hi b lo 0 (omega arith) (omega arith) ∙ ap (λ (n : ℕ). k * 256 + n) (xor-zero-r lo))) in
     let apart : k * 256 + lo ≡ xor 16 (256 * k) lo =
-          sym (xor-shifted k 8 lo (omega arith)) ∙ (xor-is 16 (k * 256) lo (omega arith) (omega arith) ∙ ap (λ (n : ℕ). xor 16 n lo) (omega arith)) in
+    sym (xor-shifted k 8 lo (omega arith)) ∙ (xor-is 16 (k * 256) lo (omega arith) (omega arith) ∙ ap (λ (n : ℕ). xor 16 n lo) (omega arith)) in
     ap (λ (n : ℕ). shifts 8 n) (mixed ∙ apart)
     ∙ (shifts-sum 8 (256 * k) lo (omega arith) (omega arith)
     ∙ (xor-comm 16 (shifts 8 (256 * k)) (shifts 8 lo)
@@ -153,5 +153,5 @@ crc-from-more c xs i h = rw (add-one, drop-cons xs i 0)
 pub crc-turn : (c : ℕ) (xs : List ℕ) (i v w : ℕ) → c < 65536 → i < length xs → v ≡ getD xs i 0 → v < 256 → w ≡ remainder (bitXor (c / 256) v) → (bitXor (c % 256 * 256) w < 65536) × (crc-from c (drop i xs) ≡ crc-from (bitXor (c % 256 * 256) w) (drop (i + 1) xs))
 crc-turn c xs i v w h l ev lv ew =
     let same : crc-byte c (getD xs i 0) ≡ bitXor (c % 256 * 256) w =
-          ap (λ (n : ℕ). crc-byte c n) (sym ev) ∙ (crc-byte-by-table c v h lv ∙ ap (λ (n : ℕ). bitXor (c % 256 * 256) n) (sym ew)) in
+    ap (λ (n : ℕ). crc-byte c n) (sym ev) ∙ (crc-byte-by-table c v h lv ∙ ap (λ (n : ℕ). bitXor (c % 256 * 256) n) (sym ew)) in
     (subst (λ (n : ℕ). n < 65536) same (crc-byte-bound c (getD xs i 0)), crc-from-more c xs i l ∙ ap (λ (n : ℕ). crc-from n (drop (i + 1) xs)) same)

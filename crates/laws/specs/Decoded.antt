@@ -6,7 +6,7 @@ use Prim.Native.Nat.{ℕ, zero, suc, _+_, _*_, _<_, _≤_, _-_, min}
 use native.Mathlib.Omega.{arith}
 use lib.ListN.{length, getD, take, drop, length-take, length-drop}
 use Rattle.rules.specs.Limits.{boards-at, ops-at, payload-at, sheet-size}
-use Rattle.rules.specs.Sheet.{Op, Board, op, board, P-of, N-of, op-in, ops-in, board-in, boards-in, sheet-in, P-in, N-in, L-in, no-op, no-board}
+use Rattle.rules.specs.Sheet.{Op, Board, op, board, P-of, N-of, op-in, ops-in, board-in, boards-in, sheet-in, P-in, C-in, N-in, L-in, no-op, no-board}
 
 pub ops-in-length : (bs : List ℕ) (n at : ℕ) → length (ops-in bs n at) ≡ n
 unfolding ops-in
@@ -48,6 +48,10 @@ module _ (bs : List ℕ) where
   pub board-decoded : (r : ℕ) → r < P-in bs → board (sheet-in bs) r ≡ board-in bs (boards-at + 8 * r)
   unfolding board sheet-in
   board-decoded r h = boards-in-at bs (P-in bs) boards-at r h
+
+  pub comms-decoded : sheet-in bs .comms ≡ C-in bs
+  unfolding sheet-in
+  comms-decoded = refl
 
   -- the payload is whole where the sheet's length is right
   pub payload-decoded : length bs ≡ sheet-size (P-in bs) (N-in bs) (L-in bs) → length (sheet-in bs .payload) ≡ L-in bs

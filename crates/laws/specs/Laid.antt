@@ -28,11 +28,11 @@ laid bs z y =
     let n = leb (N-in bs) most-ops && leb (L-in bs) most-payload in
     let pc = and-left (p && c) n z in
     let offsets = (eqb (two bs 6) boards-at && eqb (two bs 8) (ops-at (P-in bs))) && eqb (two bs 10) (payload-at (P-in bs) (N-in bs)) in
-    record
-      { some-board = leb-true 1 (P-in bs) (and-left (leb 1 (P-in bs)) (leb (P-in bs) most-boards) (and-left p c pc))
-      ; few-boards = leb-true (P-in bs) most-boards (and-right (leb 1 (P-in bs)) (leb (P-in bs) most-boards) (and-left p c pc))
-      ; few-comms = leb-true (C-in bs) most-comms (and-right (leb 1 (C-in bs)) (leb (C-in bs) most-comms) (and-right p c pc))
-      ; few-ops = leb-true (N-in bs) most-ops (and-left (leb (N-in bs) most-ops) (leb (L-in bs) most-payload) (and-right (p && c) n z))
-      ; short-payload = leb-true (L-in bs) most-payload (and-right (leb (N-in bs) most-ops) (leb (L-in bs) most-payload) (and-right (p && c) n z))
-      ; whole = eqb-true (length bs) (sheet-size (P-in bs) (N-in bs) (L-in bs)) (and-right offsets (eqb (length bs) (sheet-size (P-in bs) (N-in bs) (L-in bs))) y)
-      }
+    record {
+      some-board = leb-true 1 (P-in bs) (and-left (leb 1 (P-in bs)) (leb (P-in bs) most-boards) (and-left p c pc));
+      few-boards = leb-true (P-in bs) most-boards (and-right (leb 1 (P-in bs)) (leb (P-in bs) most-boards) (and-left p c pc));
+      few-comms = leb-true (C-in bs) most-comms (and-right (leb 1 (C-in bs)) (leb (C-in bs) most-comms) (and-right p c pc));
+      few-ops = leb-true (N-in bs) most-ops (and-left (leb (N-in bs) most-ops) (leb (L-in bs) most-payload) (and-right (p && c) n z));
+      short-payload = leb-true (L-in bs) most-payload (and-right (leb (N-in bs) most-ops) (leb (L-in bs) most-payload) (and-right (p && c) n z));
+      whole = eqb-true (length bs) (sheet-size (P-in bs) (N-in bs) (L-in bs)) (and-right offsets (eqb (length bs) (sheet-size (P-in bs) (N-in bs) (L-in bs))) y);
+    }

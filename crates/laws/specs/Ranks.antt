@@ -71,7 +71,7 @@ rank-from-least q (b ∷ bs) zero i h past = go (rank-from-least (suc q) bs zero
     go ih false = omega arith
 rank-from-least q (b ∷ bs) (suc k) i h past =
     rw (cond-false (ltb i (b .first + b .count)) q (rank-from (suc q) bs i) (le-ltb i (b .first + b .count) (past 0 (omega arith))))
-       (let ih = rank-from-least (suc q) bs k i (omega arith) (λ j l. past (suc j) (omega arith)) in omega arith)
+    (let ih = rank-from-least (suc q) bs k i (omega arith) (λ j l. past (suc j) (omega arith)) in omega arith)
 
 -- a rank that is a board's: the operation lies before the end of that board's script
 rank-from-end : (q : ℕ) (bs : List Board) (i k : ℕ) → rank-from q bs i ≡ q + k → k < length bs → i < script-end bs k

@@ -40,23 +40,28 @@ or-else-second a b h = go (eqb (a .number) 0) refl h
 pub tabled : (s : Sheet) → boards-refusal s .number ≡ 0 → Tabled s
 unfolding boards-refusal board-good refusal
 tabled s h =
-    record
-      { consecutive = λ r l. eqb-true (board s r .first) (counts-before s r) (and-left (eqb (board s r .first) (counts-before s r)) (rest r) (good r l))
-      ; total = counted
-      ; attached-most = λ r l. leb-true (board s r .attached) most-attached (and-left (leb (board s r .attached) most-attached) (leb (inbox-start s (suc r)) most-inbox) (sizes r l))
-      ; inbox-most = λ r l. leb-true (inbox-start s (suc r)) most-inbox (and-right (leb (board s r .attached) most-attached) (leb (inbox-start s (suc r)) most-inbox) (sizes r l))
-      }
+    record {
+      consecutive = λ r l. eqb-true (board s r .first) (counts-before s r) (and-left (eqb (board s r .first) (counts-before s r)) (rest r) (good r l));
+      total = counted;
+      attached-most = λ r l. leb-true (board s r .attached) most-attached (and-left (leb (board s r .attached) most-attached) (leb (inbox-start s (suc r)) most-inbox) (sizes r l));
+      inbox-most = λ r l. leb-true (inbox-start s (suc r)) most-inbox (and-right (leb (board s r .attached) most-attached) (leb (inbox-start s (suc r)) most-inbox) (sizes r l));
+    }
   where
     all : Refusal
     all = first-broken 5 (board-good s) (P-of s) 0
+
     sum : Refusal
     sum = cond (eqb (counts-before s (P-of s)) (N-of s)) accepted (refusal 5 (P-of s))
+
     rest : ℕ → Bool
     rest r = leb (board s r .attached) most-attached && leb (inbox-start s (suc r)) most-inbox
+
     good : (r : ℕ) → r < P-of s → (eqb (board s r .first) (counts-before s r) && rest r) ≡ true
     good r l = broken-passed 5 (board-good s) (P-of s) 0 (λ z. absurd (omega arith)) (or-else-first all sum h) r (omega arith) (omega arith)
+
     sizes : (r : ℕ) → r < P-of s → rest r ≡ true
     sizes r l = and-right (eqb (board s r .first) (counts-before s r)) (rest r) (good r l)
+
     counted : counts-before s (P-of s) ≡ N-of s
     counted = go (eqb (counts-before s (P-of s)) (N-of s)) refl (or-else-second all sum h)
       where

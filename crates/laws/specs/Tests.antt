@@ -67,3 +67,9 @@ cond-true false x y h = true-not-false h refl
 pub cond-false : {A : Type 0} (b : Bool) (x y : A) → b ≡ false → cond b x y ≡ y
 cond-false true x y h = true-not-false refl h
 cond-false false x y h = refl
+
+-- a choice between two tests, as a formula
+pub cond-formula : (b x y : Bool) → cond b x y ≡ (b && x || not b && y)
+cond-formula true true y = refl
+cond-formula true false y = refl
+cond-formula false x y = refl

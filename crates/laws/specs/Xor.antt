@@ -37,7 +37,7 @@ xor-assoc (suc k) a b c =
     let u : ℕ = xor (suc k) a b in
     let v : ℕ = xor (suc k) b c in
     let e : xor k (u / 2) (c / 2) ≡ xor k (a / 2) (v / 2) =
-          ap (λ (n : ℕ). xor k n (c / 2)) (xor-high k a b) ∙ (xor-assoc k (a / 2) (b / 2) (c / 2) ∙ ap (λ (n : ℕ). xor k (a / 2) n) (sym (xor-high k b c))) in
+    ap (λ (n : ℕ). xor k n (c / 2)) (xor-high k a b) ∙ (xor-assoc k (a / 2) (b / 2) (c / 2) ∙ ap (λ (n : ℕ). xor k (a / 2) n) (sym (xor-high k b c))) in
     let p = xor-low k a b in
     let q = xor-low k b c in
     xor-parts k u c ∙ (ap₂ (λ (x y : ℕ). x + 2 * y) (low u v p q) e ∙ sym (xor-parts k a v))

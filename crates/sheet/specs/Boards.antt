@@ -26,14 +26,14 @@ pub record Walked (s : Sheet) (r sum total : ℕ) : Type 0 where
 
 pub walked-none : (s : Sheet) → Walked s 0 0 0
 walked-none s =
-    record
-      { within = omega arith
-      ; sum-is = sym (counts-none s)
-      ; total-is = sym (inbox-start-none s)
-      ; small = omega arith
-      ; fits = omega arith
-      ; left = ap (λ (n : ℕ). first-broken 5 (board-good s) n 0) (omega arith)
-      }
+    record {
+      within = omega arith;
+      sum-is = sym (counts-none s);
+      total-is = sym (inbox-start-none s);
+      small = omega arith;
+      fits = omega arith;
+      left = ap (λ (n : ℕ). first-broken 5 (board-good s) n 0) (omega arith);
+    }
 
 module _ (s : Sheet) (r sum total : ℕ) (w : Walked s r sum total) (h : r < P-of s) where
   -- the test of an entry, as the walk makes it, is the definition's
@@ -48,17 +48,18 @@ module _ (s : Sheet) (r sum total : ℕ) (w : Walked s r sum total) (h : r < P-o
       let counts = counts-more s r h in
       let starts = inbox-start-more s r h in
       let one : r + 1 ≡ suc r = add-one r in
-      record
-        { within = omega arith
-        ; sum-is = subst (λ (n : ℕ). sum + c ≡ counts-before s n) (sym one) (sum-grown counts)
-        ; total-is = subst (λ (n : ℕ). t ≡ inbox-start s n) (sym one) (total-grown starts)
-        ; small = let m = w .small in omega arith
-        ; fits = leb-true t 16384 (and-right (leb a 16384) (leb t 16384) (and-right (eqb f sum) (leb a 16384 && leb t 16384) good))
-        ; left = w .left ∙ (broken-more 5 (board-good s) (P-of s - r) r (omega arith) (sym (entry-test f a t ef ea et) ∙ good) ∙ ap (λ (n : ℕ). first-broken 5 (board-good s) n (r + 1)) (omega arith))
-        }
+      record {
+        within = omega arith;
+        sum-is = subst (λ (n : ℕ). sum + c ≡ counts-before s n) (sym one) (sum-grown counts);
+        total-is = subst (λ (n : ℕ). t ≡ inbox-start s n) (sym one) (total-grown starts);
+        small = let m = w .small in omega arith;
+        fits = leb-true t 16384 (and-right (leb a 16384) (leb t 16384) (and-right (eqb f sum) (leb a 16384 && leb t 16384) good));
+        left = w .left ∙ (broken-more 5 (board-good s) (P-of s - r) r (omega arith) (sym (entry-test f a t ef ea et) ∙ good) ∙ ap (λ (n : ℕ). first-broken 5 (board-good s) n (r + 1)) (omega arith));
+      }
     where
       sum-grown : counts-before s (suc r) ≡ counts-before s r + board s r .count → sum + c ≡ counts-before s (suc r)
       sum-grown e = let m = w .sum-is in omega arith
+
       total-grown : inbox-start s (suc r) ≡ inbox-start s r + board s r .inbox → t ≡ inbox-start s (suc r)
       total-grown e = let m = w .total-is in omega arith
 

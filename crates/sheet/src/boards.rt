@@ -6,7 +6,6 @@ ghost use Rattle.rules.specs.Sheet.{sheet-in, board, P-in};
 ghost use Rattle.rules.specs.Refusal.{boards-refusal};
 ghost use Rattle.rules.specs.Service.{told};
 ghost use Rattle.laws.specs.Laid.{Laid};
-
 use crate::Answer;
 use crate::header;
 

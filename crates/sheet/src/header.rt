@@ -5,7 +5,6 @@ ghost use lib.ListN.{length};
 ghost use Rattle.rules.specs.Limits.{header-size};
 ghost use Rattle.rules.specs.Sheet.{two, P-in, C-in, N-in, L-in};
 ghost use Rattle.rules.specs.Refusal.{sizes-good, layout-good, crc-good};
-
 use crate::crc;
 
 // P, the number of boards.

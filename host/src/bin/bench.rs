@@ -1,14 +1,18 @@
 //! `bench [ROUNDS]`: the time of the library's *check* beside our judge's, on
 //! the largest sheets and on a small one. Both are asked in turn, in one run.
+//!
+//! The judge beside itself gives 1.00. The judge beside a second build of its
+//! own source gave 0.89 to 1.02, so a ratio from 0.85 to 1.15 does not tell
+//! the two apart.
 
 use jamturret_host::answer::Answer;
 use jamturret_host::layout::kind::STANDARD;
 use jamturret_host::layout::{MOST_BOARDS, MOST_PAYLOAD, SLOTS};
 use jamturret_host::sheet::{Board, Operation, Sheet};
 use jamturret_host::{bench_jobs, ffi, judge};
-use std::env;
 use std::hint::black_box;
 use std::time::Instant;
+use std::{env, process};
 
 const ROUNDS: usize = 300;
 /// Operations a board: 1,024 on sixteen boards.
@@ -16,36 +20,20 @@ const SCRIPT: usize = 64;
 const INBOX: u16 = 1024;
 
 fn main() {
+    if cfg!(debug_assertions) {
+        eprintln!("bench: times say something only with --release");
+        process::exit(2);
+    }
     let rounds = env::args().nth(1).and_then(|text| text.parse().ok());
     let rounds = rounds.unwrap_or(ROUNDS).max(1);
-    let held = |slot: u16| area(slot).nonblocking(slot);
-    let sheets = [
-        ("blocking, 1,024 operations", 1, full(blocking)),
-        (
-            "32 receives, 32 waits a board",
-            1,
-            full(|index| match index < SLOTS {
-                true => held(index as u16),
-                false => Operation::wait((index - SLOTS) as u16),
-            }),
-        ),
-        (
-            "32 held, 32 blocking a board",
-            1,
-            full(|index| match index < SLOTS {
-                true => held(index as u16),
-                false => area(index as u16),
-            }),
-        ),
-        ("case 1", 500, bench_jobs::case_1()),
-    ];
     println!("check, median of {rounds} rounds, library and judge in turn;");
     println!("both sides are release builds and the buffers were warm.");
+    println!("A ratio from 0.85 to 1.15 does not tell the two apart.");
     println!(
         "{:<32}{:>8}{:>14}{:>14}{:>8}",
         "sheet", "bytes", "library ns", "judge ns", "ratio"
     );
-    for (name, calls, sheet) in sheets {
+    for (name, calls, sheet) in sheets() {
         let bytes = sheet.bytes();
         let (library, judge) = medians(&bytes, rounds, calls);
         let ratio = library / judge;
@@ -54,6 +42,23 @@ fn main() {
             bytes.len()
         );
     }
+}
+
+/// Name, calls a measurement (a short call is made often), sheet.
+fn sheets() -> [(&'static str, usize, Sheet); 4] {
+    let then = |after: fn(u16) -> Operation| {
+        full(move |index| match index < SLOTS {
+            true => area(index as u16).nonblocking(index as u16),
+            false => after(index as u16),
+        })
+    };
+    let waits = then(|index| Operation::wait(index - SLOTS as u16));
+    [
+        ("blocking, 1,024 operations", 1, full(blocking)),
+        ("32 receives, 32 waits a board", 1, waits),
+        ("32 held, 32 blocking a board", 1, then(area)),
+        ("case 1", 500, bench_jobs::case_1()),
+    ]
 }
 
 /// Sixteen boards with the same script and the largest payload.

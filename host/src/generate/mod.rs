@@ -6,14 +6,14 @@
 //! - `script`: right scripts for a board.
 //! - `valid`: whole right sheets.
 //! - `damage`: one wrong field, or one at the edge of its range.
+//! - `garbage`: random bytes, truncations, extensions, random fields.
 //! - `requests`: slots and areas just right and just wrong.
 //! - `limits`: both sides of every limit, the sheet otherwise right.
-//! - `rough`: garbage, truncations, extensions, random fields.
 
 mod damage;
+mod garbage;
 mod limits;
 mod requests;
-mod rough;
 mod script;
 mod size;
 mod valid;
@@ -36,7 +36,7 @@ pub const KINDS: [(&str, usize, Generator); 14] = [
     ("offset or length", 6, |random| {
         damaged(random, &[damage::offset_or_length])
     }),
-    ("crc", 6, |random| damage::crc(random)),
+    ("crc", 6, damage::crc),
     ("board entry", 10, |random| {
         damaged(random, &[damage::board])
     }),
@@ -45,8 +45,8 @@ pub const KINDS: [(&str, usize, Generator); 14] = [
     }),
     ("slots and areas", 14, requests::pair),
     ("several faults", 8, several_faults),
-    ("truncated or extended", 3, rough::truncated_or_extended),
-    ("garbage", 4, rough::garbage),
+    ("truncated or extended", 3, garbage::truncated_or_extended),
+    ("garbage", 4, garbage::any),
 ];
 
 /// Case number `case` of a seed: its kind (an index into `KINDS`) and sheet.

@@ -57,8 +57,8 @@ returns c =
     let s = c .before .before .before .before .before .before .before .before .args .s .now in
     let l = c .before .before .before .before .before .loop in
     walked-bad (sheet-in s) (l .r) (l .sum) (l .total) (l .inv) (omega (arith, P-decoded s)) (c .before .before .first .result) (c .before .attached .result)
-      (l .total + c .before .before .before .inbox .result) (c .before .before .first .ensures .0) (c .before .attached .ensures .0) (ap (λ (n : ℕ). l .total + n) (c .before .before .before .inbox .ensures .0))
-      (not-true _ (c .if1 .taken))
+    (l .total + c .before .before .before .inbox .result) (c .before .before .first .ensures .0) (c .before .attached .ensures .0) (ap (λ (n : ℕ). l .total + n) (c .before .before .before .inbox .ensures .0))
+    (not-true _ (c .if1 .taken))
 
 -- src/boards.rt:62:16
 count-requires : tie.Need-count-requires Inv-loop μ-loop
@@ -82,8 +82,8 @@ loop-again c =
     let s = c .before .before .before .before .before .before .before .before .before .args .s .now in
     let l = c .before .before .before .before .before .before .loop in
     walked-more (sheet-in s) (l .r) (l .sum) (l .total) (l .inv) (omega (arith, P-decoded s)) (c .before .before .before .first .result) (c .before .before .attached .result)
-      (l .total + c .before .before .before .before .inbox .result) (c .count .result) (c .before .before .before .first .ensures .0) (c .before .before .attached .ensures .0)
-      (ap (λ (n : ℕ). l .total + n) (c .before .before .before .before .inbox .ensures .0)) (c .count .ensures .0) (c .count .ensures .1) (not-false _ (c .before .if1 .left))
+    (l .total + c .before .before .before .before .inbox .result) (c .count .result) (c .before .before .before .first .ensures .0) (c .before .before .attached .ensures .0)
+    (ap (λ (n : ℕ). l .total + n) (c .before .before .before .before .inbox .ensures .0)) (c .count .ensures .0) (c .count .ensures .1) (not-false _ (c .before .if1 .left))
 
 -- src/boards.rt:65:15
 ops-requires : tie.Need-ops-requires Inv-loop μ-loop
@@ -96,7 +96,7 @@ returns-2 c =
     let l = c .before .before .before .loop in
     let last : l .r ≡ P-of (sheet-in s) = omega (arith, P-decoded s) in
     walked-total (sheet-in s) (l .sum) (l .total) (subst (λ (n : ℕ). Walked (sheet-in s) n (l .sum) (l .total)) last (l .inv))
-      (c .if2 .taken ∙ (c .before .ops .ensures .0 ∙ sym (N-decoded s)))
+    (c .if2 .taken ∙ (c .before .ops .ensures .0 ∙ sym (N-decoded s)))
 
 -- src/boards.rt:46:1
 returns-3 : tie.Need-returns-3 Inv-loop μ-loop
@@ -106,8 +106,8 @@ returns-3 c =
     let last : l .r ≡ P-of (sheet-in s) = omega (arith, P-decoded s) in
     let p : P-of (sheet-in s) ≡ c .before .before .before .before .boards .result = omega (arith, P-decoded s) in
     subst (λ (n : ℕ). told (boards-refusal (sheet-in s)) 5 n) p
-      (walked-short (sheet-in s) (l .sum) (l .total) (subst (λ (n : ℕ). Walked (sheet-in s) n (l .sum) (l .total)) last (l .inv))
-        (λ e. c .if2 .left (e ∙ (N-decoded s ∙ sym (c .before .ops .ensures .0)))))
+    (walked-short (sheet-in s) (l .sum) (l .total) (subst (λ (n : ℕ). Walked (sheet-in s) n (l .sum) (l .total)) last (l .inv))
+    (λ e. c .if2 .left (e ∙ (N-decoded s ∙ sym (c .before .ops .ensures .0)))))
 
 pub refusal-spec : {M : Type 1} → statement M
 refusal-spec =

@@ -53,10 +53,12 @@ unfolding crc
 returns c =
     let s = c .before .before .before .before .before .args .s .now in
     let head = c .before .before .crc-over .ensures .0 in
-    let rest : take (length s - 16) (drop 16 s) ≡ drop 16 s = take-all (length s - 16) (drop 16 s) (omega (arith, length-drop 16 s)) in
-    (c .crc-over2 .ensures .0
-      ∙ (ap (λ (l : List ℕ). crc-from (c .before .before .crc-over .result) l) rest
-      ∙ (ap (λ (n : ℕ). crc-from n (drop 16 s)) head ∙ sym (crc-from-append 65535 (take 14 s) (drop 16 s)))), c .crc-over2 .ensures .1)
+    let rest : take (length s - 16) (drop 16 s) ≡ drop 16 s = take-all (length s - 16) (drop 16 s) (omega (arith, length-drop 16 s)) in (
+      c .crc-over2 .ensures .0
+          ∙ (ap (λ (l : List ℕ). crc-from (c .before .before .crc-over .result) l) rest
+          ∙ (ap (λ (n : ℕ). crc-from n (drop 16 s)) head ∙ sym (crc-from-append 65535 (take 14 s) (drop 16 s)))),
+      c .crc-over2 .ensures .1,
+    )
 
 pub crc-by-spec : {M : Type 1} → statement M
 crc-by-spec =

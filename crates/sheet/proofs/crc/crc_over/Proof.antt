@@ -59,8 +59,8 @@ loop-again c =
     let below : k < 256 = xor-lt 8 (l .crc / 256) (c .before .wide .result) (omega arith) (omega arith) in
     let read = c .before .before .before .before .before .before .pre .1 .at k below in
     let turn =
-          crc-turn (l .crc) s (l .i) (c .before .wide .result) (c .entry .result) (l .inv .1) (omega arith)
-            (c .before .wide .ensures .0) (c .before .wide .ensures .1) (c .entry .ensures .0 ∙ read) in
+    crc-turn (l .crc) s (l .i) (c .before .wide .result) (c .entry .result) (l .inv .1) (omega arith)
+    (c .before .wide .ensures .0) (c .before .wide .ensures .1) (c .entry .ensures .0 ∙ read) in
     (omega arith, turn .0, l .inv .2 ∙ turn .1)
 
 -- src/crc.rt:46:1

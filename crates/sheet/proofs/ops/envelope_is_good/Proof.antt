@@ -1,5 +1,6 @@
 -- `sheet::ops::envelope_is_good` meets its contract: each part of the test is the definition's. Assumes nothing.
-use Rattle.rules.specs.Refusal.{envelope-good}
+use Rattle.rules.specs.Sheet.{is-receive}
+use Rattle.rules.specs.Refusal.{envelope-good, or-any}
 use borrow.Author.Needs.{needs}
 use Rattle.sheet.proofs.ops.envelope_is_good.Statement.{statement}
 use Rattle.sheet.proofs.ops.envelope_is_good.Tie as tie
@@ -28,7 +29,7 @@ comm-requires c κs = search needs
 
 -- src/ops.rt:83:1
 returns : tie.Need-returns
-unfolding envelope-good
+unfolding envelope-good or-any is-receive
 returns c = cc
 
 pub envelope-is-good-spec : {M : Type 1} → statement M

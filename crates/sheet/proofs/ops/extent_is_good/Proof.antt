@@ -1,5 +1,7 @@
 -- `sheet::ops::extent_is_good` meets its contract: each part of the test is the definition's. Assumes nothing.
-use Rattle.rules.specs.Refusal.{extent-good}
+use lib.Dec.{eqb, ltb}
+use Rattle.rules.specs.Refusal.{extent-good, slot-good}
+use Rattle.laws.specs.Tests.{cond-formula}
 use borrow.Author.Needs.{needs}
 use Rattle.sheet.proofs.ops.extent_is_good.Statement.{statement}
 use Rattle.sheet.proofs.ops.extent_is_good.Tie as tie
@@ -11,7 +13,7 @@ use Rattle.sheet.proofs.ops.offset.Reads as offset-reads
 use Rattle.sheet.proofs.ops.slot.Reads as slot-reads
 use Rattle.sheet.proofs.ops.zero_field.Reads as zero-field-reads
 
--- src/ops.rt:99:20
+-- src/ops.rt:98:9
 flag-requires : tie.Need-flag-requires
 flag-requires c κs = search needs
 
@@ -31,18 +33,14 @@ add-end c = search needs
 slot-requires : tie.Need-slot-requires
 slot-requires c κs = search needs
 
--- src/ops.rt:103:8
-flag-requires-2 : tie.Need-flag-requires-2
-flag-requires-2 c κs = search needs
-
--- src/ops.rt:103:29
+-- src/ops.rt:103:19
 zero-field-requires : tie.Need-zero-field-requires
 zero-field-requires c κs = search needs
 
--- src/ops.rt:95:1
+-- src/ops.rt:94:1
 returns : tie.Need-returns
-unfolding extent-good
-returns c = cc
+unfolding extent-good slot-good
+returns c = cc (cond-formula (eqb (c .before .before .before .before .flag .result) 0) (eqb (c .before .slot .result) 0) (ltb (c .before .slot .result) 32))
 
 pub extent-is-good-spec : {M : Type 1} → statement M
 extent-is-good-spec =
@@ -53,6 +51,5 @@ extent-is-good-spec =
     offset-requires
     add-end
     slot-requires
-    flag-requires-2
     zero-field-requires
     returns)

@@ -1,4 +1,4 @@
-//! Garbage, truncated and extended sheets, and sheets whose tables hold
+//! Random bytes, truncated and extended sheets, and sheets whose tables hold
 //! random values from small sets.
 
 use super::{size, valid};
@@ -26,7 +26,7 @@ pub fn truncated_or_extended(random: &mut Random) -> Vec<u8> {
     sheet
 }
 
-pub fn garbage(random: &mut Random) -> Vec<u8> {
+pub fn any(random: &mut Random) -> Vec<u8> {
     match random.below(4) {
         0 => {
             let length = random.between(0, 40);
