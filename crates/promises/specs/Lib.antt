@@ -15,6 +15,7 @@ pub mod Calls
 pub mod Services
 pub mod Kept
 pub mod Likeness
+pub mod Needed
 pub mod Sums
 pub mod Lists
 pub mod Invariant
