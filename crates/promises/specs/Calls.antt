@@ -4,12 +4,12 @@
 --   follow-accepted ..               and of one that answered 0
 --   Run-answer, run-answer           of a call of run
 --   front-report                     the report at the front of its room
-use mathlib.Core.Path.{_≡_, refl, sym, ap, subst, _∙_}
+use mathlib.Core.Path.{_≡_, refl, sym, ap, _∙_}
 use mathlib.Core.Logic.{_≢_}
-use mathlib.Core.Bool.{Bool, true, false, _&&_, cond}
-use mathlib.Core.List.{List, _++_}
+use mathlib.Core.Bool.{Bool, true, false, cond}
+use mathlib.Core.List.{List}
 use mathlib.Core.Option.{Option, none, some}
-use Prim.Native.Nat.{ℕ, _≤_, _<_}
+use Prim.Native.Nat.{ℕ, _≤_}
 use native.Mathlib.Omega.{arith}
 use lib.Dec.{ltb, eqb}
 use lib.ListN.{length, take, drop}
@@ -18,7 +18,6 @@ use borrow.Author.Tests.{ltb-false, eq-eqb, ne-eqb, eqb-true}
 use Rattle.rules.specs.Limits.{report-size, order-room, scratch-size}
 use Rattle.rules.specs.Sheet.{Sheet, sheet-in, P-of, N-of, inbox-total}
 use Rattle.rules.specs.Refusal.{Refusal, refusal, accepted, or-else, sheet-refusal}
-use Rattle.rules.specs.Job.{Job}
 use Rattle.rules.specs.Step.{is-none}
 use Rattle.rules.specs.Order.{follow, run}
 use Rattle.rules.specs.Report.{report}

@@ -5,11 +5,11 @@
 --   delivered-at        each byte after a delivery
 --   delivered-swap      two deliveries commute
 --   ground              all that the proofs about steps use of bytes and areas
-use mathlib.Core.Path.{_≡_, refl, sym, ap, subst, _∙_}
-use mathlib.Core.Logic.{_⊎_, inl, inr, _≢_}
+use mathlib.Core.Path.{_≡_, refl, sym, ap, _∙_}
+use mathlib.Core.Logic.{inl, inr}
 use mathlib.Core.Bool.{Bool, true, false, cond}
 use mathlib.Core.List.{List}
-use Prim.Native.Nat.{ℕ, _+_, _-_, _≤_, _<_, min}
+use Prim.Native.Nat.{ℕ, _+_, _-_, _≤_}
 use native.Mathlib.Omega.{arith}
 use lib.Dec.{ltb}
 use lib.ListN.{length, getD, take, drop, length-take, length-drop}
@@ -17,12 +17,12 @@ use lib.Seq.{getD-take, getD-drop}
 use borrow.Author.Tests.{ltb-false}
 use Rattle.rules.specs.Sheet.{Sheet, op, rank-of, inbox-total, is-send, is-receive}
 use Rattle.rules.specs.Refusal.{share}
-use Rattle.rules.specs.Step.{splice, area-start, is-cut, copied, delivered}
+use Rattle.rules.specs.Step.{area-start, is-cut, copied, delivered}
 use Rattle.promises.specs.Good.{Good}
 use Rattle.promises.specs.Splice.{within, within-low, within-high, splice-length, splice-at, splice-swap}
 use Rattle.promises.specs.Extents.{send-extent, area-inside, areas-disjoint}
 use Rattle.promises.specs.Areas.{held-apart}
-use Rattle.promises.specs.Ground.{Ground, Pair, Apart}
+use Rattle.promises.specs.Ground.{Ground, Apart}
 
 -- the bytes that a match copies
 abbrev pub copied-bytes : Sheet → (m r : ℕ) → List ℕ

@@ -5,22 +5,20 @@
 --   send-extent, receive-extent     offset plus length stays inside payload or inbox
 --   area-inside                     an area lies inside the inbox memory
 --   areas-disjoint                  areas that share no byte, or of different boards
-use mathlib.Core.Path.{_≡_, refl, sym, ap, subst, _∙_}
-use mathlib.Core.Logic.{_≢_}
-use mathlib.Core.Bool.{Bool, true, false, _&&_, _||_, cond}
-use Prim.Native.Nat.{ℕ, suc, _+_, _≤_, _<_}
+use mathlib.Core.Path.{_≡_, ap, subst}
+use mathlib.Core.Bool.{true, false}
+use Prim.Native.Nat.{ℕ, _+_, _≤_, _<_}
 use native.Mathlib.Omega.{arith}
 use native.Mathlib.Decide.{decLt, ℕ-discrete}
-use lib.Dec.{ltb, leb, eqb}
 use lib.ListN.{length, List·getD-eq-default}
-use borrow.Author.Tests.{leb-true, lt-ltb}
-use Rattle.rules.specs.Limits.{most-length}
-use Rattle.rules.specs.Sheet.{Sheet, Op, op, no-op, board, P-of, N-of, rank-of, inbox-start, inbox-total, is-send, is-receive, is-wait}
-use Rattle.rules.specs.Refusal.{op-good, fields-good, envelope-good, extent-good, slot-good, wait-good, room-for, share}
+use borrow.Author.Tests.{lt-ltb}
+use Rattle.rules.specs.Sheet.{Sheet, Op, op, no-op, board, P-of, N-of, rank-of, inbox-start, inbox-total, is-send, is-receive}
+use Rattle.rules.specs.Refusal.{op-good, room-for, share}
 use Rattle.rules.specs.Step.{area-start}
-use Rattle.laws.specs.Tests.{and-left, and-right, and-both, cond-true, cond-false, true-not-false}
+use Rattle.laws.specs.Tests.{and-both, cond-true, cond-false, true-not-false}
+use Rattle.laws.specs.Fields.{fields-end}
 use Rattle.promises.specs.Good.{Good}
-use Rattle.promises.specs.Kinds.{send-no-wait, send-no-receive, receive-no-wait, send-kind, receive-kind}
+use Rattle.promises.specs.Kinds.{send-no-receive, send-kind, receive-kind}
 use Rattle.promises.specs.Splice.{Disjoint}
 
 -- INSIDE THE SHEET: past the table stands an operation of kind 0
@@ -43,34 +41,21 @@ receive-inside s r h = go (decLt r (N-of s))
     go (no d) = absurd (omega (arith, receive-kind (op s r) h, kind-past s r (omega arith)))
 
 -- INSIDE ITS ROOM
-extent-room : (room : ℕ) (o : Op) → extent-good room o ≡ true → o .offset + o .long ≤ room
-unfolding extent-good
-extent-room room o h =
-    let flags = leb (o .flag) 1 && eqb (o .zero-field) 0 in
-    let sizes = leb (o .long) most-length && leb (o .offset + o .long) room in
-    leb-true (o .offset + o .long) room (and-right (leb (o .long) most-length) (leb (o .offset + o .long) room) (and-right flags sizes (and-left (flags && sizes) (slot-good o) h)))
-
-op-extent : (s : Sheet) → Good s → (i : ℕ) → i < N-of s → is-wait (op s i) ≡ false → op s i .offset + op s i .long ≤ room-for s i
-unfolding op-good fields-good
-op-extent s g i l no-wait =
-    let o = op s i in
-    let extent = extent-good (room-for s i) o in
-    let envelope = envelope-good (P-of s) (s .comms) o in
-    let fields = (is-send o || is-receive o) && (envelope && extent) in
-    extent-room (room-for s i) o
-    (and-right envelope extent (and-right (is-send o || is-receive o) (envelope && extent) (sym (cond-false (is-wait o) (wait-good o) fields no-wait) ∙ g .ops-good i l)))
+op-extent : (s : Sheet) → Good s → (i : ℕ) → i < N-of s → op s i .offset + op s i .long ≤ room-for s i
+unfolding op-good
+op-extent s g i l = fields-end (P-of s) (s .comms) (room-for s i) (op s i) (g .ops-good i l)
 
 pub send-extent : (s : Sheet) → Good s → (m : ℕ) → is-send (op s m) ≡ true → op s m .offset + op s m .long ≤ length (s .payload)
 unfolding room-for
 send-extent s g m h =
     subst (λ (k : ℕ). op s m .offset + op s m .long ≤ k) (cond-false (is-receive (op s m)) (board s (rank-of s m) .inbox) (length (s .payload)) (send-no-receive (op s m) h))
-    (op-extent s g m (send-inside s m h) (send-no-wait (op s m) h))
+    (op-extent s g m (send-inside s m h))
 
 pub receive-extent : (s : Sheet) → Good s → (r : ℕ) → is-receive (op s r) ≡ true → op s r .offset + op s r .long ≤ board s (rank-of s r) .inbox
 unfolding room-for
 receive-extent s g r h =
     subst (λ (k : ℕ). op s r .offset + op s r .long ≤ k) (cond-true (is-receive (op s r)) (board s (rank-of s r) .inbox) (length (s .payload)) h)
-    (op-extent s g r (receive-inside s r h) (receive-no-wait (op s r) h))
+    (op-extent s g r (receive-inside s r h))
 
 -- AREAS
 pub area-inside : (s : Sheet) → Good s → (r : ℕ) → is-receive (op s r) ≡ true → area-start s r + op s r .long ≤ inbox-total s

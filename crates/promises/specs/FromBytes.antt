@@ -2,7 +2,7 @@
 -- Assumes nothing.
 --   Accepted          the tests that bytes with no refusal have passed
 --   good-from-bytes   passes bs gives Good (sheet-in bs)
-use mathlib.Core.Path.{_≡_, refl, sym, ap, subst, _∙_}
+use mathlib.Core.Path.{_≡_, refl, sym, subst}
 use mathlib.Core.Bool.{Bool, true, false, _&&_, not, cond}
 use mathlib.Core.List.{List}
 use Prim.Native.Nat.{ℕ, zero, suc, _+_, _-_, _≤_, _<_}
@@ -11,14 +11,15 @@ use lib.Dec.{ltb, leb, eqb}
 use lib.ListN.{length}
 use borrow.Author.Tests.{leb-true, eqb-true, not-false}
 use Rattle.rules.specs.Limits.{most-boards, most-comms, most-ops, most-payload, most-inbox, header-size}
-use Rattle.rules.specs.Sheet.{Sheet, board, P-of, N-of, rank-of, sum-before, counts-before, inbox-start, inbox-total, P-in, C-in, N-in, L-in, sheet-in}
+use Rattle.rules.specs.Sheet.{Sheet, board, P-of, N-of, rank-of, inbox-start, inbox-total, P-in, C-in, N-in, L-in, sheet-in}
 use Rattle.rules.specs.Refusal.{Refusal, refusal, or-else, first-broken, sizes-good, layout-good, crc-good, board-good, boards-refusal, op-good, ops-refusal, request-good, requests-refusal, tables-refusal, sheet-refusal}
 use Rattle.rules.specs.Claims.{all-bytes, passes}
 use Rattle.laws.specs.Tests.{and-left, and-right}
 use Rattle.laws.specs.Broken.{broken-passed}
 use Rattle.laws.specs.Decoded.{P-decoded, N-decoded, payload-decoded}
 use Rattle.laws.specs.Laid.{Laid, laid}
-use Rattle.laws.specs.Ranks.{inbox-start-more, sum-before-grows, script-before, rank-in-script, rank-lies}
+use Rattle.laws.specs.Ranks.{inbox-start-more, sum-before-grows, rank-in-script, rank-lies}
+use Rattle.laws.specs.Scripts.{script-inside}
 use Rattle.laws.specs.Tabled.{Tabled, tabled, or-else-first, or-else-second}
 use Rattle.promises.specs.Good.{Good}
 
@@ -135,7 +136,7 @@ good-from-bytes bs h =
       rank-low = λ i l. table-lies s (A .tables) i l .1;
       rank-high = λ i l. table-lies s (A .tables) i l .2;
       script-ranked = rank-in-script s (table s (A .tables) .consecutive);
-      script-inside = λ r l. omega (arith, script-before s (table s (A .tables) .consecutive) r (P-of s) l (omega arith), table s (A .tables) .total);
+      script-inside = script-inside s (table s (A .tables));
       inbox-next = inbox-start-more s;
       inbox-order = table-inboxes s (A .tables);
       inbox-small = table-total s (A .tables) (omega (arith, P-decoded bs, L .some-board));

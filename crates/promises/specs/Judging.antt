@@ -6,7 +6,6 @@
 use mathlib.Core.Path.{_≡_, refl, sym, ap, subst, _∙_}
 use mathlib.Core.Logic.{_⊎_, inl, inr, _≢_, _↔_}
 use mathlib.Core.Bool.{Bool, true, false, _&&_, cond}
-use mathlib.Core.List.{List}
 use mathlib.Core.Option.{Option, none, some}
 use Prim.Native.Nat.{ℕ, zero, suc, _+_, _≤_, _<_}
 use native.Mathlib.Omega.{arith}
@@ -17,7 +16,7 @@ use Rattle.rules.specs.Job.{Job, Stop, place-at}
 use Rattle.rules.specs.Step.{able, is-finished, is-none}
 use Rattle.rules.specs.Order.{lowest-able, next-rank, none-able}
 use Rattle.rules.specs.Report.{all-finished, verdict-of}
-use Rattle.laws.specs.Tests.{and-left, and-right, and-both, not-so, true-not-false}
+use Rattle.laws.specs.Tests.{and-left, and-right, not-so, true-not-false}
 use Rattle.promises.specs.Statements.{Verdict-exact}
 use Rattle.promises.specs.Good.{Good}
 use Rattle.promises.specs.Invariant.{Stopped}

@@ -3,12 +3,10 @@
 --   lent-good, lent-reached     a good sheet; the invariant of the job that an order leaves
 --   entries-long                a row an operation
 --   deliveries, verdicts, in-use, peaks
-use mathlib.Core.Path.{_≡_, refl, sym, ap, _∙_}
 use mathlib.Core.List.{List}
-use Prim.Native.Nat.{ℕ, _≤_, max}
+use Prim.Native.Nat.{ℕ}
 use native.Mathlib.Omega.{arith}
-use Rattle.rules.specs.Sheet.{Sheet, sheet-in}
-use Rattle.rules.specs.Job.{started}
+use Rattle.rules.specs.Sheet.{sheet-in}
 use Rattle.rules.specs.Order.{follow}
 use Rattle.rules.specs.Claims.{left-by}
 use Rattle.promises.specs.Statements.{Lent, Deliveries, Verdicts, In-use, Peaks}

@@ -5,9 +5,9 @@
 --   level-none-able   and none is in both
 --   level-report      the reports without peaks are equal
 --   level-alike       with equal memory the jobs are alike
-use mathlib.Core.Path.{_≡_, refl, sym, ap, subst, _∙_}
+use mathlib.Core.Path.{_≡_, refl, sym, ap, _∙_}
 use mathlib.Core.Bool.{Bool, true, false, _&&_, _||_, not, cond}
-use mathlib.Core.List.{List, [], _∷_, _++_}
+use mathlib.Core.List.{List}
 use mathlib.Core.Option.{Option, none, some}
 use Prim.Native.Nat.{ℕ, zero, suc, _+_, _≤_, _<_}
 use native.Mathlib.Omega.{arith}
@@ -19,7 +19,7 @@ use Rattle.rules.specs.Sheet.{Sheet, op, board, P-of, N-of, is-wait, is-send, i
 use Rattle.rules.specs.Job.{Job, Entry, Stop, bare-entry, entry-at, place-at}
 use Rattle.rules.specs.Step.{able, is-finished, next-op, in-waiting-half, half-complete, complete, complete-if, waited, is-none}
 use Rattle.rules.specs.Order.{lowest-able, next-rank, none-able}
-use Rattle.rules.specs.Report.{low-two, count-from, is-pending-message, is-pending-receive, pending-messages, pending-receives, cut-messages, all-finished, verdict-of, stop-bytes, header-bytes, board-state, op-rows, report}
+use Rattle.rules.specs.Report.{count-from, is-pending-message, is-pending-receive, pending-messages, pending-receives, cut-messages, all-finished, verdict-of, header-bytes, board-state, report}
 use Rattle.rules.specs.Claims.{without-peaks, Alike}
 use Rattle.promises.specs.Reporting.{bare-row, bare-rows, bare-report, report-bare}
 

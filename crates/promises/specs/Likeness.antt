@@ -2,16 +2,15 @@
 --   like-level     rows, stop, steps and places are equal, peaks aside
 --   like-memory    and so is memory
 --   like-alike     so the jobs are alike
-use mathlib.Core.Path.{_≡_, refl, sym, ap, subst, _∙_}
+use mathlib.Core.Path.{_≡_, sym, _∙_}
 use mathlib.Core.List.{List}
-use Prim.Native.Nat.{ℕ, _<_}
-use lib.ListN.{length, getD}
+use Prim.Native.Nat.{ℕ}
 use lib.Seq.{ext-getD}
-use Rattle.rules.specs.Sheet.{Sheet, P-of, N-of}
-use Rattle.rules.specs.Job.{Job, Entry, bare-entry, entry-at, place-at}
+use Rattle.rules.specs.Sheet.{Sheet, N-of}
+use Rattle.rules.specs.Job.{Job, bare-entry, entry-at}
 use Rattle.rules.specs.Claims.{Alike}
 use Rattle.promises.specs.Good.{Good}
-use Rattle.promises.specs.Invariant.{painted, Reached}
+use Rattle.promises.specs.Invariant.{Reached}
 use Rattle.promises.specs.Painting.{painted-rows}
 use Rattle.promises.specs.Behind.{stand-finished, stand-waiting}
 use Rattle.promises.specs.Like.{Like, like-rows, like-in-use}

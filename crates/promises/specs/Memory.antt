@@ -11,14 +11,13 @@ use mathlib.Core.Path.{_≡_, refl, sym, ap, subst, _∙_}
 use mathlib.Core.Bool.{Bool, true, false, _&&_, _||_, not, cond}
 use mathlib.Core.List.{List, [], _∷_, _++_}
 use mathlib.Core.Option.{Option, none, some}
-use Prim.Native.Nat.{ℕ, zero, suc, _+_, _≤_}
+use Prim.Native.Nat.{ℕ, zero, suc}
 use lib.Dec.{ltb, eqb}
-use lib.ListN.{length}
 use Rattle.rules.specs.Limits.{order-room}
-use Rattle.rules.specs.Sheet.{Sheet, op, P-of, N-of, rank-of, is-receive, is-wait, is-ready, is-buffered, is-nonblocking}
-use Rattle.rules.specs.Job.{Job, Place, Stop, job, entry-at, place-at, started, with-entries, with-places, with-messages, with-receives, with-memory, with-stop, with-steps}
+use Rattle.rules.specs.Sheet.{Sheet, op, P-of, N-of, rank-of, is-receive, is-wait, is-ready, is-buffered}
+use Rattle.rules.specs.Job.{Job, job, entry-at, place-at, started, with-entries, with-places, with-messages, with-receives, with-memory, with-stop, with-steps}
 use Rattle.rules.specs.Step.{next-op, is-finished, complete, waited, complete-if, half-complete, in-waiting-half, is-none, able, first-message, first-receive, without, area-start, delivered, charge-of, released, one-finished, with-place, charge, release, matched-rows, matched, with-state, pend-message, pend-receive, stopped, initiated, fits-buffer, unmatched, sent, received, initiating, ended, step}
-use Rattle.rules.specs.Order.{Followed, followed, follow-from, follow, lowest-able, next-rank, none-able, Ran, ran, run-next, run-from, run}
+use Rattle.rules.specs.Order.{Followed, followed, follow-from, follow, lowest-able, next-rank, Ran, ran, run-next, run-from, run}
 use Rattle.promises.specs.Splice.{Near, splice-near}
 use Rattle.promises.specs.Delivering.{copied-bytes}
 use Rattle.promises.specs.Level.{Level}
@@ -203,19 +202,19 @@ twin-follow s k [] t =
       refused = refl;
       left = t;
     }
-twin-follow {n} {x} {y} s k (r ∷ rs) t = go (able s x r) (able s y r) (twin-able s t r) (twin-follow s (suc k) rs (twin-step s r t))
+twin-follow {n} {x} {y} s k (r ∷ rs) t =
+    subst (λ (b : Bool). Twin-followed n (either (able s x r) x) (either b y)) (sym (twin-able s t r)) (go (able s x r) (twin-follow s (suc k) rs (twin-step s r t)))
   where
-    go : (a b : Bool) → b ≡ a → Twin-followed n (follow-from (suc k) s rs (step s r x)) (follow-from (suc k) s rs (step s r y)) →
-        Twin-followed n (cond a (follow-from (suc k) s rs (step s r x)) (followed (some k) x)) (cond b (follow-from (suc k) s rs (step s r y)) (followed (some k) y))
-    go a b e on = subst (λ (c : Bool). Twin-followed n (cond a (follow-from (suc k) s rs (step s r x)) (followed (some k) x)) (cond c (follow-from (suc k) s rs (step s r y)) (followed (some k) y))) (sym e) (alike a)
-      where
-        alike : (a : Bool) → Twin-followed n (cond a (follow-from (suc k) s rs (step s r x)) (followed (some k) x)) (cond a (follow-from (suc k) s rs (step s r y)) (followed (some k) y))
-        alike true = on
-        alike false =
-            record {
-              refused = refl;
-              left = t;
-            }
+    either : Bool → Job → Followed
+    either b z = cond b (follow-from (suc k) s rs (step s r z)) (followed (some k) z)
+
+    go : (b : Bool) → Twin-followed n (follow-from (suc k) s rs (step s r x)) (follow-from (suc k) s rs (step s r y)) → Twin-followed n (either b x) (either b y)
+    go true on = on
+    go false on =
+        record {
+          refused = refl;
+          left = t;
+        }
 
 -- RUNS
 lowest-twin : {n : ℕ} {x y : Job} (s : Sheet) (k r : ℕ) → Twin n x y → lowest-able k r s y ≡ lowest-able k r s x

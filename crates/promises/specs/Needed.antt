@@ -6,11 +6,11 @@
 --   Pair-of-orders      a sheet, and two orders
 --   apart-refutes       a pair that ends apart refutes Ends-alike-on
 --   any-source-matters, ready-matters, cover-matters, peaks-matter
-use mathlib.Core.Path.{_≡_, refl, sym, ap, subst, _∙_}
+use mathlib.Core.Path.{_≡_, refl, ap, subst, _∙_}
 use mathlib.Core.Bool.{Bool, true, false, _&&_, not}
-use mathlib.Core.List.{List, [], _∷_, _++_}
+use mathlib.Core.List.{List, [], _∷_}
 use Prim.Native.Nat.{ℕ, _≤_}
-use lib.Dec.{leb, eqb}
+use lib.Dec.{leb}
 use lib.ListN.{length}
 use borrow.Author.Tests.{leb-true, not-true, eq-eqb}
 use Rattle.rules.specs.Crc.{xor, shift, shifts, crc-byte, crc-from, crc}

@@ -53,9 +53,14 @@ pub report-length : (s : Sheet) (x : Job) → length (x .entries) ≡ N-of s →
 unfolding report
 report-length s x long =
     let rows = board-rows (P-of s) 0 s x in
-    omega
-    (arith, length-append (header-bytes s x) (rows ++ op-rows (x .entries)), length-append rows (op-rows (x .entries)), header-length s x,
-    board-rows-length (P-of s) 0 s x, op-rows-length (x .entries))
+    omega (
+      arith,
+      length-append (header-bytes s x) (rows ++ op-rows (x .entries)),
+      length-append rows (op-rows (x .entries)),
+      header-length s x,
+      board-rows-length (P-of s) 0 s x,
+      op-rows-length (x .entries),
+    )
 
 -- WITHOUT PEAKS
 -- a board row with zero for its peak

@@ -3,19 +3,17 @@
 -- the orders (Ends-alike, Swap-same, Run-ends) is an argument of each law.
 --   Entries-long          every job that an order leaves has a row an operation
 --   follows-alike, run-alike, follow-swaps
-use mathlib.Core.Path.{_≡_, refl, sym, ap, subst, _∙_}
-use mathlib.Core.Logic.{_≢_}
-use mathlib.Core.Bool.{Bool, true, false}
-use mathlib.Core.List.{List, [], _∷_, _++_}
+use mathlib.Core.Path.{_≡_, sym, ap, _∙_}
+use mathlib.Core.Bool.{true}
+use mathlib.Core.List.{List, _∷_, _++_}
 use mathlib.Core.Option.{Option}
 use Prim.Native.Nat.{ℕ, _≤_}
 use lib.ListN.{length, take}
 use Rattle.rules.specs.Limits.{report-size}
 use Rattle.rules.specs.Sheet.{Sheet, sheet-in, P-of, N-of, inbox-total}
-use Rattle.rules.specs.Refusal.{Refusal}
 use Rattle.rules.specs.Job.{Job, job, with-memory}
-use Rattle.rules.specs.Step.{able, is-none}
-use Rattle.rules.specs.Order.{Followed, follow, run, none-able}
+use Rattle.rules.specs.Step.{is-none}
+use Rattle.rules.specs.Order.{run, none-able}
 use Rattle.rules.specs.Report.{report}
 use Rattle.rules.specs.Service.{in-front, order-refusal}
 use Rattle.rules.specs.Claims.{passes, calm, accepts, left-by, without-peaks, Alike, Given}
@@ -23,8 +21,8 @@ use Rattle.promises.specs.Statements.{Lent, Ends, Run-ends, Ends-alike, 
 use Rattle.promises.specs.Splice.{Near}
 use Rattle.promises.specs.Reporting.{report-length}
 use Rattle.promises.specs.Level.{level-report, level-none-able}
-use Rattle.promises.specs.Memory.{Twin, Twin-followed, twin-level, follow-twin, run-twin}
-use Rattle.promises.specs.Calls.{Follow-answer, follow-answer, follow-accepted, follow-inbox, follow-report, front-report, Run-answer, run-answer}
+use Rattle.promises.specs.Memory.{Twin, twin-level, follow-twin, run-twin}
+use Rattle.promises.specs.Calls.{follow-answer, follow-accepted, follow-inbox, follow-report, front-report, run-answer}
 
 abbrev pub Entries-long : Type 0
 Entries-long = (bs i rs : List ℕ) → Lent bs i → length (left-by (sheet-in bs) rs i .entries) ≡ N-of (sheet-in bs)
@@ -74,9 +72,10 @@ shows s x old long m h =
 shown-alike : (bs : List ℕ) {i r j q : List ℕ} {x y : Job} → Shows (sheet-in bs) x i r → Shows (sheet-in bs) y j q → Alike-front (sheet-in bs) x y → Left-alike bs i r j q
 unfolding Left-alike
 shown-alike bs a b h =
-    let s = sheet-in bs in
-    (ap (λ (z : List ℕ). take (inbox-total s) z) (a .memory) ∙ h .memory ∙ ap (λ (z : List ℕ). take (inbox-total s) z) (sym (b .memory)),
-    ap (λ (z : List ℕ). without-peaks (P-of s) z) (a .reported) ∙ h .reports ∙ ap (λ (z : List ℕ). without-peaks (P-of s) z) (sym (b .reported)))
+    let s = sheet-in bs in (
+      ap (λ (z : List ℕ). take (inbox-total s) z) (a .memory) ∙ h .memory ∙ ap (λ (z : List ℕ). take (inbox-total s) z) (sym (b .memory)),
+      ap (λ (z : List ℕ). without-peaks (P-of s) z) (a .reported) ∙ h .reports ∙ ap (λ (z : List ℕ). without-peaks (P-of s) z) (sym (b .reported)),
+    )
 
 -- CALLS
 module _ (long : Entries-long) {bs : List ℕ} (p : passes bs ≡ true) where
@@ -147,10 +146,11 @@ pub run-alike : Ends-alike → Run-ends → Entries-long → Run-alike
 unfolding Ends-alike Run-ends Run-alike
 run-alike ends runs long bs a f g p c same zero-f full =
     let near = near-start bs (follow-answer p f .inbox-room) (run-answer p g .inbox-room) same in
-    let accepted = follow-accepted p f zero-f in
-    (run-answer p g .number-zero,
-    shown-alike bs (follow-shows long p f zero-f) (run-shows long p g (runs bs (g .inbox) (run-lent long p g)))
-    (front-next (front-alike (ends bs (f .inbox) a a (follow-given long p f c) accepted accepted full full .1)) (front-twin (run-twin (sheet-in bs) near .end))))
+    let accepted = follow-accepted p f zero-f in (
+      run-answer p g .number-zero,
+      shown-alike bs (follow-shows long p f zero-f) (run-shows long p g (runs bs (g .inbox) (run-lent long p g)))
+          (front-next (front-alike (ends bs (f .inbox) a a (follow-given long p f c) accepted accepted full full .1)) (front-twin (run-twin (sheet-in bs) near .end))),
+    )
 
 pub follow-swaps : Swap-same → Entries-long → Follow-swaps
 unfolding Swap-same Follow-swaps
@@ -160,9 +160,10 @@ follow-swaps swap long bs before after p q f g pass c same accepted differ able-
     let twin = follow-twin (sheet-in bs) near (before ++ (q ∷ p ∷ after)) in
     let refused = swapped .0 ∙ sym (twin .refused) in
     let number-same : f .number ≡ g .number =
-    follow-answer pass f .number-is ∙ ap (λ (o : Option ℕ). order-refusal o .number) refused ∙ sym (follow-answer pass g .number-is) in
-    (number-same,
-    follow-answer pass f .place-is ∙ ap (λ (o : Option ℕ). order-refusal o .place) refused ∙ sym (follow-answer pass g .place-is),
-    λ zero-f.
-    shown-alike bs (follow-shows long pass f zero-f) (follow-shows long pass g (sym number-same ∙ zero-f))
-    (front-next (front-alike (swapped .1)) (front-twin (left-twin bs near (before ++ (q ∷ p ∷ after))))))
+    follow-answer pass f .number-is ∙ ap (λ (o : Option ℕ). order-refusal o .number) refused ∙ sym (follow-answer pass g .number-is) in (
+      number-same,
+      follow-answer pass f .place-is ∙ ap (λ (o : Option ℕ). order-refusal o .place) refused ∙ sym (follow-answer pass g .place-is),
+      λ zero-f.
+          shown-alike bs (follow-shows long pass f zero-f) (follow-shows long pass g (sym number-same ∙ zero-f))
+          (front-next (front-alike (swapped .1)) (front-twin (left-twin bs near (before ++ (q ∷ p ∷ after))))),
+    )

@@ -1,6 +1,6 @@
 -- Memory, byte by byte: what the deliveries in script order have painted is what `byte-told` tells. Assumes nothing.
 --   deliveries-reached    the statement Deliveries, of one job that keeps the invariant
-use mathlib.Core.Path.{_≡_, refl, sym, ap, subst, _∙_}
+use mathlib.Core.Path.{_≡_, refl, ap, _∙_}
 use mathlib.Core.Bool.{Bool, true, false, _&&_, cond}
 use mathlib.Core.List.{List}
 use Prim.Native.Nat.{ℕ, zero, suc, _+_, _-_, _≤_}
@@ -9,7 +9,7 @@ use lib.Dec.{eqb}
 use lib.ListN.{length, getD}
 use borrow.Author.Tests.{eqb-true}
 use Rattle.rules.specs.Sheet.{Sheet, op, N-of, inbox-total, is-receive}
-use Rattle.rules.specs.Job.{Job, entry-at}
+use Rattle.rules.specs.Job.{Job}
 use Rattle.rules.specs.Step.{area-start, copied, delivered}
 use Rattle.laws.specs.Tests.{and-left, and-right}
 use Rattle.promises.specs.Statements.{covers, byte-told}

@@ -4,7 +4,7 @@
 --   step-peak          a step raises the peak to what is then in use
 --   follow-peak        so the peak that an order leaves is the most of them
 use mathlib.Core.Path.{_≡_, refl, sym, ap, subst, _∙_}
-use mathlib.Core.Bool.{Bool, true, false, _&&_, cond}
+use mathlib.Core.Bool.{Bool, true, false, cond}
 use mathlib.Core.List.{List, [], _∷_}
 use mathlib.Core.Option.{some}
 use Prim.Native.Nat.{ℕ, zero, suc, _+_, _≤_, _<_, max}
@@ -15,7 +15,6 @@ use Rattle.rules.specs.Sheet.{Sheet, P-of, N-of, inbox-total}
 use Rattle.rules.specs.Job.{Job, Place, job, place, place-at, started}
 use Rattle.rules.specs.Step.{able, step}
 use Rattle.rules.specs.Order.{follow-from, followed}
-use Rattle.rules.specs.Claims.{left-by}
 use Rattle.promises.specs.Statements.{pending-charges, most-in-use}
 use Rattle.promises.specs.Good.{Good}
 use Rattle.promises.specs.Ground.{Ground}
