@@ -28,3 +28,4 @@ pub mod After
 pub mod Grew
 pub mod Like
 pub mod Orders
+pub mod Swap
