@@ -29,3 +29,4 @@ pub mod Grew
 pub mod Like
 pub mod Orders
 pub mod Swap
+pub mod Calm
