@@ -30,3 +30,4 @@ pub mod Like
 pub mod Orders
 pub mod Swap
 pub mod Calm
+pub mod Ends

@@ -34,7 +34,7 @@ getD-replicate-same (suc n) zero a = refl
 getD-replicate-same (suc n) (suc j) a = getD-replicate-same n j a
 
 module _ {s : Sheet} (g : Good s) (lent : List ℕ) where
-  abbrev x₀ : Job
+  abbrev pub x₀ : Job
   x₀ = started s lent
 
   start-entry : (j : ℕ) → entry-at x₀ j ≡ bare-entry 0
@@ -49,11 +49,11 @@ module _ {s : Sheet} (g : Good s) (lent : List ℕ) where
   unfolding place-at started job
   start-place r = getD-replicate-same (P-of s) r (place 0 false 0 0)
 
-  start-finished : (r : ℕ) → place-at x₀ r .finished ≡ 0
+  pub start-finished : (r : ℕ) → place-at x₀ r .finished ≡ 0
   unfolding place
   start-finished r = ap (λ (p : Place). p .finished) (start-place r)
 
-  start-waiting : (r : ℕ) → place-at x₀ r .waiting ≡ false
+  pub start-waiting : (r : ℕ) → place-at x₀ r .waiting ≡ false
   unfolding place
   start-waiting r = ap (λ (p : Place). p .waiting) (start-place r)
 
