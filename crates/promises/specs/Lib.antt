@@ -31,3 +31,4 @@ pub mod Orders
 pub mod Swap
 pub mod Calm
 pub mod Ends
+pub mod Run
