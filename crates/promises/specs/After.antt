@@ -10,7 +10,7 @@ use Prim.Native.Nat.{ℕ, zero, suc, _+_, _*_, _≤_, _<_}
 use lib.ListN.{getD}
 use native.Mathlib.Omega.{arith}
 use native.Mathlib.Decide.{ℕ-discrete}
-use Rattle.rules.specs.Sheet.{Sheet, op, is-receive, is-wait, is-ready, is-buffered, is-nonblocking}
+use Rattle.rules.specs.Sheet.{Sheet, op, board, is-receive, is-wait, is-ready, is-buffered, is-nonblocking}
 use Rattle.rules.specs.Job.{Job, Stop, Place, place, job, place-at, with-entries, with-places, with-messages, with-receives, with-memory, with-stop, with-steps}
 use Rattle.rules.specs.Step.{able, step, next-op, in-waiting-half, is-none, first-message, first-receive, matched, with-place, with-state, charge, pend-message, pend-receive, stopped, initiated, fits-buffer, unmatched, sent, received, initiating, ended}
 use Rattle.promises.specs.Good.{Good}
@@ -20,7 +20,7 @@ use Rattle.promises.specs.Changes.{Matches}
 use Rattle.promises.specs.Moves.{Next, Moved, able-next, moved-finished, moved-waiting, moved-finished-other, moved-waiting-other}
 use Rattle.promises.specs.Outcome.{Outcome, ends-half, ends-wait, posts, pends, meets, stops, matched-is}
 use Rattle.promises.specs.Effects.{outcome}
-use Rattle.promises.specs.Behind.{stand}
+use Rattle.promises.specs.Behind.{stand, stand-finished, stand-waiting}
 
 -- STOPS
 unfoldable pub stop-at-op : (verdict r i : ℕ) → Stop
@@ -170,3 +170,56 @@ places-stand x y e q = ap (λ (l : List Place). stand-in l q) e
   where
     stand-in : List Place → ℕ → ℕ
     stand-in l q = 2 * getD l q (place 0 false 0 0) .finished + cond (getD l q (place 0 false 0 0) .waiting) 1 0
+
+-- WHAT THE PLACE OF A BOARD DECIDES
+module _ (s : Sheet) (x y : Job) (r : ℕ) (e : stand x r ≡ stand y r) where
+  pub stand-next : next-op s x r ≡ next-op s y r
+  unfolding next-op
+  stand-next = ap (λ (k : ℕ). board s r .first + k) (stand-finished x y r e)
+
+  pub stand-half : in-waiting-half s x r ≡ in-waiting-half s y r
+  unfolding in-waiting-half
+  stand-half = ap (λ (b : Bool). b || is-wait (op s (next-op s x r))) (stand-waiting x y r e) ∙ ap (λ (k : ℕ). place-at y r .waiting || is-wait (op s k)) stand-next
+
+  stand-finishing : finishing s x r ≡ finishing s y r
+  stand-finishing = ap (λ (b : Bool). b || is-nonblocking (op s (next-op s x r))) stand-half ∙ ap (λ (k : ℕ). in-waiting-half s y r || is-nonblocking (op s k)) stand-next
+
+  -- a step that goes on takes it to the same place
+  pub stand-moved : {x-now y-now : Job} → Moved x x-now r (finishing s x r) → Moved y y-now r (finishing s y r) → stand x-now r ≡ stand y-now r
+  stand-moved m n =
+      moved-stand m ∙ ap (λ (k : ℕ). stand-on (finishing s x r) k) (stand-finished x y r e)
+      ∙ ap (λ (c : Bool). stand-on c (place-at y r .finished)) stand-finishing ∙ sym (moved-stand n)
+
+-- and further on
+pub stand-further : (s : Sheet) {x y : Job} {r : ℕ} → Moved x y r (finishing s x r) → stand x r < stand y r
+unfolding stand stand-on in-waiting-half
+stand-further s {x} {y} {r} m = go (place-at x r .waiting) (is-wait (op s (next-op s x r))) (is-nonblocking (op s (next-op s x r))) (moved-stand m)
+  where
+    f : ℕ
+    f = place-at x r .finished
+
+    go : (w a b : Bool) → stand y r ≡ stand-on ((w || a) || b) f → 2 * f + cond w 1 0 < stand y r
+    go true a b e = omega (arith, e)
+    go false true b e = omega (arith, e)
+    go false false true e = omega (arith, e)
+    go false false false e = omega (arith, e)
+
+-- a stopped job stays stopped
+pub stop-stays : (s : Sheet) (r : ℕ) (x : Job) (t : Stop) → x .stop ≡ some t → step s r x .stop ≡ none → ⊥
+unfolding stop-after
+stop-stays s r x t e h = go (in-waiting-half s x r) (is-receive (op s i)) (is-none (first-receive s i (x .receives))) (is-ready (op s i)) (is-buffered (op s i)) (fits-buffer s r i x) (sym (step-stop s r x) ∙ h)
+  where
+    i : ℕ
+    i = next-op s x r
+
+    never : {u : Stop} {o : Option Stop} → o ≡ some u → o ≡ none → ⊥
+    never p q = let z : _≡_ {A = ℕ} 0 1 = cc in omega arith
+
+    go : (a b c d k l : Bool) → stop-after r i a b c d k l (x .stop) ≡ none → ⊥
+    go true b c d k l = never e
+    go false true c d k l = never e
+    go false false false d k l = never e
+    go false false true true k l = never refl
+    go false false true false true true = never e
+    go false false true false true false = never refl
+    go false false true false false l = never e

@@ -1,21 +1,24 @@
 -- Steps are counted by where the boards stand: a step that goes on adds one to the sum of the steps that each operation has
 -- taken, and no operation takes more than two. Assumes nothing.
 --   steps-step      one more
---   steps-most      at most two an operation
+--   steps-most      at most two an operation; able-room, steps-bound: so a job takes at most 2N
 use mathlib.Core.Path.{_≡_, refl, sym, ap, subst, _∙_}
 use mathlib.Core.Logic.{_≢_}
 use mathlib.Core.Bool.{Bool, true, false, _||_, cond}
+use mathlib.Core.List.{List}
+use mathlib.Core.Option.{Option, none, some}
 use Prim.Native.Nat.{ℕ, zero, suc, _+_, _*_, _≤_, _<_}
 use native.Mathlib.Omega.{arith}
 use native.Mathlib.Decide.{ℕ-discrete, decLt}
 use lib.Dec.{ltb}
 use borrow.Author.Tests.{lt-ltb, le-ltb}
 use Rattle.rules.specs.Sheet.{Sheet, Op, op, N-of, rank-of, is-wait, is-nonblocking}
-use Rattle.rules.specs.Job.{Job, place-at}
-use Rattle.rules.specs.Step.{next-op}
+use Rattle.rules.specs.Job.{Job, Stop, place-at}
+use Rattle.rules.specs.Step.{able, next-op, is-none}
 use Rattle.promises.specs.Good.{Good}
-use Rattle.promises.specs.Sums.{sum-below, sum-change, sum-most}
-use Rattle.promises.specs.Invariant.{Placed, reach, steps-of, steps-done}
+use Rattle.promises.specs.Sums.{sum-below, sum-change, sum-gap, sum-most}
+use Rattle.promises.specs.Invariant.{state-at, Placed, Reached, reach, steps-of, steps-done}
+use Rattle.promises.specs.Moves.{Next, able-next}
 use Rattle.promises.specs.Placing.{Turn, here, waits, waits-most, next-other, reach-other, reach-mine, reach-mine-before, next-mine, next-mine-before}
 
 -- the steps of operation j, where its board has finished those below a and entered those below b
@@ -122,3 +125,61 @@ module _ {s : Sheet} {x y : Job} {r : ℕ} {last : Bool} (g : Good s) (p : Place
   pub steps-step : sum-below (N-of s) (steps-done s y) ≡ suc (sum-below (N-of s) (steps-done s x))
   steps-step =
       omega (arith, sum-change (N-of s) mine (steps-done s x) (steps-done s y) (T .next .inside) (λ j l d. steps-other j d), steps-here, steps-here-before)
+
+fresh-unpassed : (s : Sheet) (x : Job) → Placed s x → (i : ℕ) → i < N-of s → state-at x i ≡ 0 → next-op s x (rank-of s i) ≤ i
+unfolding reach
+fresh-unpassed s x p i l e = go (decLt i (next-op s x (rank-of s i)))
+  where
+    go : Dec (i < next-op s x (rank-of s i)) → next-op s x (rank-of s i) ≤ i
+    go (yes h) = absurd (omega (arith, p .entered-if i l (omega arith)))
+    go (no d) = omega arith
+
+-- ROOM LEFT: a board that is able has a step left, and a job that stopped had one
+module _ {s : Sheet} {lent : List ℕ} {x : Job} (R : Reached s lent x) where
+  one-left : (i : ℕ) → i < N-of s → steps-done s x i ≤ 1 → sum-below (N-of s) (steps-done s x) < 2 * N-of s
+  one-left i l h =
+      omega (
+        arith,
+        sum-gap (N-of s) i 1 (steps-done s x) (λ j. 2) l (λ j k. steps-done-most s x j) (omega arith),
+        sum-most (N-of s) 2 (λ j. 2) (λ j k. omega arith),
+      )
+
+  unpassed : (i : ℕ) → next-op s x (rank-of s i) ≤ i → steps-done s x i ≤ 1
+  unfolding steps-done
+  unpassed i l = subst (λ (b : Bool). cond b (steps-of (op s i)) (cond (ltb i (reach s x (rank-of s i))) 1 0) ≤ 1) (sym (le-ltb i (next-op s x (rank-of s i)) l)) (go (ltb i (reach s x (rank-of s i))))
+    where
+      go : (b : Bool) → cond b 1 0 ≤ 1
+      go true = omega arith
+      go false = omega arith
+
+  pub able-room : Good s → (r : ℕ) → able s x r ≡ true → x .steps < 2 * N-of s
+  unfolding is-none
+  able-room g r a =
+      omega (
+        arith,
+        one-left (next-op s x r) (n .inside) (unpassed (next-op s x r) (omega (arith, ap (λ (q : ℕ). next-op s x q) (n .ranked)))),
+        R .steps-sum ∙ ap (λ (o : Option Stop). sum-below (N-of s) (steps-done s x) + cond (is-none o) 0 1) (n .going),
+      )
+    where
+      n : Next s x r
+      n = able-next s g x r a
+
+  -- steps are at most 2N (the engine: they fit two bytes)
+  pub steps-bound : x .steps ≤ 2 * N-of s
+  unfolding is-none
+  steps-bound = go (x .stop) refl
+    where
+      go : (o : Option Stop) → x .stop ≡ o → x .steps ≤ 2 * N-of s
+      go none e =
+          omega
+          (arith, steps-most s x, R .steps-sum ∙ ap (λ (o : Option Stop). sum-below (N-of s) (steps-done s x) + cond (is-none o) 0 1) e)
+      go (some t) e =
+          let h = R .stop-at t e in
+          omega (
+            arith,
+            one-left (t .at-op) (h .op-small) (unpassed (t .at-op) (not-passed (t .at-op) (h .op-small) (h .not-entered))),
+            R .steps-sum ∙ ap (λ (o : Option Stop). sum-below (N-of s) (steps-done s x) + cond (is-none o) 0 1) e,
+          )
+        where
+          not-passed : (i : ℕ) → i < N-of s → state-at x i ≡ 0 → next-op s x (rank-of s i) ≤ i
+          not-passed i l e = fresh-unpassed s x (R .placed) i l e

@@ -48,6 +48,14 @@ grew-both {s} {i} {x} {y} {z} {X} {Y} {Z} a b =
     new k m h there out (yes e) = omega (arith, a .new k m h e out, b .old k (a .on k h), b .old m e)
     new k m h there out (no d) = b .new k m (a .on k h) there d
 
+-- so the order of arrival in x is that in y
+pub grew-same : {s : Sheet} {i : List ℕ} {x y : Job} {X : Reached s i x} {Y : Reached s i y} → Grew X Y → Same-order s (X .came) x (Y .came) y
+grew-same {s} {i} {x} {y} {X} {Y} a k m r sk sm rr fk fm hm hk l = go (decLe 1 (state-at x k))
+  where
+    go : Dec (Entered x k) → Entered x k × (X .came k < X .came m)
+    go (yes h) = (h, omega (arith, l, a .old k h, a .old m hm))
+    go (no out) = absurd (omega (arith, l, a .new m k hm hk out))
+
 -- x grew to x-now and y to y-now, and x and y have the same entered, in the same order
 module _ {s : Sheet} {i j : List ℕ} {x y x-now y-now : Job} {X : Reached s i x} {Y : Reached s j y} {X-now : Reached s i x-now} {Y-now : Reached s j y-now}
     (a : Grew X X-now) (b : Grew Y Y-now) where

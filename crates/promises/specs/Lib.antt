@@ -61,3 +61,7 @@ pub mod After
 pub mod Grew
 pub mod Like
 pub mod Orders
+pub mod Swap
+pub mod Calm
+pub mod Ends
+pub mod Run

@@ -30,8 +30,8 @@ use Rattle.promises.specs.Queues.{pending-receive-same}
 use Rattle.promises.specs.Moves.{Next, Moved, able-next}
 use Rattle.promises.specs.Sound.{Extended, step-sound}
 use Rattle.promises.specs.Grew.{Grew, grew-step, grew-order}
-use Rattle.promises.specs.Behind.{stand, stand-finished, stand-waiting, Behind, still-able, level-rows, places-entered, behind-entered}
-use Rattle.promises.specs.After.{stop-after, step-stop, After, goes-on, halts, step-after, step-counted, finishing, stand-on, moved-stand, moved-stand-other, places-stand}
+use Rattle.promises.specs.Behind.{stand, Behind, still-able, level-rows, places-entered, behind-entered}
+use Rattle.promises.specs.After.{stop-after, step-stop, After, goes-on, halts, step-after, step-counted, finishing, moved-stand-other, places-stand, stand-next, stand-half, stand-moved}
 
 pub record Like {s : Sheet} {i j : List ℕ} {x y : Job} (X : Reached s i x) (Y : Reached s j y) : Type 0 where
   pub stop : x .stop ≡ y .stop
@@ -94,23 +94,8 @@ module _ {s : Sheet} (g : Good s) {i j : List ℕ} {x y : Job} {X : Reached s i 
 
   -- THE NEXT STEP of board r
   module _ (r : ℕ) (l : r < P-of s) where
-    same-finished : place-at x r .finished ≡ place-at y r .finished
-    same-finished = stand-finished x y r (K .places r l)
-
-    same-waiting : place-at x r .waiting ≡ place-at y r .waiting
-    same-waiting = stand-waiting x y r (K .places r l)
-
     pub same-next : next-op s x r ≡ next-op s y r
-    unfolding next-op
-    same-next = ap (λ (k : ℕ). board s r .first + k) same-finished
-
-    same-half : in-waiting-half s x r ≡ in-waiting-half s y r
-    unfolding in-waiting-half
-    same-half = ap (λ (b : Bool). b || is-wait (op s (next-op s x r))) same-waiting ∙ ap (λ (k : ℕ). place-at y r .waiting || is-wait (op s k)) same-next
-
-    same-finishing : finishing s x r ≡ finishing s y r
-    same-finishing =
-        ap (λ (b : Bool). b || is-nonblocking (op s (next-op s x r))) same-half ∙ ap (λ (k : ℕ). in-waiting-half s y r || is-nonblocking (op s k)) same-next
+    same-next = stand-next s x y r (K .places r l)
 
     same-room : fits-buffer s r (next-op s x r) x ≡ fits-buffer s r (next-op s y r) y
     unfolding fits-buffer
@@ -141,7 +126,7 @@ module _ {s : Sheet} (g : Good s) {i j : List ℕ} {x y : Job} {X : Reached s i 
   unfolding stop-after
   like-stop r l =
       step-stop s r x
-      ∙ cc (same-next r l, same-half r l, same-room r l, same-found (next-op s y r), K .stop)
+      ∙ cc (same-next r l, stand-half s x y r (K .places r l), same-room r l, same-found (next-op s y r), K .stop)
       ∙ sym (step-stop s r y)
 
   -- ONE STEP, where there is room for the inboxes of both
@@ -160,9 +145,7 @@ module _ {s : Sheet} (g : Good s) {i j : List ℕ} {x y : Job} {X : Reached s i 
       where
         moved : Moved x (step s r x) r (finishing s x r) → Moved y (step s r y) r (finishing s y r) → Dec (q ≡ r) → stand (step s r x) q ≡ stand (step s r y) q
         moved m n (yes e) =
-            subst (λ (z : ℕ). stand (step s r x) z ≡ stand (step s r y) z) (sym e)
-            (moved-stand m ∙ ap (λ (k : ℕ). stand-on (finishing s x r) k) (same-finished r small)
-            ∙ ap (λ (c : Bool). stand-on c (place-at y r .finished)) (same-finishing r small) ∙ sym (moved-stand n))
+            subst (λ (z : ℕ). stand (step s r x) z ≡ stand (step s r y) z) (sym e) (stand-moved s x y r (K .places r small) m n)
         moved m n (no d) = moved-stand-other m q d ∙ K .places q l ∙ sym (moved-stand-other n q d)
 
         -- one cannot stop where the other goes on

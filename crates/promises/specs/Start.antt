@@ -1,6 +1,6 @@
 -- The start has the invariant, and every order keeps it: a job that follow leaves is reached. Assumes nothing.
 --   start-reached     nothing entered, nothing in use, the lent inboxes
---   follow-reached    along an order, up to where it is refused
+--   left-reached      along an order, up to where it is refused
 use mathlib.Core.Path.{_≡_, refl, sym, ap, subst, _∙_}
 use mathlib.Core.Logic.{_⊎_, inl, inr, _≢_}
 use mathlib.Core.Bool.{Bool, true, false, cond}
@@ -19,7 +19,7 @@ use Rattle.rules.specs.Claims.{left-by}
 use Rattle.promises.specs.Good.{Good}
 use Rattle.promises.specs.Ground.{Ground}
 use Rattle.promises.specs.Kinds.{clash}
-use Rattle.promises.specs.Sums.{sum-below, sum-same}
+use Rattle.promises.specs.Sums.{sum-below, sum-zero}
 use Rattle.promises.specs.Lists.{Holds, In}
 use Rattle.promises.specs.Invariant.{Entered, state-at, partner-at, reach, steps-done, steps-of, charge-in, paint, painted, row-of, Pending-message, Pending-receive, Stable, Arrived, Placed, Shaped, Came-before, Posted-before, Reached}
 use Rattle.promises.specs.Charging.{charge-none}
@@ -33,13 +33,8 @@ getD-replicate-same zero j a = refl
 getD-replicate-same (suc n) zero a = refl
 getD-replicate-same (suc n) (suc j) a = getD-replicate-same n j a
 
-sum-zero : (n : ℕ) (f : ℕ → ℕ) → ((j : ℕ) → j < n → f j ≡ 0) → sum-below n f ≡ 0
-unfolding sum-below
-sum-zero zero f h = refl
-sum-zero (suc n) f h = omega (arith, sum-zero n f (λ j l. h j (omega arith)), h n (omega arith))
-
 module _ {s : Sheet} (g : Good s) (lent : List ℕ) where
-  abbrev x₀ : Job
+  abbrev pub x₀ : Job
   x₀ = started s lent
 
   start-entry : (j : ℕ) → entry-at x₀ j ≡ bare-entry 0
@@ -54,11 +49,11 @@ module _ {s : Sheet} (g : Good s) (lent : List ℕ) where
   unfolding place-at started job
   start-place r = getD-replicate-same (P-of s) r (place 0 false 0 0)
 
-  start-finished : (r : ℕ) → place-at x₀ r .finished ≡ 0
+  pub start-finished : (r : ℕ) → place-at x₀ r .finished ≡ 0
   unfolding place
   start-finished r = ap (λ (p : Place). p .finished) (start-place r)
 
-  start-waiting : (r : ℕ) → place-at x₀ r .waiting ≡ false
+  pub start-waiting : (r : ℕ) → place-at x₀ r .waiting ≡ false
   unfolding place
   start-waiting r = ap (λ (p : Place). p .waiting) (start-place r)
 
@@ -147,17 +142,23 @@ module _ {s : Sheet} (g : Good s) (lent : List ℕ) where
       }
 
 -- ALONG AN ORDER
-pub follow-from-reached : {s : Sheet} → Good s → Ground s → {lent : List ℕ} → inbox-total s ≤ length lent → (k : ℕ) (rs : List ℕ) {x : Job} →
-    Reached s lent x → Reached s lent (follow-from k s rs x .left)
+-- what every able step keeps, an order keeps
+pub follow-from-keeps : (s : Sheet) (P : Job → Type 0) → ((x : Job) (r : ℕ) → P x → able s x r ≡ true → P (step s r x)) →
+    (k : ℕ) (rs : List ℕ) (x : Job) → P x → P (follow-from k s rs x .left)
 unfolding follow-from followed
-follow-from-reached g A room k [] R = R
-follow-from-reached {s} g A {lent} room k (r ∷ rs) {x} R = go (able s x r) refl (λ a. follow-from-reached g A room (suc k) rs (step-sound g A room R r a .reached))
+follow-from-keeps s P keeps k [] x h = h
+follow-from-keeps s P keeps k (r ∷ rs) x h = go (able s x r) refl (λ a. follow-from-keeps s P keeps (suc k) rs (step s r x) (keeps x r h a))
   where
-    go : (b : Bool) → able s x r ≡ b → (able s x r ≡ true → Reached s lent (follow-from (suc k) s rs (step s r x) .left)) →
-        Reached s lent (cond b (follow-from (suc k) s rs (step s r x)) (followed (some k) x) .left)
-    go true e before = before e
-    go false e before = R
+    go : (b : Bool) → able s x r ≡ b → (able s x r ≡ true → P (follow-from (suc k) s rs (step s r x) .left)) →
+        P (cond b (follow-from (suc k) s rs (step s r x)) (followed (some k) x) .left)
+    go true e rest = rest e
+    go false e rest = h
 
-pub follow-reached : {s : Sheet} → Good s → Ground s → {lent : List ℕ} → inbox-total s ≤ length lent → (rs : List ℕ) → Reached s lent (left-by s rs lent)
+pub left-keeps : (s : Sheet) (P : Job → Type 0) → ((x : Job) (r : ℕ) → P x → able s x r ≡ true → P (step s r x)) →
+    (rs lent : List ℕ) → P (started s lent) → P (left-by s rs lent)
 unfolding left-by follow
-follow-reached g A {lent} room rs = follow-from-reached g A room 0 rs (start-reached g lent)
+left-keeps s P keeps rs lent h = follow-from-keeps s P keeps 0 rs (started s lent) h
+
+pub left-reached : {s : Sheet} → Good s → Ground s → {lent : List ℕ} → inbox-total s ≤ length lent → (rs : List ℕ) → Reached s lent (left-by s rs lent)
+left-reached {s} g A {lent} room rs =
+    left-keeps s (Reached s lent) (λ x r R a. step-sound g A room R r a .reached) rs lent (start-reached g lent)
