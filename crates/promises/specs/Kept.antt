@@ -14,17 +14,17 @@ use Rattle.promises.specs.Good.{Good}
 use Rattle.promises.specs.FromBytes.{good-from-bytes}
 use Rattle.promises.specs.Invariant.{Reached}
 use Rattle.promises.specs.Delivering.{ground}
-use Rattle.promises.specs.Start.{start-reached, follow-reached}
+use Rattle.promises.specs.Start.{start-peak, start-reached, left-reached}
 use Rattle.promises.specs.Telling.{deliveries-reached}
 use Rattle.promises.specs.Judging.{verdict-reached}
-use Rattle.promises.specs.Using.{in-use-reached, follow-peak, start-peak}
+use Rattle.promises.specs.Using.{in-use-reached, follow-peak}
 use Rattle.promises.specs.Services.{Entries-long}
 
 pub lent-good : {bs i : List ℕ} → Lent bs i → Good (sheet-in bs)
 lent-good {bs} h = good-from-bytes bs (h .passing)
 
 pub lent-reached : {bs i : List ℕ} (h : Lent bs i) (rs : List ℕ) → Reached (sheet-in bs) i (left-by (sheet-in bs) rs i)
-lent-reached {bs} h rs = follow-reached (lent-good h) (ground (sheet-in bs) (lent-good h)) (h .room) rs
+lent-reached {bs} h rs = left-reached (lent-good h) (ground (sheet-in bs) (lent-good h)) (h .room) rs
 
 pub entries-long : Entries-long
 entries-long bs i rs h = lent-reached h rs .placed .entries-long
@@ -45,4 +45,4 @@ pub peaks : Peaks
 unfolding Peaks left-by follow
 peaks bs i rs r h =
     omega
-    (arith, follow-peak (lent-good h) (ground (sheet-in bs) (lent-good h)) (h .room) r 0 rs (start-reached (lent-good h) i), start-peak (sheet-in bs) i r)
+    (arith, follow-peak (lent-good h) (ground (sheet-in bs) (lent-good h)) (h .room) r 0 rs (start-reached (lent-good h) i), start-peak (lent-good h) i r)

@@ -9,10 +9,9 @@ use mathlib.Core.List.{List, [], _∷_}
 use mathlib.Core.Option.{some}
 use Prim.Native.Nat.{ℕ, zero, suc, _+_, _≤_, _<_, max}
 use native.Mathlib.Omega.{arith}
-use native.Mathlib.Decide.{decLt}
-use lib.ListN.{length, getD, replicate, getD-replicate, length-replicate, List·getD-eq-default}
+use lib.ListN.{length, getD}
 use Rattle.rules.specs.Sheet.{Sheet, P-of, N-of, inbox-total}
-use Rattle.rules.specs.Job.{Job, Place, job, place, place-at, started}
+use Rattle.rules.specs.Job.{Job, Place, place, place-at}
 use Rattle.rules.specs.Step.{able, step}
 use Rattle.rules.specs.Order.{follow-from, followed}
 use Rattle.promises.specs.Statements.{pending-charges, most-in-use}
@@ -65,15 +64,3 @@ follow-peak {s} g A room r k (q ∷ rs) {x} R =
         max (place-at x r .peak) (cond b (max (place-at y r .in-use) (most-in-use s rs y r)) 0)
     go true e on = omega (arith, on e, step-peak g R q e r)
     go false e on = omega arith
-
--- before the first step it is 0
-pub start-peak : (s : Sheet) (i : List ℕ) (r : ℕ) → place-at (started s i) r .peak ≡ 0
-unfolding place-at started place job
-start-peak s i r = ap (λ (p : Place). p .peak) (go (decLt r (P-of s)))
-  where
-    none-yet : Place
-    none-yet = place 0 false 0 0
-
-    go : Dec (r < P-of s) → getD (replicate (P-of s) none-yet) r none-yet ≡ none-yet
-    go (yes l) = getD-replicate (P-of s) r none-yet none-yet l
-    go (no d) = List·getD-eq-default (replicate (P-of s) none-yet) none-yet (omega (arith, length-replicate (P-of s) none-yet))
