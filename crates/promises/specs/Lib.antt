@@ -33,6 +33,7 @@ pub mod Services
 pub mod Kept
 pub mod Likeness
 pub mod Needed
+pub mod Ended
 pub mod Sums
 pub mod Lists
 pub mod Invariant
