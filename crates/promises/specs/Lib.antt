@@ -32,3 +32,4 @@ pub mod Swap
 pub mod Calm
 pub mod Ends
 pub mod Run
+pub mod Reports
