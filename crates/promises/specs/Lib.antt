@@ -32,4 +32,3 @@ pub mod Swap
 pub mod Calm
 pub mod Ends
 pub mod Run
-pub mod Reports
