@@ -10,8 +10,8 @@ use native.Mathlib.Omega.{arith}
 use lib.Dec.{ltb, leb, eqb}
 use borrow.Author.Tests.{leb-true, eqb-true, ne-eqb, eq-eqb, le-leb}
 use Rattle.rules.specs.Limits.{any, slot-limit}
-use Rattle.rules.specs.Sheet.{Sheet, Op, op, N-of, rank-of, is-send, is-receive, is-wait, is-ready, is-buffered, is-nonblocking}
-use Rattle.rules.specs.Refusal.{op-good, transfer-good, wait-good, room-for}
+use Rattle.rules.specs.Sheet.{Sheet, Op, op, P-of, N-of, rank-of, is-send, is-receive, is-wait, is-ready, is-buffered, is-nonblocking}
+use Rattle.rules.specs.Refusal.{op-good, fields-good, envelope-good, extent-good, wait-good, room-for}
 use Rattle.rules.specs.Step.{fits-with}
 use Rattle.promises.specs.Good.{Good}
 
@@ -87,8 +87,8 @@ send-receive-differ s m r p q e = clash (ap (λ (z : ℕ). is-send (op s z)) (sy
 module _ (s : Sheet) (g : Good s) (i : ℕ) (l : i < N-of s) where
   -- what is neither a receive nor a wait is a send
   pub kind-send : is-wait (op s i) ≡ false → is-receive (op s i) ≡ false → is-send (op s i) ≡ true
-  unfolding op-good
-  kind-send w r = go (is-wait (op s i)) w (is-receive (op s i)) r (is-send (op s i)) (transfer-good s (room-for s i) (op s i)) (g .ops-good i l)
+  unfolding op-good fields-good
+  kind-send w r = go (is-wait (op s i)) w (is-receive (op s i)) r (is-send (op s i)) (envelope-good (P-of s) (s .comms) (op s i) && extent-good (room-for s i) (op s i)) (g .ops-good i l)
     where
       go : (b : Bool) → b ≡ false → (c : Bool) → c ≡ false → (d e : Bool) → cond b (wait-good (op s i)) ((d || c) && e) ≡ true → d ≡ true
       go true p c q d e h = absurd (clash refl p)
@@ -98,7 +98,7 @@ module _ (s : Sheet) (g : Good s) (i : ℕ) (l : i < N-of s) where
 
   -- a wait is not nonblocking
   pub wait-blocking : is-wait (op s i) ≡ true → is-nonblocking (op s i) ≡ false
-  unfolding op-good wait-good is-nonblocking
+  unfolding op-good fields-good wait-good is-nonblocking
   wait-blocking w = go (is-wait (op s i)) w (g .ops-good i l)
     where
       o : Op
@@ -111,7 +111,7 @@ module _ (s : Sheet) (g : Good s) (i : ℕ) (l : i < N-of s) where
           let c = (eqb (o .tag) 0 && eqb (o .offset) 0) && (eqb (o .long) 0 && ltb (o .slot) slot-limit) in
           and-left (eqb (o .flag) 0) (eqb (o .peer) 0) (and-left a b (and-left (a && b) c h))
 
-      go : (b : Bool) → b ≡ true → cond b (wait-good (op s i)) ((is-send (op s i) || is-receive (op s i)) && transfer-good s (room-for s i) (op s i)) ≡ true →
+      go : (b : Bool) → b ≡ true → cond b (wait-good (op s i)) ((is-send (op s i) || is-receive (op s i)) && (envelope-good (P-of s) (s .comms) (op s i) && extent-good (room-for s i) (op s i))) ≡ true →
           eqb (op s i .flag) 1 ≡ false
       go true p h = ne-eqb (op s i .flag) 1 (λ e. omega (arith, eqb-true (op s i .flag) 0 (flag-zero h)))
       go false p h = absurd (clash p refl)

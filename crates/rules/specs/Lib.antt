@@ -9,6 +9,10 @@
 --   Report    the report, byte by byte
 --   Service   what check, follow and run answer and leave in the lent rooms
 --   Claims    the words in which the promises about orders are stated
+--   BenchJob       a bench job as it is written down, and the test that it is put to
+--   BenchNumbered  the starred bench jobs, 1 to 12
+--   BenchFurther   jobs for the listed slips, and for rules that those leave untested
+--   Bench          both in one list, under one claim
 pub mod Limits
 pub mod Sheet
 pub mod Crc
@@ -19,3 +23,7 @@ pub mod Order
 pub mod Report
 pub mod Service
 pub mod Claims
+pub mod BenchJob
+pub mod BenchNumbered
+pub mod BenchFurther
+pub mod Bench

@@ -63,25 +63,36 @@ boards-refusal s =
 unfoldable pub or-any : Op → (limit v : ℕ) → Bool
 or-any o l v = ltb v l || (is-receive o && eqb v any)
 
+-- peer, communicator and tag of a send or a receive, among p boards and c communicators
+unfoldable pub envelope-good : (p c : ℕ) → Op → Bool
+envelope-good p c o = (or-any o p (o .peer) && ltb (o .comm) c) && or-any o tag-limit (o .tag)
+
+-- a blocking operation's slot is 0; a nonblocking one takes a slot
+unfoldable pub slot-good : Op → Bool
+slot-good o = cond (eqb (o .flag) 0) (eqb (o .slot) 0) (ltb (o .slot) slot-limit)
+
+-- flag, zero, length, area and slot of a send or a receive; offset plus length stays inside its room
+unfoldable pub extent-good : (room : ℕ) → Op → Bool
+extent-good room o =
+    ((leb (o .flag) 1 && eqb (o .zero-field) 0) && (leb (o .long) most-length && leb (o .offset + o .long) room))
+    && slot-good o
+
+-- a wait's other fields are 0
 unfoldable pub wait-good : Op → Bool
 wait-good o =
     ((eqb (o .flag) 0 && eqb (o .peer) 0) && (eqb (o .comm) 0 && eqb (o .zero-field) 0))
     && ((eqb (o .tag) 0 && eqb (o .offset) 0) && (eqb (o .long) 0 && ltb (o .slot) slot-limit))
 
--- offset plus length stays inside: a send's the payload, a receive's its board's inbox
+unfoldable pub fields-good : (p c room : ℕ) → Op → Bool
+fields-good p c room o =
+    cond (is-wait o) (wait-good o) ((is-send o || is-receive o) && (envelope-good p c o && extent-good room o))
+
+-- a receive's room is its board's inbox, a send's the payload
 unfoldable pub room-for : Sheet → (i : ℕ) → ℕ
 room-for s i = cond (is-receive (op s i)) (board s (rank-of s i) .inbox) (length (s .payload))
 
-unfoldable pub transfer-good : Sheet → (room : ℕ) → Op → Bool
-transfer-good s room o =
-    ((leb (o .flag) 1 && or-any o (P-of s) (o .peer)) && (ltb (o .comm) (s .comms) && eqb (o .zero-field) 0))
-    && ((or-any o tag-limit (o .tag) && leb (o .long) most-length)
-    && (leb (o .offset + o .long) room && cond (eqb (o .flag) 0) (eqb (o .slot) 0) (ltb (o .slot) slot-limit)))
-
 unfoldable pub op-good : Sheet → (i : ℕ) → Bool
-op-good s i =
-    let o = op s i in
-    cond (is-wait o) (wait-good o) ((is-send o || is-receive o) && transfer-good s (room-for s i) o)
+op-good s i = fields-good (P-of s) (s .comms) (room-for s i) (op s i)
 
 unfoldable pub ops-refusal : Sheet → Refusal
 ops-refusal s = first-broken 6 (op-good s) (N-of s) 0

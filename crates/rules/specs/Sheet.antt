@@ -116,7 +116,7 @@ rank-of s i = rank-from 0 (s .boards) i
 unfoldable pub two : List ℕ → (at : ℕ) → ℕ
 two bs at = getD bs at 0 + 256 * getD bs (at + 1) 0
 
-unfoldable pub board-in : List ℕ → (at : ℕ) → Board
+abbrev pub board-in : List ℕ → (at : ℕ) → Board
 board-in bs at =
     record {
       first = two bs at;
@@ -129,7 +129,7 @@ unfoldable pub boards-in : List ℕ → (left at : ℕ) → List Board
 boards-in bs zero at = []
 boards-in bs (suc k) at = board-in bs at ∷ boards-in bs k (at + board-size)
 
-unfoldable pub op-in : List ℕ → (at : ℕ) → Op
+abbrev pub op-in : List ℕ → (at : ℕ) → Op
 op-in bs at =
     record {
       kind = getD bs at 0;
@@ -148,16 +148,16 @@ ops-in bs zero at = []
 ops-in bs (suc k) at = op-in bs at ∷ ops-in bs k (at + op-size)
 
 -- HEADER: P at byte 0, C at 2, N at 4, the offsets of the three tables at 6, 8 and 10, L at 12, CRC at 14
-unfoldable pub P-in : List ℕ → ℕ
+abbrev pub P-in : List ℕ → ℕ
 P-in bs = two bs 0
 
-unfoldable pub C-in : List ℕ → ℕ
+abbrev pub C-in : List ℕ → ℕ
 C-in bs = two bs 2
 
-unfoldable pub N-in : List ℕ → ℕ
+abbrev pub N-in : List ℕ → ℕ
 N-in bs = two bs 4
 
-unfoldable pub L-in : List ℕ → ℕ
+abbrev pub L-in : List ℕ → ℕ
 L-in bs = two bs 12
 
 unfoldable pub sheet-in : List ℕ → Sheet

@@ -1,0 +1,74 @@
+-- Laws of `first-broken`: what a search from the front may forget, and what it answers when it stops. A search's invariant is
+-- that the answer over the whole range is the answer over what is left. Assumes nothing.
+use mathlib.Core.Path.{_≡_, refl, sym, _∙_, ap, subst}
+use mathlib.Core.Bool.{Bool, true, false, not, cond}
+use Prim.Native.Nat.{ℕ, zero, suc, _+_, _<_, _≤_, _-_}
+use native.Mathlib.Omega.{arith}
+use native.Mathlib.Decide.{ℕ-discrete}
+use native.Mathlib.Nat.{add-suc, add-zero, zero-add, suc-add}
+use lib.Dec.{eqb}
+use borrow.Author.Tests.{eq-eqb, ne-eqb}
+use Rattle.rules.specs.Refusal.{Refusal, refusal, accepted, or-else, first-broken}
+use Rattle.laws.specs.Tests.{cond-true, cond-false, true-not-false}
+
+module _ (n : ℕ) (f : ℕ → Bool) where
+  -- the test passes: the search goes on behind it
+  pub broken-more : (left i : ℕ) → 0 < left → f i ≡ true → first-broken n f left i ≡ first-broken n f (left - 1) (i + 1)
+  unfolding first-broken
+  broken-more zero i h t = absurd (omega arith)
+  broken-more (suc k) i h t =
+      let a : suc k - 1 ≡ k = omega arith in
+      let b : i + 1 ≡ suc i = omega arith in
+      rw (a, b) (cond-true (f i) (first-broken n f k (suc i)) (refusal n i) t)
+
+  -- the test fails: this is the place
+  pub broken-here : (left i : ℕ) → 0 < left → f i ≡ false → first-broken n f left i ≡ refusal n i
+  unfolding first-broken
+  broken-here zero i h t = absurd (omega arith)
+  broken-here (suc k) i h t = cond-false (f i) (first-broken n f k (suc i)) (refusal n i) t
+
+  -- nothing left
+  pub broken-none : (left i : ℕ) → left ≡ 0 → first-broken n f left i ≡ accepted
+  unfolding first-broken
+  broken-none zero i h = refl
+  broken-none (suc k) i h = absurd (omega arith)
+
+  -- a range in two parts: the first part's refusal, else the second's
+  pub broken-parts : (a b i : ℕ) → (n ≡ 0 → ⊥) → first-broken n f (a + b) i ≡ or-else (first-broken n f a i) (first-broken n f b (i + a))
+  unfolding first-broken or-else refusal
+  broken-parts zero b i h = rw (zero-add b, add-zero i)
+  broken-parts (suc a) b i h = rw (suc-add a b) (go (broken-parts a b (suc i) h) (f i) refl)
+    where
+      go : first-broken n f (a + b) (suc i) ≡ or-else (first-broken n f a (suc i)) (first-broken n f b (suc i + a)) → (t : Bool) → f i ≡ t → cond t (first-broken n f (a + b) (suc i)) (refusal n i) ≡ or-else (cond t (first-broken n f a (suc i)) (refusal n i)) (first-broken n f b (i + suc a))
+      go ih true e =
+          let s : i + suc a ≡ suc i + a = omega arith in
+          rw s ih
+      go ih false e = sym (cond-false (eqb n 0) (first-broken n f b (i + suc a)) (refusal n i) (ne-eqb n 0 h))
+
+  -- what a search that accepts has seen: the test passes at each index of its range
+  pub broken-passed : (left i : ℕ) → (n ≡ 0 → ⊥) → first-broken n f left i .number ≡ 0 → (j : ℕ) → i ≤ j → j < i + left → f j ≡ true
+  unfolding first-broken refusal
+  broken-passed zero i h e j lo hi = absurd (omega arith)
+  broken-passed (suc k) i h e j lo hi = go (λ q l. broken-passed k (suc i) h q j l (omega arith)) (f i) refl e (ℕ-discrete j i)
+    where
+      go : (first-broken n f k (suc i) .number ≡ 0 → suc i ≤ j → f j ≡ true) → (t : Bool) → f i ≡ t → cond t (first-broken n f k (suc i)) (refusal n i) .number ≡ 0 → Dec (j ≡ i) → f j ≡ true
+      go ih true p q (yes d) = subst (λ (m : ℕ). f m ≡ true) (sym d) p
+      go ih true p q (no d) = ih q (omega arith)
+      go ih false p q d = absurd (h q)
+
+  -- a search that has come to i, and the part of k indices from there: passed, or refused
+  pub broken-part-on : (total i k : ℕ) → (n ≡ 0 → ⊥) → i + k ≤ total → first-broken n f k i .number ≡ 0 → first-broken n f (total - i) i ≡ first-broken n f (total - (i + k)) (i + k)
+  unfolding or-else
+  broken-part-on total i k h l e =
+      let split : total - i ≡ k + (total - (i + k)) = omega arith in
+      ap (λ (m : ℕ). first-broken n f m i) split
+      ∙ (broken-parts k (total - (i + k)) i h
+      ∙ cond-true (eqb (first-broken n f k i .number) 0) (first-broken n f (total - (i + k)) (i + k)) (first-broken n f k i) (eq-eqb (first-broken n f k i .number) 0 e))
+
+  pub broken-part-here : (total i k : ℕ) → (n ≡ 0 → ⊥) → i + k ≤ total → (first-broken n f k i .number ≡ 0 → ⊥) → first-broken n f (total - i) i ≡ first-broken n f k i
+  unfolding or-else
+  broken-part-here total i k h l e =
+      let split : total - i ≡ k + (total - (i + k)) = omega arith in
+      ap (λ (m : ℕ). first-broken n f m i) split
+      ∙ (broken-parts k (total - (i + k)) i h
+      ∙ cond-false (eqb (first-broken n f k i .number) 0) (first-broken n f (total - (i + k)) (i + k)) (first-broken n f k i) (ne-eqb (first-broken n f k i .number) 0 e))

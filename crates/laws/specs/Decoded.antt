@@ -1,0 +1,61 @@
+-- The tables of a decoded sheet, entry by entry: entry i of a table stands at the table's start plus i times its width.
+-- Assumes nothing.
+use mathlib.Core.Path.{_≡_, refl, sym, _∙_, ap, subst}
+use mathlib.Core.List.{List, [], _∷_}
+use Prim.Native.Nat.{ℕ, zero, suc, _+_, _*_, _<_, _≤_, _-_, min}
+use native.Mathlib.Omega.{arith}
+use lib.ListN.{length, getD, take, drop, length-take, length-drop}
+use Rattle.rules.specs.Limits.{boards-at, ops-at, payload-at, sheet-size}
+use Rattle.rules.specs.Sheet.{Op, Board, op, board, P-of, N-of, op-in, ops-in, board-in, boards-in, sheet-in, P-in, C-in, N-in, L-in, no-op, no-board}
+
+pub ops-in-length : (bs : List ℕ) (n at : ℕ) → length (ops-in bs n at) ≡ n
+unfolding ops-in
+ops-in-length bs zero at = refl
+ops-in-length bs (suc n) at = ap suc (ops-in-length bs n (at + 16))
+
+pub boards-in-length : (bs : List ℕ) (n at : ℕ) → length (boards-in bs n at) ≡ n
+unfolding boards-in
+boards-in-length bs zero at = refl
+boards-in-length bs (suc n) at = ap suc (boards-in-length bs n (at + 8))
+
+ops-in-at : (bs : List ℕ) (n at i : ℕ) → i < n → getD (ops-in bs n at) i no-op ≡ op-in bs (at + 16 * i)
+unfolding ops-in
+ops-in-at bs zero at i h = absurd (omega arith)
+ops-in-at bs (suc n) at zero h = ap (λ (k : ℕ). op-in bs k) (omega arith)
+ops-in-at bs (suc n) at (suc i) h =
+    ops-in-at bs n (at + 16) i (omega arith) ∙ ap (λ (k : ℕ). op-in bs k) (omega arith)
+
+boards-in-at : (bs : List ℕ) (n at i : ℕ) → i < n → getD (boards-in bs n at) i no-board ≡ board-in bs (at + 8 * i)
+unfolding boards-in
+boards-in-at bs zero at i h = absurd (omega arith)
+boards-in-at bs (suc n) at zero h = ap (λ (k : ℕ). board-in bs k) (omega arith)
+boards-in-at bs (suc n) at (suc i) h =
+    boards-in-at bs n (at + 8) i (omega arith) ∙ ap (λ (k : ℕ). board-in bs k) (omega arith)
+
+module _ (bs : List ℕ) where
+  pub P-decoded : P-of (sheet-in bs) ≡ P-in bs
+  unfolding P-of sheet-in
+  P-decoded = boards-in-length bs (P-in bs) boards-at
+
+  pub N-decoded : N-of (sheet-in bs) ≡ N-in bs
+  unfolding N-of sheet-in
+  N-decoded = ops-in-length bs (N-in bs) (ops-at (P-in bs))
+
+  pub op-decoded : (i : ℕ) → i < N-in bs → op (sheet-in bs) i ≡ op-in bs (ops-at (P-in bs) + 16 * i)
+  unfolding op sheet-in
+  op-decoded i h = ops-in-at bs (N-in bs) (ops-at (P-in bs)) i h
+
+  pub board-decoded : (r : ℕ) → r < P-in bs → board (sheet-in bs) r ≡ board-in bs (boards-at + 8 * r)
+  unfolding board sheet-in
+  board-decoded r h = boards-in-at bs (P-in bs) boards-at r h
+
+  pub comms-decoded : sheet-in bs .comms ≡ C-in bs
+  unfolding sheet-in
+  comms-decoded = refl
+
+  -- the payload is whole where the sheet's length is right
+  pub payload-decoded : length bs ≡ sheet-size (P-in bs) (N-in bs) (L-in bs) → length (sheet-in bs .payload) ≡ L-in bs
+  unfolding sheet-in
+  payload-decoded h =
+      length-take (L-in bs) (drop (payload-at (P-in bs) (N-in bs)) bs)
+      ∙ (ap (λ (k : ℕ). min (L-in bs) k) (length-drop (payload-at (P-in bs) (N-in bs)) bs) ∙ omega arith)

@@ -1,0 +1,27 @@
+-- Laws of the definitions in rules, stated once for the promises and for the code.
+--   Tests     Boolean tests: the parts of a conjunction, two tests that agree
+--   Below     a test over the numbers below a bound
+--   Broken    the first index at which a test fails
+--   Decoded   the tables of a decoded sheet, entry by entry
+--   Laid      what refusals 1 to 3 settle
+--   Ranks     sums over boards; the rank of an operation
+--   Tabled    what refusal 5 settles
+--   Scripts   a search over all operations, script by script
+--   Holding   which operations of a board hold their slot
+--   Fields    what refusal 6 settles of an operation
+--   Table     a rule of a constant table, tested once
+--   Xor       exclusive or
+--   CrcStep   a byte of the CRC by a table of remainders
+pub mod Tests
+pub mod Below
+pub mod Broken
+pub mod Decoded
+pub mod Laid
+pub mod Ranks
+pub mod Tabled
+pub mod Scripts
+pub mod Holding
+pub mod Fields
+pub mod Table
+pub mod Xor
+pub mod CrcStep

@@ -1,0 +1,200 @@
+-- A bench job (document 01, "Bench jobs"): its sheet as a person writes it, how it is driven, what must come out, and the test
+-- of all that. The definitions are handed the sheet's bytes, and what they report is compared as bytes. The layouts of sheet and
+-- report stand here a second time, in numbers, so that the test shares no mistake with the definitions. Assumes nothing.
+use mathlib.Core.Bool.{Bool, true, false, _&&_, not, cond}
+use mathlib.Core.List.{List, [], _∷_, _++_}
+use mathlib.Core.Option.{Option, none, some}
+use Prim.Native.Nat.{ℕ, zero, suc, _+_, _*_, _/_, _%_}
+use lib.Dec.{eqb}
+use lib.ListN.{length, getD, take, drop}
+use Rattle.rules.specs.Sheet.{Sheet, sheet-in}
+use Rattle.rules.specs.Refusal.{sheet-refusal}
+use Rattle.rules.specs.Job.{Job}
+use Rattle.rules.specs.Step.{is-none}
+use Rattle.rules.specs.Order.{follow, run}
+use Rattle.rules.specs.Report.{report}
+
+-- SCRIPTS: a line is an operation, under the name of MPI's call. The mode of a send is its kind
+abbrev pub standard : ℕ
+standard = 1
+
+abbrev pub buffered : ℕ
+buffered = 2
+
+abbrev pub synchronous : ℕ
+synchronous = 3
+
+abbrev pub ready : ℕ
+ready = 4
+
+-- any source, any tag
+abbrev pub any : ℕ
+any = 65535
+
+-- `isend` and `ireceive` are nonblocking and take a request slot; `wait` names one
+pub data Line : Type 0 where
+  send : (mode to comm tag offset long : ℕ) → Line
+  isend : (mode to comm tag offset long slot : ℕ) → Line
+  receive : (source comm tag offset capacity : ℕ) → Line
+  ireceive : (source comm tag offset capacity slot : ℕ) → Line
+  wait : (slot : ℕ) → Line
+
+-- a board: its attached buffer size, its inbox size, its operations
+pub data Script : Type 0 where
+  script : (attached inbox : ℕ) → List Line → Script
+
+-- a sheet: how many communicators; its CRC, a number from another program than these definitions; its payload; its boards
+pub data Draft : Type 0 where
+  draft : (comms crc : ℕ) → (payload : List ℕ) → List Script → Draft
+
+unfoldable pub scripts-of : Draft → List Script
+scripts-of (draft c k pay ss) = ss
+
+unfoldable pub lines-of : List Script → List Line
+lines-of [] = []
+lines-of (script a i ls ∷ ss) = ls ++ lines-of ss
+
+-- P and N: how many boards and how many operations
+unfoldable pub P-drafted : Draft → ℕ
+P-drafted d = length (scripts-of d)
+
+unfoldable pub N-drafted : Draft → ℕ
+N-drafted d = length (lines-of (scripts-of d))
+
+-- BYTES of a sheet: 16-bit numbers, the low byte first
+unfoldable pub as-words : List ℕ → List ℕ
+as-words [] = []
+as-words (v ∷ vs) = v % 256 ∷ v / 256 ∷ as-words vs
+
+unfoldable pub line-bytes : Line → List ℕ
+line-bytes (send m p c t o l) = m ∷ 0 ∷ as-words (p ∷ c ∷ 0 ∷ t ∷ o ∷ l ∷ 0 ∷ [])
+line-bytes (isend m p c t o l k) = m ∷ 1 ∷ as-words (p ∷ c ∷ 0 ∷ t ∷ o ∷ l ∷ k ∷ [])
+line-bytes (receive p c t o l) = 5 ∷ 0 ∷ as-words (p ∷ c ∷ 0 ∷ t ∷ o ∷ l ∷ 0 ∷ [])
+line-bytes (ireceive p c t o l k) = 5 ∷ 1 ∷ as-words (p ∷ c ∷ 0 ∷ t ∷ o ∷ l ∷ k ∷ [])
+line-bytes (wait k) = 6 ∷ 0 ∷ as-words (0 ∷ 0 ∷ 0 ∷ 0 ∷ 0 ∷ 0 ∷ k ∷ [])
+
+unfoldable pub all-line-bytes : List Line → List ℕ
+all-line-bytes [] = []
+all-line-bytes (l ∷ ls) = line-bytes l ++ all-line-bytes ls
+
+-- a board entry begins with its first operation, the sum of the counts before it
+unfoldable pub entry-bytes : (first : ℕ) → List Script → List ℕ
+entry-bytes f [] = []
+entry-bytes f (script a i ls ∷ ss) = as-words (f ∷ length ls ∷ a ∷ i ∷ []) ++ entry-bytes (f + length ls) ss
+
+unfoldable pub draft-bytes : Draft → List ℕ
+draft-bytes (draft c k pay ss) =
+    let p = length ss in
+    let n = length (lines-of ss) in
+    let o = 16 + 8 * p in
+    as-words (p ∷ c ∷ n ∷ 16 ∷ o ∷ (o + 16 * n) ∷ length pay ∷ k ∷ [])
+    ++ (entry-bytes 0 ss ++ (all-line-bytes (lines-of ss) ++ pay))
+
+-- how a job is driven: by run, which must write this order down; or by follow, which must accept it
+pub data Drive : Type 0 where
+  runs : (order : List ℕ) → Drive
+  follows : (order : List ℕ) → Drive
+
+-- WHAT MUST COME OUT: the verdict, a stopping one with stop rank and stop operation
+pub data Verdict : Type 0 where
+  still-able : Verdict
+  finished : Verdict
+  deadlock : Verdict
+  overflow : (rank op : ℕ) → Verdict
+  not-ready : (rank op : ℕ) → Verdict
+
+-- a send and the receive that it was matched with, as operations
+infix 70 _meets_
+pub data Match : Type 0 where
+  _meets_ : (send receive : ℕ) → Match
+
+-- a board's row of the report
+pub data Row : Type 0 where
+  row : (done in-use peak state : ℕ) → Row
+
+-- pending: messages, then receives; cut: how many matches; whole: the report byte by byte, where it is written down
+pub record BenchJob : Type 0 where
+  pub sheet : Draft
+  pub drive : Drive
+  pub inbox : List ℕ
+  pub verdict : Verdict
+  pub steps : ℕ
+  pub matches : List Match
+  pub pending : ℕ × ℕ
+  pub cut : ℕ
+  pub boards : List Row
+  pub inbox-after : List ℕ
+  pub whole : Option (List ℕ)
+
+-- THE TEST
+unfoldable pub same : List ℕ → List ℕ → Bool
+same [] [] = true
+same [] (y ∷ ys) = false
+same (x ∷ xs) [] = false
+same (x ∷ xs) (y ∷ ys) = eqb x y && same xs ys
+
+-- verdict, stop rank and stop operation: the report's first four bytes
+unfoldable pub verdict-bytes : Verdict → List ℕ
+verdict-bytes still-able = 0 ∷ 255 ∷ 255 ∷ 255 ∷ []
+verdict-bytes finished = 1 ∷ 255 ∷ 255 ∷ 255 ∷ []
+verdict-bytes deadlock = 2 ∷ 255 ∷ 255 ∷ 255 ∷ []
+verdict-bytes (overflow r i) = 3 ∷ r ∷ as-words (i ∷ [])
+verdict-bytes (not-ready r i) = 4 ∷ r ∷ as-words (i ∷ [])
+
+-- the report's header
+unfoldable pub opening : BenchJob → List ℕ
+opening j =
+    verdict-bytes (j .verdict)
+    ++ as-words (j .steps ∷ P-drafted (j .sheet) ∷ N-drafted (j .sheet) ∷ j .pending .0 ∷ j .pending .1 ∷ j .cut ∷ [])
+
+unfoldable pub rows-bytes : List Row → List ℕ
+rows-bytes [] = []
+rows-bytes (row d u p t ∷ rs) = (as-words (d ∷ u ∷ p ∷ []) ++ (t ∷ 0 ∷ [])) ++ rows-bytes rs
+
+-- the partner that the matches give an operation, 65,535 if none
+unfoldable pub partner-by : List Match → (i : ℕ) → ℕ
+partner-by [] i = 65535
+partner-by ((m meets r) ∷ ms) i = cond (eqb i m) r (cond (eqb i r) m (partner-by ms i))
+
+-- each of `left` operation rows from operation i on, which stand from `at` on: its partner is the one that the matches give,
+-- and its state is 3 where they give one and nowhere else
+unfoldable pub rows-match : (report : List ℕ) → List Match → (left i at : ℕ) → Bool
+rows-match r ms zero i at = true
+rows-match r ms (suc k) i at =
+    let p = partner-by ms i in
+    (same (take 2 (drop (at + 2) r)) (as-words (p ∷ []))
+    && cond (eqb p 65535) (not (eqb (getD r at 0) 3)) (eqb (getD r at 0) 3))
+    && rows-match r ms k (suc i) (at + 12)
+
+unfoldable pub same-if-given : (report : List ℕ) → Option (List ℕ) → Bool
+same-if-given r none = true
+same-if-given r (some w) = same r w
+
+unfoldable pub reported : BenchJob → (report : List ℕ) → Bool
+reported j r =
+    let p = P-drafted (j .sheet) in
+    let n = N-drafted (j .sheet) in
+    (same (take 16 r) (opening j) && same (take (8 * p) (drop 16 r)) (rows-bytes (j .boards)))
+    && ((eqb (length r) (16 + 8 * p + 12 * n) && rows-match r (j .matches) n 0 (16 + 8 * p)) && same-if-given r (j .whole))
+
+-- whether run wrote the order down, or follow accepted it; and the job as it was left
+unfoldable pub driven : Drive → Sheet → (inboxes : List ℕ) → Bool × Job
+driven (runs o) s i =
+    let e = run s i in
+    (same (e .order) o, e .end)
+driven (follows o) s i =
+    let e = follow s o i in
+    (is-none (e .refused-at), e .left)
+
+-- check accepts the sheet, the order is as it must be, the report and the inboxes come out as written
+unfoldable pub as-expected : BenchJob → Bool
+as-expected j =
+    let bs = draft-bytes (j .sheet) in
+    let s = sheet-in bs in
+    let d = driven (j .drive) s (j .inbox) in
+    (eqb (sheet-refusal bs .number) 0 && d .0)
+    && (reported j (report s (d .1)) && same (d .1 .memory) (j .inbox-after))
+
+unfoldable pub all : {A : Type 0} → (A → Bool) → List A → Bool
+all f [] = true
+all f (x ∷ xs) = f x && all f xs

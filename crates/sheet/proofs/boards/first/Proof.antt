@@ -1,0 +1,31 @@
+-- `sheet::boards::first` meets its contract: the entry of board r stands at its place in the table. Assumes nothing.
+use mathlib.Core.Path.{_∙_, ap, sym}
+use Rattle.rules.specs.Sheet.{Board}
+use Rattle.laws.specs.Decoded.{board-decoded}
+use borrow.Author.Needs.{needs}
+use Rattle.sheet.proofs.boards.first.Statement.{statement}
+use Rattle.sheet.proofs.boards.first.Tie as tie
+use Rattle.sheet.proofs.boards.first.Reads as reads
+use Rattle.sheet.proofs.boards.first.Lts as lts
+use Rattle.words.proofs.two_at.Reads as two-at-reads
+
+-- src/boards.rt:18:27
+mul-two-at : tie.Need-mul-two-at
+mul-two-at c = search needs
+
+-- src/boards.rt:18:22
+add-two-at : tie.Need-add-two-at
+add-two-at c = search needs
+
+-- src/boards.rt:18:5
+two-at-requires : tie.Need-two-at-requires
+two-at-requires c κs = search needs
+
+-- src/boards.rt:14:1
+returns : tie.Need-returns
+returns c =
+    let a = c .before .before .args in
+    (c .two-at .ensures .0 ∙ ap (λ (b : Board). b .first) (sym (board-decoded (a .s .now) (a .r) (c .before .before .pre .1))), c .two-at .ensures .1)
+
+pub first-spec : {M : Type 1} → statement M
+first-spec = tie.close (tie.spec mul-two-at add-two-at two-at-requires returns)

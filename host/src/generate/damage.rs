@@ -1,0 +1,200 @@
+//! Damages to the bytes of a right sheet: a field set to a wrong value or to
+//! the edge of its range. The CRC is mended by the caller, save in `crc`.
+
+use super::{size, valid};
+use crate::layout::{self, board, header as head, operation as op, word, HEADER_BYTES};
+use crate::random::Random;
+use crate::sheet::{add_word, board_at, operation_at, set_word};
+
+pub type Damage = fn(&mut Vec<u8>, &mut Random);
+
+/// P, C, N or L, with the rest of the sheet left as it was.
+pub fn header(sheet: &mut Vec<u8>, random: &mut Random) {
+    let (at, limits) = random.pick(&[
+        (head::BOARDS, [0, 1, 16, 17, 256]),
+        (head::COMMUNICATORS, [0, 1, 8, 9, 256]),
+        (head::OPERATIONS, [0, 1, 1024, 1025, 256]),
+        (head::PAYLOAD_LENGTH, [0, 1, 16_384, 16_385, 256]),
+    ]);
+    match random.below(4) {
+        0 => add_word(sheet, at, random.pick(&[-1, 1, 256, -256])),
+        1 => set_word(sheet, at, random.word()),
+        _ => set_word(sheet, at, random.pick(&limits)),
+    }
+}
+
+/// One of the three offsets, or bytes missing or left over at the end.
+pub fn offset_or_length(sheet: &mut Vec<u8>, random: &mut Random) {
+    let near = [-16, -8, -2, -1, 1, 2, 8, 16, 256, -256, 0x4000];
+    match random.below(5) {
+        0 => add_word(sheet, head::BOARD_TABLE, random.pick(&near)),
+        1 => add_word(sheet, head::OPERATION_TABLE, random.pick(&near)),
+        2 => add_word(sheet, head::PAYLOAD, random.pick(&near)),
+        3 => {
+            let extra = random.between(1, 17);
+            sheet.extend(random.bytes(extra));
+        }
+        _ => {
+            let kept = sheet.len().saturating_sub(random.between(1, 17));
+            sheet.truncate(kept.max(HEADER_BYTES));
+        }
+    }
+}
+
+/// A right sheet with a wrong CRC, made in the ways that programs get it
+/// wrong, or with a bit flipped somewhere and the CRC not mended.
+pub fn crc(random: &mut Random) -> Vec<u8> {
+    let size = size::any(random);
+    let mut sheet = valid::sheet(random, &size).bytes();
+    let right = word(&sheet, head::CRC);
+    match random.below(6) {
+        0 => set_word(&mut sheet, head::CRC, right.swap_bytes()),
+        1 => set_word(&mut sheet, head::CRC, !right),
+        2 => set_word(&mut sheet, head::CRC, right ^ 1 << random.below(16)),
+        3 => set_word(&mut sheet, head::CRC, random.word()),
+        _ => flip_bit(&mut sheet, random),
+    }
+    sheet
+}
+
+pub fn flip_bit(sheet: &mut [u8], random: &mut Random) {
+    if !sheet.is_empty() {
+        let at = random.below(sheet.len());
+        sheet[at] ^= 1 << random.below(8);
+    }
+}
+
+/// P as the header says it, if the board table stands in the sheet.
+fn boards(sheet: &[u8]) -> Option<usize> {
+    let boards = usize::from(word(sheet, head::BOARDS));
+    (boards > 0 && board_at(boards) <= sheet.len()).then_some(boards)
+}
+
+/// One field of a board entry, or several that belong together.
+pub fn board(sheet: &mut Vec<u8>, random: &mut Random) {
+    let Some(boards) = boards(sheet) else { return };
+    let rank = random.below(boards);
+    let at = board_at(rank);
+    let near = random.pick(&[-1, 1, 2, 256]);
+    match random.below(9) {
+        0 => add_word(sheet, at + board::FIRST, near),
+        1 => add_word(sheet, at + board::COUNT, near),
+        2 => set_word(sheet, at + board::FIRST, random.word()),
+        3 => set_word(sheet, at + board::COUNT, random.pick(&[0, 1024, 65_535])),
+        4 => {
+            let sizes = [0, 16_383, 16_384, 16_385, 32_768, 65_535];
+            set_word(sheet, at + board::ATTACHED, random.pick(&sizes));
+        }
+        5 => set_word(sheet, at + board::INBOX, random.pick(&[0, 16_384, 65_535])),
+        6 => inbox_total(sheet, boards, rank, random),
+        7 => counts(sheet, boards, rank, near),
+        _ => {
+            let last = board_at(boards - 1);
+            add_word(sheet, last + board::COUNT, near);
+        }
+    }
+}
+
+/// Brings the running total at a rank to the limit or just above it.
+fn inbox_total(sheet: &mut [u8], boards: usize, rank: usize, random: &mut Random) {
+    let inbox = |of: usize| usize::from(word(sheet, board_at(of) + board::INBOX));
+    let before: usize = (0..rank).map(inbox).sum();
+    let after: usize = (rank + 1..boards).map(inbox).sum();
+    let beside = if random.chance(50) {
+        before
+    } else {
+        before + after
+    };
+    let wanted = layout::MOST_INBOX_TOTAL + random.below(2);
+    if let Some(size) = wanted.checked_sub(beside) {
+        set_word(sheet, board_at(rank) + board::INBOX, size as u16);
+    }
+}
+
+/// Changes a count and every later first operation with it, so that only the
+/// total is wrong.
+fn counts(sheet: &mut [u8], boards: usize, rank: usize, amount: i32) {
+    add_word(sheet, board_at(rank) + board::COUNT, amount);
+    for later in rank + 1..boards {
+        add_word(sheet, board_at(later) + board::FIRST, amount);
+    }
+}
+
+/// Where a random operation starts, if there is one.
+fn some_operation(sheet: &[u8], random: &mut Random) -> Option<usize> {
+    let boards = boards(sheet)?;
+    let operations = usize::from(word(sheet, head::OPERATIONS));
+    if operations == 0 || operation_at(boards, operations) > sheet.len() {
+        return None;
+    }
+    let index = match random.below(6) {
+        0 => 0,
+        1 => operations - 1,
+        _ => random.below(operations),
+    };
+    Some(operation_at(boards, index))
+}
+
+/// One field of an operation.
+pub fn operation(sheet: &mut Vec<u8>, random: &mut Random) {
+    let Some(at) = some_operation(sheet, random) else {
+        return;
+    };
+    let boards = word(sheet, head::BOARDS);
+    let communicators = word(sheet, head::COMMUNICATORS);
+    match random.below(11) {
+        0 => sheet[at + op::KIND] = random.pick(&[0, 1, 2, 3, 4, 5, 6, 7, 255]),
+        1 => sheet[at + op::FLAG] = random.pick(&[0, 1, 2, 255]),
+        2 => {
+            let peers = [0, boards - 1, boards, boards + 256, 65_534, 65_535];
+            set_word(sheet, at + op::PEER, random.pick(&peers));
+        }
+        3 => {
+            let around = [communicators.wrapping_sub(1), communicators, 256, 65_535];
+            set_word(sheet, at + op::COMMUNICATOR, random.pick(&around));
+        }
+        4 => set_word(sheet, at + op::ZERO, random.pick(&[1, 256, 65_535])),
+        5 => {
+            let tags = [0, 32_767, 32_768, 65_534, 65_535];
+            set_word(sheet, at + op::TAG, random.pick(&tags));
+        }
+        6 | 7 => end_of_area(sheet, at, random),
+        8 => {
+            let lengths = [0, 1, 4095, 4096, 4097, 65_535];
+            set_word(sheet, at + op::LENGTH, random.pick(&lengths));
+        }
+        9 => slot(sheet, random),
+        _ => set_word(
+            sheet,
+            at + op::SLOT,
+            random.pick(&[0, 1, 31, 32, 256, 65_535]),
+        ),
+    }
+}
+
+/// Another small slot, which is a right field and may break the slot rule.
+pub fn slot(sheet: &mut Vec<u8>, random: &mut Random) {
+    if let Some(at) = some_operation(sheet, random) {
+        let wait = sheet[at + op::KIND] == layout::kind::WAIT;
+        if wait || sheet[at + op::FLAG] == 1 {
+            set_word(sheet, at + op::SLOT, random.below(layout::SLOTS) as u16);
+        }
+    }
+}
+
+/// Offset plus length at the end of a payload or inbox, one above, or above
+/// 65,535.
+fn end_of_area(sheet: &mut [u8], at: usize, random: &mut Random) {
+    let boards = usize::from(word(sheet, head::BOARDS));
+    let room = match random.chance(50) {
+        true => word(sheet, head::PAYLOAD_LENGTH),
+        false => word(sheet, board_at(random.below(boards)) + board::INBOX),
+    };
+    let length = word(sheet, at + op::LENGTH);
+    let end = room.wrapping_sub(length);
+    let offsets = [end, end.wrapping_add(1), 65_535, length.wrapping_neg()];
+    match random.below(3) {
+        0 => set_word(sheet, at + op::LENGTH, room.wrapping_add(1)),
+        _ => set_word(sheet, at + op::OFFSET, random.pick(&offsets)),
+    }
+}

@@ -1,0 +1,100 @@
+//! Generators of sheets for the differential tests. A generator does not know
+//! the answer to its sheet: the judges give it. Each kind of case aims at one
+//! group of rules of document 01.
+//!
+//! - `size`: how large a sheet becomes.
+//! - `script`: right scripts for a board.
+//! - `valid`: whole right sheets.
+//! - `damage`: one wrong field, or one at the edge of its range.
+//! - `garbage`: random bytes, truncations, extensions, random fields.
+//! - `requests`: slots and areas just right and just wrong.
+//! - `limits`: both sides of every limit, the sheet otherwise right.
+
+mod damage;
+mod garbage;
+mod limits;
+mod requests;
+mod script;
+mod size;
+mod valid;
+
+use crate::random::Random;
+use crate::sheet::mend_crc;
+
+pub use limits::LIMITS;
+
+type Generator = fn(&mut Random) -> Vec<u8>;
+
+/// The kinds of cases: name, how many of a hundred cases, generator.
+pub const KINDS: [(&str, usize, Generator); 14] = [
+    ("right, small", 12, |random| right(random, size::small)),
+    ("right, medium", 5, |random| right(random, size::medium)),
+    ("right, large", 2, |random| right(random, size::large)),
+    ("all slots held", 2, requests::all_slots_held),
+    ("at a limit", 8, limits::any),
+    ("header", 6, |random| damaged(random, &[damage::header])),
+    ("offset or length", 6, |random| {
+        damaged(random, &[damage::offset_or_length])
+    }),
+    ("crc", 6, damage::crc),
+    ("board entry", 10, |random| {
+        damaged(random, &[damage::board])
+    }),
+    ("operation field", 14, |random| {
+        damaged(random, &[damage::operation])
+    }),
+    ("slots and areas", 14, requests::pair),
+    ("several faults", 8, several_faults),
+    ("truncated or extended", 3, garbage::truncated_or_extended),
+    ("garbage", 4, garbage::any),
+];
+
+/// Case number `case` of a seed: its kind (an index into `KINDS`) and sheet.
+/// Each case has a generator of its own, so that it can be made alone.
+pub fn case(seed: u64, case: u64) -> (usize, Vec<u8>, Random) {
+    let mut random =
+        Random::new(Random::new(seed).next() ^ case.wrapping_mul(0xD134_2543_DE82_EF95));
+    let mut left = random.below(100);
+    let mut kind = 0;
+    while left >= KINDS[kind].1 {
+        left -= KINDS[kind].1;
+        kind += 1;
+    }
+    let sheet = KINDS[kind].2(&mut random);
+    (kind, sheet, random)
+}
+
+fn right(random: &mut Random, size: fn(&mut Random) -> size::Size) -> Vec<u8> {
+    let size = size(random);
+    valid::sheet(random, &size).bytes()
+}
+
+/// A right sheet with these damages done to it and the CRC mended.
+fn damaged(random: &mut Random, damages: &[damage::Damage]) -> Vec<u8> {
+    let size = size::any(random);
+    let mut bytes = valid::sheet(random, &size).bytes();
+    for damage in damages {
+        damage(&mut bytes, random);
+    }
+    mend_crc(&mut bytes);
+    bytes
+}
+
+/// Two to five faults at once, so that the lowest number and the first place
+/// are tried against others.
+fn several_faults(random: &mut Random) -> Vec<u8> {
+    let often: [damage::Damage; 3] = [damage::operation, damage::board, damage::slot];
+    let seldom: [damage::Damage; 2] = [damage::header, damage::offset_or_length];
+    let mut damages: Vec<damage::Damage> = Vec::new();
+    for _ in 0..random.between(2, 5) {
+        damages.push(random.pick(&often));
+    }
+    if random.chance(15) {
+        damages.push(random.pick(&seldom));
+    }
+    let mut bytes = damaged(random, &damages);
+    if random.chance(10) {
+        damage::flip_bit(&mut bytes, random);
+    }
+    bytes
+}

@@ -1,0 +1,176 @@
+//! Right scripts for one board: slots are taken when free and freed when
+//! held, and areas keep clear of those of held receives (document 01, Slots
+//! and Areas).
+
+use crate::layout::{kind, ANY, MOST_TAG, SLOTS};
+use crate::random::Random;
+use crate::sheet::{longest, Operation};
+
+/// What the scripts of a sheet have in common.
+pub struct Surroundings {
+    pub boards: usize,
+    pub communicators: u16,
+    pub payload: usize,
+    /// How many of a hundred transfers are nonblocking.
+    pub nonblocking: usize,
+    /// How many of a hundred operations are waits when a slot is held.
+    pub waits: usize,
+}
+
+pub struct Writer<'a> {
+    around: &'a Surroundings,
+    inbox: usize,
+    held: [Option<Operation>; SLOTS],
+    last_freed: Option<Operation>,
+    script: Vec<Operation>,
+}
+
+impl<'a> Writer<'a> {
+    pub fn new(around: &'a Surroundings, inbox: usize) -> Writer<'a> {
+        Writer {
+            around,
+            inbox,
+            held: [None; SLOTS],
+            last_freed: None,
+            script: Vec::new(),
+        }
+    }
+
+    pub fn finish(self) -> Vec<Operation> {
+        self.script
+    }
+
+    /// Adds one operation that breaks no rule.
+    pub fn add(&mut self, random: &mut Random) {
+        let holding = self.held.iter().any(Option::is_some);
+        if holding && random.chance(self.around.waits) {
+            let slot = self.some_slot(random, true);
+            self.last_freed = self.held[usize::from(slot)].take();
+            self.script.push(Operation::wait(slot));
+            return;
+        }
+        let mut operation = match random.chance(50) {
+            true => self.receive(random),
+            false => self.send(random),
+        };
+        let full = self.held.iter().all(Option::is_some);
+        if !full && random.chance(self.around.nonblocking) {
+            let slot = self.free_slot(random);
+            operation = operation.nonblocking(slot);
+            self.held[usize::from(slot)] = Some(operation);
+        }
+        self.script.push(operation);
+    }
+
+    /// A slot that is held, or one that is not; there is one.
+    fn some_slot(&self, random: &mut Random, held: bool) -> u16 {
+        let mut slot = random.below(SLOTS);
+        while self.held[slot].is_some() != held {
+            slot = (slot + 1) % SLOTS;
+        }
+        slot as u16
+    }
+
+    /// Often the slot freed last, so that slots are retaken.
+    fn free_slot(&self, random: &mut Random) -> u16 {
+        match self.last_freed {
+            Some(freed) if self.held[usize::from(freed.slot)].is_none() && random.chance(40) => {
+                freed.slot
+            }
+            _ => self.some_slot(random, false),
+        }
+    }
+
+    fn send(&self, random: &mut Random) -> Operation {
+        let (offset, length) = stretch(random, self.around.payload);
+        Operation {
+            peer: random.below(self.around.boards) as u16,
+            communicator: random.below(usize::from(self.around.communicators)) as u16,
+            tag: tag(random),
+            ..Operation::send(random.pick(&[1, 2, 3, 4]), 0, 0, offset, length)
+        }
+    }
+
+    fn receive(&self, random: &mut Random) -> Operation {
+        let (offset, length) = self.area(random);
+        let mut operation = Operation {
+            kind: kind::RECEIVE,
+            offset,
+            length,
+            ..self.send(random)
+        };
+        if random.chance(20) {
+            operation.peer = ANY;
+        }
+        if random.chance(20) {
+            operation.tag = ANY;
+        }
+        operation
+    }
+
+    /// An area that shares no byte with a held one; an empty one if a few
+    /// tries find no other.
+    fn area(&self, random: &mut Random) -> (u16, u16) {
+        for _ in 0..4 {
+            let (offset, length) = self.wish(random);
+            let inside = usize::from(offset) + usize::from(length) <= self.inbox;
+            if inside && !self.shares(offset, length) {
+                return (offset, length);
+            }
+        }
+        (random.between(0, self.inbox) as u16, 0)
+    }
+
+    /// Touching a held area on either side, the area freed last, or any.
+    fn wish(&self, random: &mut Random) -> (u16, u16) {
+        let (offset, length) = stretch(random, self.inbox);
+        let near = self.held[random.below(SLOTS)].filter(|held| held.kind == kind::RECEIVE);
+        match (near, random.below(4)) {
+            (Some(held), 0) => (held.offset + held.length, length),
+            (Some(held), 1) => (held.offset.saturating_sub(length), length),
+            (_, 2) => match self.last_freed {
+                Some(freed) if freed.kind == kind::RECEIVE => (freed.offset, freed.length),
+                _ => (offset, length),
+            },
+            _ => (offset, length),
+        }
+    }
+
+    fn shares(&self, offset: u16, length: u16) -> bool {
+        let receives = self.held.iter().flatten();
+        receives
+            .filter(|held| held.kind == kind::RECEIVE)
+            .any(|held| {
+                length > 0
+                    && held.length > 0
+                    && offset < held.offset + held.length
+                    && held.offset < offset + length
+            })
+    }
+}
+
+fn tag(random: &mut Random) -> u16 {
+    match random.below(8) {
+        0 => 0,
+        1 => MOST_TAG,
+        2..=5 => random.below(4) as u16,
+        _ => random.between(0, usize::from(MOST_TAG)) as u16,
+    }
+}
+
+/// An offset and a length within `room` bytes: mostly short, at times the
+/// longest, empty ones anywhere, some ending with the room.
+pub fn stretch(random: &mut Random, room: usize) -> (u16, u16) {
+    let most = longest(room);
+    let length = match random.below(10) {
+        0 => 0,
+        1 => most,
+        2 => random.between(0, most),
+        _ => random.between(0, most.min(12)),
+    };
+    let offset = match random.below(5) {
+        0 => room - length,
+        _ => random.between(0, room - length),
+    };
+    (offset as u16, length as u16)
+}

@@ -1,0 +1,62 @@
+//! Whole right sheets.
+
+use super::script::{Surroundings, Writer};
+use super::size::Size;
+use crate::layout::MOST_ATTACHED;
+use crate::random::Random;
+use crate::sheet::{Board, Sheet};
+
+pub fn sheet(random: &mut Random, size: &Size) -> Sheet {
+    let around = Surroundings {
+        boards: size.boards,
+        communicators: size.communicators,
+        payload: size.payload,
+        nonblocking: random.pick(&[0, 40, 70, 100]),
+        waits: random.pick(&[0, 10, 30, 45]),
+    };
+    let counts = shares(random, size.operations, size.boards);
+    let inboxes = shares(random, size.inboxes, size.boards);
+    let boards = counts.iter().zip(&inboxes).map(|(&count, &inbox)| {
+        let mut writer = Writer::new(&around, inbox);
+        for _ in 0..count {
+            writer.add(random);
+        }
+        Board {
+            attached: attached(random),
+            inbox: inbox as u16,
+            script: writer.finish(),
+        }
+    });
+    Sheet {
+        communicators: size.communicators,
+        boards: boards.collect(),
+        payload: random.bytes(size.payload),
+    }
+}
+
+fn attached(random: &mut Random) -> u16 {
+    match random.below(4) {
+        0 => 0,
+        1 => MOST_ATTACHED as u16,
+        _ => random.between(0, MOST_ATTACHED) as u16,
+    }
+}
+
+/// Splits a total into parts; at times one part gets everything.
+fn shares(random: &mut Random, total: usize, parts: usize) -> Vec<usize> {
+    if random.chance(20) {
+        let mut all = vec![0; parts];
+        all[random.below(parts)] = total;
+        return all;
+    }
+    let mut cuts: Vec<usize> = (1..parts).map(|_| random.between(0, total)).collect();
+    cuts.push(total);
+    cuts.sort_unstable();
+    let mut from = 0;
+    let part = |cut: usize| {
+        let part = cut - from;
+        from = cut;
+        part
+    };
+    cuts.into_iter().map(part).collect()
+}

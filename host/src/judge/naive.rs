@@ -1,0 +1,196 @@
+//! *Check* once more, as near to the sentences of document 01 as code can be:
+//! bit-wise CRC, every rule asked anew of the whole sheet. It shares no code
+//! with the ordinary judge, so that neither is a copy of the other.
+
+use crate::answer::Answer;
+
+pub fn check(sheet: &[u8]) -> Answer {
+    let view = View(sheet);
+    if sheet.len() < 16 {
+        return Answer::refusal(1, 0);
+    }
+    if !view.ranges() {
+        return Answer::refusal(2, 0);
+    }
+    if !view.offsets_and_length() {
+        return Answer::refusal(3, 0);
+    }
+    if crc(&[&sheet[0..14], &sheet[16..]].concat()) != view.word(14) {
+        return Answer::refusal(4, 0);
+    }
+    let p = view.word(0);
+    if let Some(rank) = (0..p).find(|&rank| !view.entry_right(rank)) {
+        return Answer::refusal(5, rank);
+    }
+    if view.counts_before(p) != view.word(4) {
+        return Answer::refusal(5, p);
+    }
+    let n = view.word(4);
+    if let Some(index) = (0..n).find(|&index| !view.fields_right(index)) {
+        return Answer::refusal(6, index);
+    }
+    match (0..n).find(|&index| !view.slot_right(index) || !view.area_right(index)) {
+        Some(index) => Answer::refusal(7, index),
+        None => Answer::refusal(0, 0),
+    }
+}
+
+/// Polynomial 1021 hex, start FFFF hex, high bit first, no final change.
+pub fn crc(bytes: &[u8]) -> u64 {
+    let mut register: u64 = 0xFFFF;
+    for byte in bytes {
+        for bit in (0..8).rev() {
+            let incoming = u64::from(*byte >> bit & 1);
+            let leaving = register >> 15;
+            register = (register << 1) & 0xFFFF;
+            if incoming != leaving {
+                register ^= 0x1021;
+            }
+        }
+    }
+    register
+}
+
+struct View<'a>(&'a [u8]);
+
+impl View<'_> {
+    fn byte(&self, at: u64) -> u64 {
+        u64::from(self.0[at as usize])
+    }
+
+    fn word(&self, at: u64) -> u64 {
+        self.byte(at) + 256 * self.byte(at + 1)
+    }
+
+    /// P 1 to 16, C 1 to 8, N 0 to 1,024, L 0 to 16,384.
+    fn ranges(&self) -> bool {
+        let (p, c, n, l) = (self.word(0), self.word(2), self.word(4), self.word(12));
+        1 <= p && p <= 16 && 1 <= c && c <= 8 && n <= 1024 && l <= 16384
+    }
+
+    fn offsets_and_length(&self) -> bool {
+        let (p, n, l) = (self.word(0), self.word(4), self.word(12));
+        self.word(6) == 16
+            && self.word(8) == 16 + 8 * p
+            && self.word(10) == 16 + 8 * p + 16 * n
+            && self.0.len() as u64 == 16 + 8 * p + 16 * n + l
+    }
+
+    fn board(&self, rank: u64, field: u64) -> u64 {
+        self.word(16 + 8 * rank + field)
+    }
+
+    fn counts_before(&self, rank: u64) -> u64 {
+        (0..rank).map(|earlier| self.board(earlier, 2)).sum()
+    }
+
+    fn inboxes_through(&self, rank: u64) -> u64 {
+        (0..=rank).map(|earlier| self.board(earlier, 6)).sum()
+    }
+
+    fn entry_right(&self, rank: u64) -> bool {
+        self.board(rank, 0) == self.counts_before(rank)
+            && self.board(rank, 4) <= 16384
+            && self.inboxes_through(rank) <= 16384
+    }
+
+    fn at(&self, index: u64) -> u64 {
+        16 + 8 * self.word(0) + 16 * index
+    }
+
+    fn kind(&self, index: u64) -> u64 {
+        self.byte(self.at(index))
+    }
+
+    fn flag(&self, index: u64) -> u64 {
+        self.byte(self.at(index) + 1)
+    }
+
+    /// The 16-bit fields by their place: 2 peer, 4 communicator, 6 zero,
+    /// 8 tag, 10 offset, 12 length, 14 slot.
+    fn field(&self, index: u64, place: u64) -> u64 {
+        self.word(self.at(index) + place)
+    }
+
+    /// The rank whose script holds the operation.
+    fn rank_of(&self, index: u64) -> u64 {
+        (0..self.word(0))
+            .find(|&rank| {
+                let first = self.board(rank, 0);
+                first <= index && index < first + self.board(rank, 2)
+            })
+            .expect("the counts total N")
+    }
+
+    fn fields_right(&self, index: u64) -> bool {
+        let kind = self.kind(index);
+        let (flag, slot) = (self.flag(index), self.field(index, 14));
+        if kind == 6 {
+            let zeros = [2, 4, 6, 8, 10, 12];
+            return flag == 0 && slot <= 31 && zeros.iter().all(|&f| self.field(index, f) == 0);
+        }
+        let receive = kind == 5;
+        let (peer, tag) = (self.field(index, 2), self.field(index, 8));
+        let (offset, length) = (self.field(index, 10), self.field(index, 12));
+        let inside = match receive {
+            true => self.board(self.rank_of(index), 6),
+            false => self.word(12),
+        };
+        (1..=5).contains(&kind)
+            && (flag == 0 && slot == 0 || flag == 1 && slot <= 31)
+            && (peer < self.word(0) || receive && peer == 65535)
+            && self.field(index, 4) < self.word(2)
+            && self.field(index, 6) == 0
+            && (tag <= 32767 || receive && tag == 65535)
+            && length <= 4096
+            && offset + length <= inside
+    }
+
+    /// The operations of the same board before this one.
+    fn earlier(&self, index: u64) -> std::ops::Range<u64> {
+        self.board(self.rank_of(index), 0)..index
+    }
+
+    fn takes(&self, index: u64) -> bool {
+        self.kind(index) != 6 && self.flag(index) == 1
+    }
+
+    /// Whether the slot that operation `taker` took is held just before
+    /// `index`: no wait between them names it.
+    fn still_held(&self, taker: u64, index: u64) -> bool {
+        let slot = self.field(taker, 14);
+        !(taker + 1..index)
+            .any(|between| self.kind(between) == 6 && self.field(between, 14) == slot)
+    }
+
+    fn slot_right(&self, index: u64) -> bool {
+        let slot = self.field(index, 14);
+        let held = self.earlier(index).any(|before| {
+            self.takes(before) && self.field(before, 14) == slot && self.still_held(before, index)
+        });
+        match (self.kind(index) == 6, self.takes(index)) {
+            (true, _) => held,
+            (false, true) => !held,
+            (false, false) => true,
+        }
+    }
+
+    fn area(&self, index: u64) -> std::ops::Range<u64> {
+        let offset = self.field(index, 10);
+        offset..offset + self.field(index, 12)
+    }
+
+    fn area_right(&self, index: u64) -> bool {
+        let shares = |before: u64| {
+            let other = self.area(before);
+            self.area(index).any(|byte| other.contains(&byte))
+        };
+        self.kind(index) != 5
+            || !self.earlier(index).any(|before| {
+                self.kind(before) == 5
+                    && self.takes(before)
+                    && self.still_held(before, index)
+                    && shares(before)
+            })
+    }
+}

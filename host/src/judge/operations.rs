@@ -1,0 +1,92 @@
+//! The operation table and refusal 6 (document 01, The sheet, byte by byte).
+
+use super::boards::{Board, Boards};
+use super::header::Header;
+use crate::layout::{self, kind, operation as at, word, ANY};
+
+/// An operation as it stands in the sheet.
+pub struct Operation {
+    pub kind: u8,
+    pub flag: u8,
+    pub peer: u16,
+    pub communicator: u16,
+    zero: u16,
+    pub tag: u16,
+    pub offset: u16,
+    pub length: u16,
+    pub slot: u16,
+}
+
+impl Operation {
+    pub fn read(row: &[u8]) -> Operation {
+        Operation {
+            kind: row[at::KIND],
+            flag: row[at::FLAG],
+            peer: word(row, at::PEER),
+            communicator: word(row, at::COMMUNICATOR),
+            zero: word(row, at::ZERO),
+            tag: word(row, at::TAG),
+            offset: word(row, at::OFFSET),
+            length: word(row, at::LENGTH),
+            slot: word(row, at::SLOT),
+        }
+    }
+
+    fn right(&self, header: &Header, board: &Board) -> bool {
+        match self.kind {
+            kind::STANDARD..=kind::READY => self.right_transfer(header, header.payload, false),
+            kind::RECEIVE => self.right_transfer(header, board.inbox, true),
+            kind::WAIT => self.right_wait(),
+            _ => false,
+        }
+    }
+
+    /// A send or a receive, whose offset and length lie within `room` bytes.
+    fn right_transfer(&self, header: &Header, room: usize, receive: bool) -> bool {
+        let peer = usize::from(self.peer) < header.boards || (receive && self.peer == ANY);
+        let tag = self.tag <= layout::MOST_TAG || (receive && self.tag == ANY);
+        let slot = match self.flag {
+            0 => self.slot == 0,
+            1 => usize::from(self.slot) < layout::SLOTS,
+            _ => false,
+        };
+        peer && tag
+            && slot
+            && self.communicator < header.communicators
+            && self.zero == 0
+            && self.length <= layout::MOST_LENGTH
+            && usize::from(self.offset) + usize::from(self.length) <= room
+    }
+
+    fn right_wait(&self) -> bool {
+        let others = [
+            self.peer,
+            self.communicator,
+            self.zero,
+            self.tag,
+            self.offset,
+            self.length,
+        ];
+        self.flag == 0 && others == [0; 6] && usize::from(self.slot) < layout::SLOTS
+    }
+}
+
+/// The rows of one board's operations.
+pub fn rows<'a>(table: &'a [u8], board: &Board) -> std::slice::ChunksExact<'a, u8> {
+    let start = board.first * layout::OPERATION_BYTES;
+    let end = start + board.count * layout::OPERATION_BYTES;
+    table[start..end].chunks_exact(layout::OPERATION_BYTES)
+}
+
+/// The place of refusal 6 if it applies.
+pub fn check(sheet: &[u8], header: &Header, boards: &Boards) -> Result<(), u64> {
+    let table = header.operation_entries(sheet);
+    for board in boards.in_rank_order() {
+        for (index, row) in rows(table, board).enumerate() {
+            if !Operation::read(row).right(header, board) {
+                return Err((board.first + index) as u64);
+            }
+        }
+    }
+    Ok(())
+}

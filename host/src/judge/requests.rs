@@ -1,0 +1,88 @@
+//! Request slots, the areas of receives, and refusal 7 (document 01, Slots
+//! and Areas). One pass; a receive is compared with at most 32 held areas.
+
+use super::boards::Boards;
+use super::header::Header;
+use super::operations::{self, Operation};
+use crate::layout::{kind, SLOTS};
+
+/// The slots of one board: a bit a slot. `receives` marks the held slots of
+/// receives whose area is not empty; only those can share a byte.
+struct Requests {
+    held: u32,
+    receives: u32,
+    areas: [Area; SLOTS],
+}
+
+#[derive(Clone, Copy)]
+struct Area {
+    start: u32,
+    end: u32,
+}
+
+impl Requests {
+    fn new() -> Requests {
+        Requests {
+            held: 0,
+            receives: 0,
+            areas: [Area { start: 0, end: 0 }; SLOTS],
+        }
+    }
+
+    /// Takes up the next operation; false if it breaks a rule.
+    fn take(&mut self, operation: &Operation) -> bool {
+        let slot = 1 << operation.slot;
+        if operation.kind == kind::WAIT {
+            let held = self.held & slot != 0;
+            self.held &= !slot;
+            self.receives &= !slot;
+            return held;
+        }
+        if operation.flag == 1 && self.held & slot != 0 {
+            return false;
+        }
+        let start = u32::from(operation.offset);
+        let area = Area {
+            start,
+            end: start + u32::from(operation.length),
+        };
+        let occupies = operation.kind == kind::RECEIVE && operation.length > 0;
+        if occupies && self.shares(area) {
+            return false;
+        }
+        if operation.flag == 1 {
+            self.held |= slot;
+            if occupies {
+                self.receives |= slot;
+                self.areas[usize::from(operation.slot)] = area;
+            }
+        }
+        true
+    }
+
+    fn shares(&self, area: Area) -> bool {
+        let mut left = self.receives;
+        while left != 0 {
+            let other = self.areas[left.trailing_zeros() as usize];
+            if area.start < other.end && other.start < area.end {
+                return true;
+            }
+            left &= left - 1;
+        }
+        false
+    }
+}
+
+/// The place of refusal 7 if it applies; the fields are right (refusal 6).
+pub fn check(sheet: &[u8], header: &Header, boards: &Boards) -> Result<(), u64> {
+    let table = header.operation_entries(sheet);
+    for board in boards.in_rank_order() {
+        let mut requests = Requests::new();
+        for (index, row) in operations::rows(table, board).enumerate() {
+            if !requests.take(&Operation::read(row)) {
+                return Err((board.first + index) as u64);
+            }
+        }
+    }
+    Ok(())
+}

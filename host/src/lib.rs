@@ -1,0 +1,24 @@
+//! The Rust side of Jamturret: a safe wrapper of the proved library, a judge
+//! of our own written from document 01, and what is needed to compare them.
+//!
+//! - `answer`: number and place of an answer.
+//! - `layout`: where the fields of a sheet stand, and their limits.
+//! - `ffi`: the library behind a safe function.
+//! - `judge`: our own judge, in an ordinary and in a naive form.
+//! - `sheet`: builds job sheets, right ones and damaged ones.
+//! - `bench_jobs`: the bench jobs of document 01 as sheets.
+//! - `random`: a seeded generator of numbers.
+//! - `generate`: generators of sheets for the differential tests.
+//! - `guarded`: lends a sheet between guard bytes.
+//! - `desk`: lends rooms to *follow* and *run* and reads the report.
+
+pub mod answer;
+pub mod bench_jobs;
+pub mod desk;
+pub mod ffi;
+pub mod generate;
+pub mod guarded;
+pub mod judge;
+pub mod layout;
+pub mod random;
+pub mod sheet;

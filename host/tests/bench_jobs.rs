@@ -1,0 +1,21 @@
+//! The bench jobs of document 01 as far as *check* sees them.
+
+mod common;
+
+use common::expect;
+use jamturret_host::bench_jobs;
+
+#[test]
+fn every_job_is_accepted() {
+    for (name, sheet) in bench_jobs::accepted() {
+        expect(name, &sheet.bytes(), 0, 0);
+    }
+}
+
+#[test]
+fn case_14_refusals() {
+    let operations = bench_jobs::case_14_operations(1025).bytes();
+    expect("N 1,025", &operations, 2, 0);
+    expect("tag 32,768", &bench_jobs::case_14_tag(32_768).bytes(), 6, 0);
+    expect("slot 32", &bench_jobs::case_14_slot(32).bytes(), 6, 0);
+}

@@ -1,0 +1,296 @@
+//! Bench jobs 1 to 13 of document 01 under our judge's *run* and *follow*:
+//! verdicts, orders, matches, cut messages and inbox bytes.
+
+use jamturret_host::answer::Answer;
+use jamturret_host::bench_jobs;
+use jamturret_host::desk::{Desk, FILL};
+use jamturret_host::layout::kind::BUFFERED;
+use jamturret_host::layout::word;
+use jamturret_host::sheet::{Operation, Sheet};
+
+const FINISHED: u8 = 1;
+const DEADLOCK: u8 = 2;
+const OVERFLOW: u8 = 3;
+const NOT_READY: u8 = 4;
+
+struct Outcome {
+    desk: Desk,
+    boards: usize,
+}
+
+fn run(sheet: &Sheet) -> Outcome {
+    let bytes = sheet.bytes();
+    let mut desk = Desk::for_sheet(&bytes);
+    assert_eq!(desk.run(&bytes), Answer::SUCCESS);
+    Outcome {
+        desk,
+        boards: sheet.boards.len(),
+    }
+}
+
+fn follow(sheet: &Sheet, order: &[u8]) -> Outcome {
+    let bytes = sheet.bytes();
+    let mut desk = Desk::for_sheet(&bytes);
+    assert_eq!(desk.follow(&bytes, order), Answer::SUCCESS);
+    Outcome {
+        desk,
+        boards: sheet.boards.len(),
+    }
+}
+
+impl Outcome {
+    fn ends(&self, verdict: u8, order: &[u8]) {
+        assert_eq!(self.desk.report[0], verdict, "verdict");
+        assert_eq!(self.desk.order(), order, "order");
+    }
+
+    /// Stop rank and stop operation.
+    fn stopped_at(&self, rank: u8, operation: u16) {
+        let at = (self.desk.report[1], word(&self.desk.report, 2));
+        assert_eq!(at, (rank, operation), "stop");
+    }
+
+    /// Pending messages, pending receives, cut messages.
+    fn counts(&self, messages: u16, receives: u16, cut: u16) {
+        let at = |place| word(&self.desk.report, place);
+        assert_eq!((at(10), at(12), at(14)), (messages, receives, cut));
+    }
+
+    fn row(&self, operation: usize) -> &[u8] {
+        let at = 16 + 8 * self.boards + 12 * operation;
+        &self.desk.report[at..at + 12]
+    }
+
+    fn matched(&self, send: usize, receive: usize) {
+        for (one, other) in [(send, receive), (receive, send)] {
+            assert_eq!(self.row(one)[0], 3, "state of {one}");
+            assert_eq!(
+                usize::from(word(self.row(one), 2)),
+                other,
+                "partner of {one}"
+            );
+        }
+    }
+
+    /// Finished, buffer in use, peak, state.
+    fn board(&self, rank: usize, expected: (u16, u16, u16, u8)) {
+        let row = &self.desk.report[16 + 8 * rank..];
+        assert_eq!((word(row, 0), word(row, 2), word(row, 4), row[6]), expected);
+    }
+
+    /// Bytes at a place of the inbox memory; all others keep their values.
+    fn inbox(&self, areas: &[(usize, &[u8])]) {
+        let mut expected = vec![FILL; self.desk.inbox.len()];
+        for (start, bytes) in areas {
+            expected[*start..start + bytes.len()].copy_from_slice(bytes);
+        }
+        assert_eq!(self.desk.inbox, expected);
+    }
+}
+
+/// Where the inbox of rank 1 starts in the inbox memory of these jobs.
+const INBOX_1: usize = 16;
+
+#[test]
+fn case_1_whole_report() {
+    let outcome = run(&bench_jobs::case_1());
+    let expected = "01 FF FF FF 04 00 02 00 02 00 00 00 00 00 00 00 \
+                    01 00 00 00 00 00 02 00 \
+                    01 00 00 00 00 00 02 00 \
+                    03 00 01 00 FF FF FF FF 00 00 00 00 \
+                    03 00 00 00 00 00 07 00 03 00 00 00";
+    let hex: Vec<String> = outcome
+        .desk
+        .report
+        .iter()
+        .map(|b| format!("{b:02X}"))
+        .collect();
+    assert_eq!(hex.join(" "), expected);
+    outcome.ends(FINISHED, &[0, 1, 0, 1]);
+    outcome.inbox(&[(INBOX_1, &[1, 2, 3])]);
+}
+
+#[test]
+fn case_2_first_to_first() {
+    let outcome = run(&bench_jobs::case_2());
+    outcome.ends(FINISHED, &[0, 0, 0, 0, 1, 1, 1, 1]);
+    outcome.matched(0, 2);
+    outcome.matched(1, 3);
+    outcome.board(0, (2, 0, 5, 2));
+    outcome.inbox(&[(INBOX_1, &[1, 2, 3]), (INBOX_1 + 4, &[4, 5])]);
+}
+
+#[test]
+fn case_3_crosswise() {
+    let outcome = run(&bench_jobs::case_3(3));
+    outcome.ends(FINISHED, &[0, 0, 0, 1, 0, 1, 1, 1]);
+    outcome.matched(0, 3);
+    outcome.matched(1, 2);
+    outcome.board(0, (2, 0, 3, 2));
+    outcome.inbox(&[(INBOX_1, &[4, 5]), (INBOX_1 + 4, &[1, 2, 3])]);
+}
+
+#[test]
+fn case_3_one_byte_short() {
+    let outcome = run(&bench_jobs::case_3(2));
+    outcome.ends(OVERFLOW, &[0]);
+    outcome.stopped_at(0, 0);
+    outcome.counts(0, 0, 0);
+    outcome.board(0, (0, 0, 0, 0));
+    outcome.board(1, (0, 0, 0, 0));
+    assert_eq!(outcome.row(0)[0], 0);
+    outcome.inbox(&[]);
+}
+
+#[test]
+fn case_4_exchange() {
+    let outcome = run(&bench_jobs::case_4());
+    outcome.ends(FINISHED, &[0, 1, 0, 0, 1, 1, 0, 1]);
+    outcome.matched(0, 2);
+    outcome.matched(3, 1);
+}
+
+#[test]
+fn case_5_both_receive() {
+    let outcome = run(&bench_jobs::case_5());
+    outcome.ends(DEADLOCK, &[0, 1]);
+    outcome.stopped_at(255, 65_535);
+    outcome.counts(0, 2, 0);
+}
+
+#[test]
+fn case_6_both_send() {
+    let outcome = run(&bench_jobs::case_6());
+    outcome.ends(DEADLOCK, &[0, 1]);
+    outcome.counts(2, 0, 0);
+    outcome.board(0, (0, 0, 0, 0));
+}
+
+#[test]
+fn case_7_in_order() {
+    let outcome = run(&bench_jobs::case_7());
+    outcome.ends(FINISHED, &[0, 0, 1, 0, 1, 0, 1, 1]);
+    outcome.matched(0, 4);
+    outcome.matched(1, 5);
+    assert_eq!(
+        outcome.row(2),
+        [5, 0, 255, 255, 255, 255, 255, 255, 0, 0, 0, 0]
+    );
+}
+
+/// A send takes the earliest-posted receive that fits.
+#[test]
+fn case_7_receives_first() {
+    let outcome = follow(&bench_jobs::case_7(), &[1, 1, 0, 0, 0, 0, 1, 1]);
+    assert_eq!(outcome.desk.report[0], FINISHED);
+    outcome.matched(0, 4);
+    outcome.matched(1, 5);
+}
+
+#[test]
+fn case_8_progress() {
+    let outcome = run(&bench_jobs::case_8());
+    outcome.ends(FINISHED, &[0, 1, 0, 0, 1, 0, 1, 1]);
+    outcome.matched(0, 2);
+    outcome.matched(1, 3);
+}
+
+#[test]
+fn case_9_ready() {
+    let outcome = run(&bench_jobs::case_9());
+    outcome.ends(NOT_READY, &[0]);
+    outcome.stopped_at(0, 0);
+    outcome.counts(0, 0, 0);
+    outcome.board(0, (0, 0, 0, 0));
+    assert_eq!(outcome.row(0)[0], 0, "not entered");
+
+    let outcome = follow(&bench_jobs::case_9(), &[1, 0, 0, 1]);
+    assert_eq!(outcome.desk.report[0], FINISHED);
+    outcome.matched(0, 1);
+}
+
+#[test]
+fn case_10_oneself() {
+    let outcome = run(&bench_jobs::case_10());
+    outcome.ends(DEADLOCK, &[0]);
+    let outcome = run(&bench_jobs::case_10_received());
+    outcome.ends(FINISHED, &[0, 0, 0, 0]);
+    outcome.matched(1, 0);
+    outcome.inbox(&[(0, &[1, 2, 3])]);
+}
+
+#[test]
+fn case_11_cut() {
+    let outcome = run(&bench_jobs::case_11(5));
+    outcome.ends(FINISHED, &[0, 1, 0, 1]);
+    outcome.counts(0, 0, 1);
+    outcome.inbox(&[]);
+    assert_eq!(outcome.row(0), [3, 0, 1, 0, 255, 255, 255, 255, 0, 0, 0, 0]);
+    assert_eq!(outcome.row(1), [3, 1, 0, 0, 0, 0, 0, 0, 5, 0, 0, 0]);
+
+    let outcome = run(&bench_jobs::case_11(4));
+    outcome.ends(FINISHED, &[0, 1, 0, 1]);
+    outcome.counts(0, 0, 0);
+    outcome.inbox(&[(INBOX_1, &[1, 2, 3, 4])]);
+}
+
+#[test]
+fn case_12_any_source() {
+    let sheet = bench_jobs::case_12();
+    let outcome = follow(&sheet, &[0, 1, 2, 0, 2, 2, 1, 2]);
+    assert_eq!(outcome.desk.report[0], FINISHED);
+    outcome.matched(0, 2);
+    outcome.matched(1, 3);
+    let outcome = follow(&sheet, &[1, 0, 2, 1, 2, 2, 0, 2]);
+    assert_eq!(outcome.desk.report[0], FINISHED);
+    outcome.matched(1, 2);
+    outcome.matched(0, 3);
+}
+
+#[test]
+fn case_13_small_ones() {
+    let outcome = run(&bench_jobs::case_13_communicators());
+    outcome.ends(DEADLOCK, &[0, 1]);
+    outcome.counts(1, 1, 0);
+
+    run(&bench_jobs::case_13_nothing()).ends(FINISHED, &[]);
+
+    let outcome = run(&bench_jobs::case_13_empty_send());
+    outcome.ends(FINISHED, &[0, 0]);
+    outcome.counts(1, 0, 0);
+    assert_eq!(outcome.row(0)[0], 2);
+}
+
+/// A beginning of an order is a report of its own.
+#[test]
+fn beginnings_of_case_1() {
+    let sheet = bench_jobs::case_1();
+    let outcome = follow(&sheet, &[]);
+    assert_eq!((outcome.desk.report[0], outcome.desk.steps()), (0, 0));
+    outcome.board(0, (0, 0, 0, 1));
+    let outcome = follow(&sheet, &[0]);
+    assert_eq!((outcome.desk.report[0], outcome.desk.steps()), (0, 1));
+    outcome.board(0, (0, 0, 0, 0));
+    outcome.counts(1, 0, 0);
+    let outcome = follow(&sheet, &[0, 1]);
+    outcome.matched(0, 1);
+    outcome.board(0, (0, 0, 0, 1));
+    outcome.inbox(&[(INBOX_1, &[1, 2, 3])]);
+}
+
+/// A wait asks for the operation of its own slot, and a retaken slot for the
+/// operation that took it last.
+#[test]
+fn slots_are_told_apart() {
+    let never = Operation::receive(1, 9, 0, 4).nonblocking(0);
+    let empty = Operation::send(BUFFERED, 1, 0, 0, 0).nonblocking(1);
+    let waits_for_1 = [never, empty, Operation::wait(1), empty, Operation::wait(1)];
+    let outcome = run(&Sheet::of_scripts(&[&waits_for_1, &[]], 16));
+    outcome.ends(FINISHED, &[0; 5]);
+    outcome.counts(2, 1, 0);
+
+    let waits_for_0 = [empty, Operation::wait(1), never, Operation::wait(0)];
+    let outcome = run(&Sheet::of_scripts(&[&waits_for_0, &[]], 16));
+    outcome.ends(DEADLOCK, &[0; 3]);
+    outcome.board(0, (3, 0, 0, 0));
+}

@@ -1,0 +1,110 @@
+//! Wrong CRCs, and the order of refusals: the lowest number first, each over
+//! the whole sheet (document 01, When the desk says no).
+
+mod common;
+
+use common::expect;
+use jamturret_host::bench_jobs;
+use jamturret_host::layout::{board, header, operation, word};
+use jamturret_host::sheet::{
+    add_word, board_at, mend_crc, operation_at, set_word, Operation, Sheet,
+};
+
+/// A right sheet with a wait that no slot is held for (7, place 2).
+fn with_seven() -> Vec<u8> {
+    let send = Operation::send(1, 0, 0, 0, 3);
+    Sheet::of_scripts(&[&[send, send], &[Operation::wait(0)]], 8).bytes()
+}
+
+#[test]
+fn every_bit_of_a_sheet_is_covered() {
+    let right = bench_jobs::case_1().bytes();
+    for bit in 0..8 * right.len() {
+        let mut sheet = right.clone();
+        sheet[bit / 8] ^= 1 << (bit % 8);
+        // P, C, N, L and the offsets are looked at before the CRC. Another C
+        // within its range is only a difference for the CRC.
+        let communicators = word(&sheet, header::COMMUNICATORS);
+        let number = match bit / 16 {
+            0 if !(1..=16).contains(&word(&sheet, header::BOARDS)) => 2,
+            1 if !(1..=8).contains(&communicators) => 2,
+            2 if word(&sheet, header::OPERATIONS) > 1024 => 2,
+            6 if word(&sheet, header::PAYLOAD_LENGTH) > 16_384 => 2,
+            0 | 2..=6 => 3,
+            _ => 4,
+        };
+        expect(&format!("bit {bit}"), &sheet, number, 0);
+    }
+}
+
+#[test]
+fn each_lower_number_comes_first() {
+    let mut sheet = with_seven();
+    expect("7", &sheet, 7, 2);
+
+    set_word(&mut sheet, operation_at(2, 1) + operation::ZERO, 1);
+    mend_crc(&mut sheet);
+    expect("6 and 7", &sheet, 6, 1);
+
+    set_word(&mut sheet, board_at(1) + board::ATTACHED, 16_385);
+    mend_crc(&mut sheet);
+    expect("5 to 7", &sheet, 5, 1);
+
+    sheet[header::CRC] ^= 1;
+    expect("4 to 7", &sheet, 4, 0);
+
+    add_word(&mut sheet, header::PAYLOAD, 1);
+    expect("3 to 7", &sheet, 3, 0);
+
+    set_word(&mut sheet, header::COMMUNICATORS, 9);
+    expect("2 to 7", &sheet, 2, 0);
+
+    expect("1 to 7", &sheet[..15], 1, 0);
+}
+
+#[test]
+fn first_place_of_a_number() {
+    let mut sheet = with_seven();
+    for index in [2, 1, 0] {
+        set_word(&mut sheet, operation_at(2, index) + operation::ZERO, 1);
+        mend_crc(&mut sheet);
+        expect("earlier operation", &sheet, 6, index as u64);
+    }
+    for rank in [1, 0] {
+        set_word(&mut sheet, board_at(rank) + board::ATTACHED, 65_535);
+        mend_crc(&mut sheet);
+        expect("earlier board", &sheet, 5, rank as u64);
+    }
+}
+
+/// An entry is wrong before the total is: place P only if nothing else is.
+#[test]
+fn total_comes_after_the_entries() {
+    let mut sheet = with_seven();
+    add_word(&mut sheet, board_at(1) + board::COUNT, 1);
+    mend_crc(&mut sheet);
+    expect("only the total", &sheet, 5, 2);
+    set_word(&mut sheet, board_at(1) + board::INBOX, 65_535);
+    mend_crc(&mut sheet);
+    expect("an entry too", &sheet, 5, 1);
+}
+
+/// Counts that come back to N when summed in 16 bits.
+#[test]
+fn counts_do_not_wrap() {
+    let mut sheet = with_seven();
+    set_word(&mut sheet, board_at(0) + board::COUNT, 65_535);
+    set_word(&mut sheet, board_at(1) + board::FIRST, 65_535);
+    set_word(&mut sheet, board_at(1) + board::COUNT, 4);
+    mend_crc(&mut sheet);
+    expect("total 65,539", &sheet, 5, 2);
+}
+
+#[test]
+fn every_truncation_is_refused() {
+    let sheet = bench_jobs::case_7().bytes();
+    for length in 0..sheet.len() {
+        let number = if length < 16 { 1 } else { 3 };
+        expect(&format!("{length} bytes"), &sheet[..length], number, 0);
+    }
+}
