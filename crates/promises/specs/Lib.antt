@@ -66,3 +66,6 @@ pub mod Swap
 pub mod Calm
 pub mod Ends
 pub mod Run
+pub mod Swapped
+pub mod Matched
+pub mod Theorems
