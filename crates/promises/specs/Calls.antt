@@ -1,0 +1,185 @@
+-- What a call of follow or run on a sheet that passes has said, once number 8 does not refuse it: the rooms suffice, the
+-- answer is the order's, and on success inbox and report hold what the job left. Assumes nothing.
+--   Follow-answer, follow-answer     of a call of follow
+--   follow-accepted ..               and of one that answered 0
+--   Run-answer, run-answer           of a call of run
+--   front-report                     the report at the front of its room
+use mathlib.Core.Path.{_≡_, refl, sym, ap, _∙_}
+use mathlib.Core.Logic.{_≢_}
+use mathlib.Core.Bool.{Bool, true, false, cond}
+use mathlib.Core.List.{List}
+use mathlib.Core.Option.{Option, none, some}
+use Prim.Native.Nat.{ℕ, _≤_}
+use native.Mathlib.Omega.{arith}
+use lib.Dec.{ltb, eqb}
+use lib.ListN.{length, take, drop}
+use lib.Seq.{take-at}
+use borrow.Author.Tests.{ltb-false, eq-eqb, ne-eqb, eqb-true}
+use Rattle.rules.specs.Limits.{report-size, order-room, scratch-size}
+use Rattle.rules.specs.Sheet.{Sheet, sheet-in, P-of, N-of, inbox-total}
+use Rattle.rules.specs.Refusal.{Refusal, refusal, accepted, or-else, sheet-refusal}
+use Rattle.rules.specs.Step.{is-none}
+use Rattle.rules.specs.Order.{follow, run}
+use Rattle.rules.specs.Report.{report}
+use Rattle.rules.specs.Service.{told, room-refusal, order-refusal, in-front, kept-or, follow-refusal, Follow-says, run-refusal, Run-says}
+use Rattle.rules.specs.Claims.{all-bytes, passes, accepts, left-by}
+use Rattle.laws.specs.Tests.{and-right, cond-true, cond-false}
+use Rattle.promises.specs.Statements.{Follow-call, Run-call}
+
+-- a refusal that accepts gives way to the next, one that refuses does not
+or-else-next : (a b : Refusal) → a .number ≡ 0 → or-else a b ≡ b
+unfolding or-else
+or-else-next a b h = cond-true (eqb (a .number) 0) b a (eq-eqb (a .number) 0 h)
+
+or-else-here : (a b : Refusal) → a .number ≢ 0 → or-else a b ≡ a
+unfolding or-else
+or-else-here a b h = cond-false (eqb (a .number) 0) b a (ne-eqb (a .number) 0 h)
+
+passed-number : (bs : List ℕ) → passes bs ≡ true → sheet-refusal bs .number ≡ 0
+unfolding passes
+passed-number bs h = eqb-true (sheet-refusal bs .number) 0 (and-right (all-bytes bs) (eqb (sheet-refusal bs .number) 0) h)
+
+-- ROOMS: number 8, or all of them suffice
+record Rooms (s : Sheet) (i r o c : ℕ) : Type 0 where
+  accepts-all : room-refusal s i r o c ≡ accepted
+  inbox : inbox-total s ≤ i
+  report-room : report-size (P-of s) (N-of s) ≤ r
+
+rooms : (s : Sheet) (i r o c : ℕ) → room-refusal s i r o c .number ≢ 8 → Rooms s i r o c
+unfolding room-refusal refusal
+rooms s i r o c h =
+    record {
+      accepts-all = all (ltb i (inbox-total s)) (ltb r size) (ltb o (order-room (N-of s))) (ltb c scratch-size) h;
+      inbox = ltb-false i (inbox-total s) (first (ltb i (inbox-total s)) (ltb r size) (ltb o (order-room (N-of s))) (ltb c scratch-size) h);
+      report-room = ltb-false r size (second (ltb i (inbox-total s)) (ltb r size) (ltb o (order-room (N-of s))) (ltb c scratch-size) h);
+    }
+  where
+    size : ℕ
+    size = report-size (P-of s) (N-of s)
+
+    answer : (a b d e : Bool) → Refusal
+    answer a b d e = cond a (refusal 8 1) (cond b (refusal 8 2) (cond d (refusal 8 3) (cond e (refusal 8 4) accepted)))
+
+    all : (a b d e : Bool) → answer a b d e .number ≢ 8 → answer a b d e ≡ accepted
+    all true b d e n = absurd (n refl)
+    all false true d e n = absurd (n refl)
+    all false false true e n = absurd (n refl)
+    all false false false true n = absurd (n refl)
+    all false false false false n = refl
+
+    first : (a b d e : Bool) → answer a b d e .number ≢ 8 → a ≡ false
+    first true b d e n = absurd (n refl)
+    first false b d e n = refl
+
+    second : (a b d e : Bool) → answer a b d e .number ≢ 8 → b ≡ false
+    second true b d e n = absurd (n refl)
+    second false true d e n = absurd (n refl)
+    second false false d e n = refl
+
+-- the first `size` bytes of a room in whose front a report of that size stands
+pub front-report : (new old : List ℕ) (size : ℕ) → length new ≡ size → take size (in-front new old) ≡ new
+unfolding in-front
+front-report new old size h = take-at new (drop (length new) old) size h
+
+kept-new : (n : ℕ) (new old : List ℕ) → n ≡ 0 → kept-or n new old ≡ new
+unfolding kept-or
+kept-new n new old h = cond-true (eqb n 0) new old (eq-eqb n 0 h)
+
+-- FOLLOW
+pub record Follow-answer {bs o : List ℕ} (f : Follow-call bs o) : Type 0 where
+  pub inbox-room : inbox-total (sheet-in bs) ≤ length (f .inbox)
+  pub number-is : f .number ≡ order-refusal (follow (sheet-in bs) o (f .inbox) .refused-at) .number
+  pub place-is : f .place ≡ order-refusal (follow (sheet-in bs) o (f .inbox) .refused-at) .place
+
+module _ {bs o : List ℕ} (p : passes bs ≡ true) (f : Follow-call bs o) where
+  abbrev follow-rooms : Refusal
+  follow-rooms = room-refusal (sheet-in bs) (length (f .inbox)) (length (f .report)) (order-room (N-of (sheet-in bs))) (length (f .scratch))
+
+  abbrev follow-order : Refusal
+  follow-order = order-refusal (follow (sheet-in bs) o (f .inbox) .refused-at)
+
+  abbrev follow-number : Refusal
+  follow-number = follow-refusal bs o (f .inbox) (length (f .report)) (length (f .scratch))
+
+  follow-told : told follow-number (f .number) (f .place)
+  unfolding Follow-says
+  follow-told = f .said .0
+
+  after-sheet : follow-number ≡ or-else follow-rooms follow-order
+  unfolding follow-refusal
+  after-sheet = or-else-next (sheet-refusal bs) (or-else follow-rooms follow-order) (passed-number bs p)
+
+  follow-enough : Rooms (sheet-in bs) (length (f .inbox)) (length (f .report)) (order-room (N-of (sheet-in bs))) (length (f .scratch))
+  unfolding told
+  follow-enough =
+      rooms (sheet-in bs) (length (f .inbox)) (length (f .report)) (order-room (N-of (sheet-in bs))) (length (f .scratch))
+      (λ e. f .not-short (follow-told .0 ∙ ap (λ (z : Refusal). z .number) (after-sheet ∙ or-else-here follow-rooms follow-order (λ z. omega arith)) ∙ e))
+
+  after-rooms : follow-number ≡ follow-order
+  unfolding refusal
+  after-rooms = after-sheet ∙ or-else-next follow-rooms follow-order (ap (λ (z : Refusal). z .number) (follow-enough .accepts-all))
+
+  pub follow-answer : Follow-answer f
+  unfolding told
+  follow-answer =
+      record {
+        inbox-room = follow-enough .inbox;
+        number-is = follow-told .0 ∙ ap (λ (z : Refusal). z .number) after-rooms;
+        place-is = follow-told .1 ∙ ap (λ (z : Refusal). z .place) after-rooms;
+      }
+
+  -- success
+  module _ (success : f .number ≡ 0) where
+    number-zero : follow-number .number ≡ 0
+    unfolding told
+    number-zero = sym (follow-told .0) ∙ success
+
+    pub follow-accepted : accepts (sheet-in bs) o (f .inbox) ≡ true
+    unfolding accepts order-refusal refusal is-none
+    follow-accepted = go (follow (sheet-in bs) o (f .inbox) .refused-at) (sym (follow-answer .number-is) ∙ success)
+      where
+        go : (r : Option ℕ) → order-refusal r .number ≡ 0 → is-none r ≡ true
+        go none h = refl
+        go (some k) h = absurd (omega arith)
+
+    pub follow-inbox : f .inbox-now ≡ left-by (sheet-in bs) o (f .inbox) .memory
+    unfolding Follow-says left-by
+    follow-inbox = f .said .1 ∙ kept-new (follow-number .number) _ (f .inbox) number-zero
+
+    pub follow-report : f .report-now ≡ in-front (report (sheet-in bs) (left-by (sheet-in bs) o (f .inbox))) (f .report)
+    unfolding Follow-says left-by
+    follow-report = f .said .2 ∙ kept-new (follow-number .number) _ (f .report) number-zero
+
+-- RUN, which answers 0 where number 8 does not refuse it
+pub record Run-answer {bs : List ℕ} (f : Run-call bs) : Type 0 where
+  pub inbox-room : inbox-total (sheet-in bs) ≤ length (f .inbox)
+  pub number-zero : f .number ≡ 0
+  pub inbox-is : f .inbox-now ≡ run (sheet-in bs) (f .inbox) .end .memory
+  pub report-is : f .report-now ≡ in-front (report (sheet-in bs) (run (sheet-in bs) (f .inbox) .end)) (f .report)
+
+pub run-answer : {bs : List ℕ} → passes bs ≡ true → (f : Run-call bs) → Run-answer f
+unfolding Run-says told run-refusal refusal
+run-answer {bs} p f =
+    record {
+      inbox-room = enough .inbox;
+      number-zero = f .said .0 .0 ∙ all-zero;
+      inbox-is = f .said .1 ∙ kept-new (answer .number) _ (f .inbox) all-zero;
+      report-is = f .said .2 ∙ kept-new (answer .number) _ (f .report) all-zero;
+    }
+  where
+    answer : Refusal
+    answer = run-refusal bs (length (f .inbox)) (length (f .report)) (length (f .order)) (length (f .scratch))
+
+    run-rooms : Refusal
+    run-rooms = room-refusal (sheet-in bs) (length (f .inbox)) (length (f .report)) (length (f .order)) (length (f .scratch))
+
+    answer-rooms : answer ≡ run-rooms
+    answer-rooms = or-else-next (sheet-refusal bs) run-rooms (passed-number bs p)
+
+    enough : Rooms (sheet-in bs) (length (f .inbox)) (length (f .report)) (length (f .order)) (length (f .scratch))
+    enough =
+        rooms (sheet-in bs) (length (f .inbox)) (length (f .report)) (length (f .order)) (length (f .scratch))
+        (λ e. f .not-short (f .said .0 .0 ∙ ap (λ (z : Refusal). z .number) answer-rooms ∙ e))
+
+    all-zero : answer .number ≡ 0
+    all-zero = ap (λ (z : Refusal). z .number) (answer-rooms ∙ enough .accepts-all)

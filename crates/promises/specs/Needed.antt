@@ -1,0 +1,282 @@
+-- Why demand 3 asks for calm sheets and sets the peaks aside. Each of the three conditions of calm is needed: with the other
+-- two alone there is a sheet with two orders that follow accepts, after which no board is able, and whose reports differ in
+-- more than peaks. And on a calm sheet the peaks may differ. Each sheet is written as a bench job and computed. Assumes nothing.
+--   calm-parts          calm is these three conditions
+--   Ends-alike-on       two full orders end alike, on the sheets that pass a test
+--   Pair-of-orders      a sheet, and two orders
+--   apart-refutes       a pair that ends apart refutes Ends-alike-on
+--   any-source-matters, ready-matters, cover-matters, peaks-matter
+use mathlib.Core.Path.{_≡_, refl, ap, subst, _∙_}
+use mathlib.Core.Bool.{Bool, true, false, _&&_, not}
+use mathlib.Core.List.{List, [], _∷_}
+use Prim.Native.Nat.{ℕ, _≤_}
+use lib.Dec.{leb}
+use lib.ListN.{length}
+use borrow.Author.Tests.{leb-true, not-true, eq-eqb}
+use Rattle.rules.specs.Crc.{xor, shift, shifts, crc-byte, crc-from, crc}
+use Rattle.rules.specs.Sheet.{Sheet, Op, no-op, no-board, P-of, N-of, op, board, is-send, is-buffered, is-ready, is-receive, is-wait, is-nonblocking, sum-before, counts-before, inbox-start, inbox-total, rank-from, rank-of, two, boards-in, ops-in, sheet-in}
+use Rattle.rules.specs.Refusal.{refusal, or-else, first-broken, sizes-good, layout-good, crc-good, board-good, boards-refusal, or-any, envelope-good, slot-good, extent-good, wait-good, fields-good, room-for, op-good, ops-refusal, freed, holds, some-below, slot-held, share, area-taken, request-good, requests-refusal, tables-refusal, sheet-refusal}
+use Rattle.rules.specs.Job.{entry, bare-entry, place, job, started, entry-at, place-at, with-entries, with-places, with-messages, with-receives, with-memory, with-stop, with-steps}
+use Rattle.rules.specs.Step.{next-op, is-finished, complete, waited-below, waited, complete-if, half-complete, in-waiting-half, is-none, able, fits-with, first-by, first-message, first-receive, without, splice, area-start, is-cut, copied, delivered, charge-of, charged, released, with-place, charge, release, matched-rows, matched, with-state, pend-message, pend-receive, stopped, one-finished, now-waiting, initiated, fits-buffer, unmatched, sent, received, initiating, ended, step}
+use Rattle.rules.specs.Order.{followed, follow-from, follow, lowest-able, next-rank, none-able}
+use Rattle.rules.specs.Report.{low-two, count-from, is-pending-message, is-pending-receive, pending-messages, pending-receives, cut-messages, all-finished, verdict-of, stop-bytes, header-bytes, board-state, board-row, board-rows, op-row, op-rows, report}
+use Rattle.rules.specs.Claims.{all-bytes, passes, is-any-source, none-wild, all-charges, all-covered, calm, accepts, left-by, rows-without-peaks, without-peaks, Alike}
+use Rattle.rules.specs.BenchJob.{buffered, any, send, receive, script, Draft, draft, lines-of, as-words, line-bytes, all-line-bytes, entry-bytes, draft-bytes, same, all}
+use Rattle.rules.specs.BenchNumbered.{ready-sheet, any-source-sheet}
+use Rattle.laws.specs.Tests.{and-left, and-right, true-not-false}
+
+-- THE CONDITIONS OF CALM, one by one
+unfoldable pub no-any-source : Sheet → Bool
+no-any-source s = all (λ o. not (is-any-source o)) (s .ops)
+
+unfoldable pub no-ready : Sheet → Bool
+no-ready s = all (λ o. not (is-ready o)) (s .ops)
+
+unfoldable pub covered : Sheet → Bool
+covered s = all-covered (s .boards) (s .ops)
+
+-- together they are calm
+wild-parts : (os : List Op) → none-wild os ≡ all (λ o. not (is-any-source o)) os && all (λ o. not (is-ready o)) os
+unfolding none-wild all
+wild-parts [] = refl
+wild-parts (o ∷ os) =
+    ap (λ (b : Bool). (not (is-any-source o) && not (is-ready o)) && b) (wild-parts os)
+    ∙ go (not (is-any-source o)) (not (is-ready o)) (all (λ o. not (is-any-source o)) os) (all (λ o. not (is-ready o)) os)
+  where
+    go : (a b c d : Bool) → (a && b) && (c && d) ≡ (a && c) && (b && d)
+    go true true c d = refl
+    go true false true d = refl
+    go true false false d = refl
+    go false b c d = refl
+
+pub calm-parts : (s : Sheet) → calm s ≡ (no-any-source s && no-ready s) && covered s
+unfolding calm no-any-source no-ready covered
+calm-parts s = ap (λ (b : Bool). b && all-covered (s .boards) (s .ops)) (wild-parts (s .ops))
+
+-- demand 3's claim about full orders, on the sheets that pass a test
+unfoldable pub Ends-alike-on : (Sheet → Bool) → Type 0
+Ends-alike-on ok =
+    (bs i a b : List ℕ) → passes bs ≡ true → ok (sheet-in bs) ≡ true → inbox-total (sheet-in bs) ≤ length i →
+    let s = sheet-in bs in
+    accepts s a i ≡ true → accepts s b i ≡ true → none-able s (left-by s a i) ≡ true → none-able s (left-by s b i) ≡ true →
+    Alike s (left-by s a i) (left-by s b i)
+
+-- PAIRS OF ORDERS
+pub record Pair-of-orders : Type 0 where
+  pub sheet : Draft
+  pub inbox : List ℕ
+  pub one : List ℕ
+  pub other : List ℕ
+
+abbrev pub bytes-of : Pair-of-orders → List ℕ
+bytes-of p = draft-bytes (p .sheet)
+
+abbrev pub sheet-of : Pair-of-orders → Sheet
+sheet-of p = sheet-in (bytes-of p)
+
+abbrev pub bare-report-of : Pair-of-orders → (order : List ℕ) → List ℕ
+bare-report-of p o = without-peaks (P-of (sheet-of p)) (report (sheet-of p) (left-by (sheet-of p) o (p .inbox)))
+
+abbrev pub ends-full : Pair-of-orders → (order : List ℕ) → Bool
+ends-full p o = accepts (sheet-of p) o (p .inbox) && none-able (sheet-of p) (left-by (sheet-of p) o (p .inbox))
+
+-- the sheet passes check and the test, the room suffices, and follow accepts both orders, after which no board is able
+abbrev pub both-full : (Sheet → Bool) → Pair-of-orders → Bool
+both-full ok p =
+    ((passes (bytes-of p) && ok (sheet-of p)) && leb (inbox-total (sheet-of p)) (length (p .inbox)))
+    && (ends-full p (p .one) && ends-full p (p .other))
+
+-- and the reports differ in more than peaks
+unfoldable pub ends-apart : (Sheet → Bool) → Pair-of-orders → Bool
+ends-apart ok p = both-full ok p && not (same (bare-report-of p (p .one)) (bare-report-of p (p .other)))
+
+same-refl : (bs : List ℕ) → same bs bs ≡ true
+unfolding same
+same-refl [] = refl
+same-refl (x ∷ xs) = cc (eq-eqb x x refl, same-refl xs)
+
+pub apart-refutes : (ok : Sheet → Bool) (p : Pair-of-orders) → ends-apart ok p ≡ true → Ends-alike-on ok → ⊥
+unfolding ends-apart Ends-alike-on Alike
+apart-refutes ok p h claim =
+    true-not-false (subst (λ (z : List ℕ). same (bare-report-of p (p .one)) z ≡ true) alike (same-refl (bare-report-of p (p .one))))
+    (not-true (same (bare-report-of p (p .one)) (bare-report-of p (p .other)))
+    (and-right (both-full ok p) (not (same (bare-report-of p (p .one)) (bare-report-of p (p .other)))) h))
+  where
+    given : Bool
+    given = passes (bytes-of p) && ok (sheet-of p)
+
+    room : Bool
+    room = leb (inbox-total (sheet-of p)) (length (p .inbox))
+
+    orders : Bool
+    orders = ends-full p (p .one) && ends-full p (p .other)
+
+    full : both-full ok p ≡ true
+    full = and-left (both-full ok p) (not (same (bare-report-of p (p .one)) (bare-report-of p (p .other)))) h
+
+    first : given && room ≡ true
+    first = and-left (given && room) orders full
+
+    full-one : ends-full p (p .one) ≡ true
+    full-one = and-left (ends-full p (p .one)) (ends-full p (p .other)) (and-right (given && room) orders full)
+
+    full-other : ends-full p (p .other) ≡ true
+    full-other = and-right (ends-full p (p .one)) (ends-full p (p .other)) (and-right (given && room) orders full)
+
+    accepted : (o : List ℕ) → ends-full p o ≡ true → accepts (sheet-of p) o (p .inbox) ≡ true
+    accepted o e = and-left (accepts (sheet-of p) o (p .inbox)) (none-able (sheet-of p) (left-by (sheet-of p) o (p .inbox))) e
+
+    none-left : (o : List ℕ) → ends-full p o ≡ true → none-able (sheet-of p) (left-by (sheet-of p) o (p .inbox)) ≡ true
+    none-left o e = and-right (accepts (sheet-of p) o (p .inbox)) (none-able (sheet-of p) (left-by (sheet-of p) o (p .inbox))) e
+
+    alike : bare-report-of p (p .one) ≡ bare-report-of p (p .other)
+    alike =
+        claim (bytes-of p) (p .inbox) (p .one) (p .other)
+        (and-left (passes (bytes-of p)) (ok (sheet-of p)) (and-left given room first))
+        (and-right (passes (bytes-of p)) (ok (sheet-of p)) (and-left given room first))
+        (leb-true (inbox-total (sheet-of p)) (length (p .inbox)) (and-right given room first))
+        (accepted (p .one) full-one) (accepted (p .other) full-other) (none-left (p .one) full-one) (none-left (p .other) full-other) .1
+
+-- THE SHEETS
+-- bench job 12: ranks 0 and 1 send to rank 2, which receives twice from any source; either message may come first
+unfoldable pub any-source-pair : Pair-of-orders
+any-source-pair =
+    record {
+      sheet = any-source-sheet;
+      inbox = 0 ∷ 0 ∷ [];
+      one = 0 ∷ 1 ∷ 2 ∷ 2 ∷ 2 ∷ 2 ∷ 0 ∷ 1 ∷ [];
+      other = 1 ∷ 0 ∷ 2 ∷ 2 ∷ 2 ∷ 2 ∷ 0 ∷ 1 ∷ [];
+    }
+
+-- bench job 9: a ready send stops the job, or meets the receive that was posted before it
+unfoldable pub ready-pair : Pair-of-orders
+ready-pair =
+    record {
+      sheet = ready-sheet;
+      inbox = 0 ∷ 0 ∷ [];
+      one = 0 ∷ [];
+      other = 1 ∷ 0 ∷ 0 ∷ 1 ∷ [];
+    }
+
+-- bench job 2 with a buffer of `attached` bytes for two buffered sends of 2 and 3 bytes
+unfoldable pub two-buffered : (attached crc : ℕ) → Draft
+two-buffered attached crc =
+    draft 1 crc (11 ∷ 12 ∷ 13 ∷ 14 ∷ 15 ∷ [])
+    (script attached 0 (send buffered 1 0 4 0 2 ∷ send buffered 1 0 4 2 3 ∷ [])
+    ∷ script 0 6 (receive 0 0 any 0 3 ∷ receive 0 0 4 3 3 ∷ []) ∷ [])
+
+-- one byte short: the second send overflows, or finds its receive posted
+unfoldable pub uncovered-pair : Pair-of-orders
+uncovered-pair =
+    record {
+      sheet = two-buffered 4 0x15cf;
+      inbox = 0 ∷ 0 ∷ 0 ∷ 0 ∷ 0 ∷ 0 ∷ [];
+      one = 0 ∷ 0 ∷ 0 ∷ [];
+      other = 1 ∷ 0 ∷ 0 ∷ 1 ∷ 1 ∷ 0 ∷ 0 ∷ 1 ∷ [];
+    }
+
+-- enough: both messages wait in the buffer, or none does
+unfoldable pub calm-pair : Pair-of-orders
+calm-pair =
+    record {
+      sheet = two-buffered 5 0x89d5;
+      inbox = 0 ∷ 0 ∷ 0 ∷ 0 ∷ 0 ∷ 0 ∷ [];
+      one = 0 ∷ 0 ∷ 0 ∷ 0 ∷ 1 ∷ 1 ∷ 1 ∷ 1 ∷ [];
+      other = 1 ∷ 0 ∷ 0 ∷ 1 ∷ 1 ∷ 0 ∷ 0 ∷ 1 ∷ [];
+    }
+
+-- what calm still asks when one of its conditions is dropped, and the orders that then end apart
+pub record Dropped : Type 0 where
+  pub asks : Sheet → Bool
+  pub orders : Pair-of-orders
+
+unfoldable pub without-any-source : Dropped
+without-any-source =
+    record {
+      asks = λ s. no-ready s && covered s;
+      orders = any-source-pair;
+    }
+
+unfoldable pub without-ready : Dropped
+without-ready =
+    record {
+      asks = λ s. no-any-source s && covered s;
+      orders = ready-pair;
+    }
+
+unfoldable pub without-cover : Dropped
+without-cover =
+    record {
+      asks = λ s. no-any-source s && no-ready s;
+      orders = uncovered-pair;
+    }
+
+abbrev pub drops-matter : List Dropped → Bool
+drops-matter ds = all (λ d. ends-apart (d .asks) (d .orders)) ds
+
+-- the whole reports of two full orders differ, and only in peaks
+unfoldable pub peaks-apart : Pair-of-orders → Bool
+peaks-apart p =
+    both-full calm p
+    && (not (same (report (sheet-of p) (left-by (sheet-of p) (p .one) (p .inbox))) (report (sheet-of p) (left-by (sheet-of p) (p .other) (p .inbox))))
+    && same (bare-report-of p (p .one)) (bare-report-of p (p .other)))
+
+pub pairs-hold : drops-matter (without-any-source ∷ without-ready ∷ without-cover ∷ []) && peaks-apart calm-pair ≡ true
+unfolding
+    without-any-source without-ready without-cover any-source-pair ready-pair uncovered-pair calm-pair two-buffered
+    ends-apart peaks-apart no-any-source no-ready covered
+    ready-sheet any-source-sheet
+    lines-of as-words line-bytes all-line-bytes entry-bytes draft-bytes same all
+    all-bytes passes is-any-source none-wild all-charges Rattle.rules.specs.Claims.script all-covered calm accepts left-by rows-without-peaks without-peaks
+    low-two count-from is-pending-message is-pending-receive pending-messages pending-receives cut-messages all-finished
+    verdict-of stop-bytes header-bytes board-state board-row board-rows op-row op-rows report
+    followed follow-from follow lowest-able next-rank none-able
+    next-op is-finished complete waited-below waited complete-if half-complete in-waiting-half is-none able fits-with
+    first-by first-message first-receive without splice area-start is-cut copied delivered charge-of charged released
+    with-place charge release matched-rows matched with-state pend-message pend-receive stopped one-finished now-waiting
+    initiated fits-buffer unmatched sent received initiating ended step
+    entry bare-entry place job started entry-at place-at with-entries with-places with-messages with-receives
+    with-memory with-stop with-steps
+    refusal or-else first-broken sizes-good layout-good crc-good board-good boards-refusal or-any envelope-good slot-good extent-good wait-good fields-good room-for
+    op-good ops-refusal freed holds some-below slot-held share area-taken request-good requests-refusal
+    tables-refusal sheet-refusal
+    no-op no-board P-of N-of op board is-send is-buffered is-ready is-receive is-wait is-nonblocking sum-before
+    counts-before inbox-start inbox-total rank-from rank-of two boards-in ops-in sheet-in
+    xor shift shifts crc-byte crc-from crc
+pairs-hold = refl
+
+-- THE LAWS
+dropped-hold : drops-matter (without-any-source ∷ without-ready ∷ without-cover ∷ []) ≡ true
+dropped-hold = and-left (drops-matter (without-any-source ∷ without-ready ∷ without-cover ∷ [])) (peaks-apart calm-pair) pairs-hold
+
+dropped-here : (d : Dropped) (ds : List Dropped) → drops-matter (d ∷ ds) ≡ true → ends-apart (d .asks) (d .orders) ≡ true
+unfolding all
+dropped-here d ds h = and-left (ends-apart (d .asks) (d .orders)) (drops-matter ds) h
+
+dropped-next : (d : Dropped) (ds : List Dropped) → drops-matter (d ∷ ds) ≡ true → drops-matter ds ≡ true
+unfolding all
+dropped-next d ds h = and-right (ends-apart (d .asks) (d .orders)) (drops-matter ds) h
+
+-- receives from any source cannot be allowed
+pub any-source-matters : Ends-alike-on (λ s. no-ready s && covered s) → ⊥
+unfolding without-any-source
+any-source-matters = apart-refutes (without-any-source .asks) (without-any-source .orders) (dropped-here without-any-source (without-ready ∷ without-cover ∷ []) dropped-hold)
+
+-- nor ready sends
+pub ready-matters : Ends-alike-on (λ s. no-any-source s && covered s) → ⊥
+unfolding without-ready
+ready-matters =
+    apart-refutes (without-ready .asks) (without-ready .orders)
+    (dropped-here without-ready (without-cover ∷ []) (dropped-next without-any-source (without-ready ∷ without-cover ∷ []) dropped-hold))
+
+-- nor buffers that the charges may outgrow
+pub cover-matters : Ends-alike-on (λ s. no-any-source s && no-ready s) → ⊥
+unfolding without-cover
+cover-matters =
+    apart-refutes (without-cover .asks) (without-cover .orders)
+    (dropped-here without-cover []
+    (dropped-next without-ready (without-cover ∷ []) (dropped-next without-any-source (without-ready ∷ without-cover ∷ []) dropped-hold)))
+
+-- and on a calm sheet peaks differ where all else is equal
+pub peaks-matter : peaks-apart calm-pair ≡ true
+peaks-matter = and-right (drops-matter (without-any-source ∷ without-ready ∷ without-cover ∷ [])) (peaks-apart calm-pair) pairs-hold
