@@ -1,0 +1,7 @@
+-- Laws of byte lists that everything above `words` cites.
+--   Splice   bytes put into a list at a place: what is read there, and what stays
+--   Tab      a table made of a function: reading, changing, adding and removing an entry
+--   Two      two-byte numbers that were put
+pub mod Splice
+pub mod Tab
+pub mod Two
