@@ -6,10 +6,9 @@ use mathlib.Core.List.{List, [], _∷_, _++_, append-assoc}
 use Prim.Native.Nat.{ℕ, zero, suc, _+_, _-_, _<_, _≤_}
 use native.Mathlib.Omega.{arith}
 use native.Mathlib.Nat.{zero-add}
-use native.Mathlib.Numerals.{add-one}
 use native.Mathlib.Decide.{decLt}
-use lib.ListN.{length, getD, take, drop, set, replicate, length-append, length-drop, length-replicate, List·getD-append}
-use lib.Seq.{sets, sets-eq, length-take-le, getD-take, getD-drop, getD-append-add, take-suc, drop-length}
+use lib.ListN.{length, getD, take, drop, set, length-append, length-drop, List·getD-append}
+use lib.Seq.{sets, sets-eq, length-take-le, getD-take, getD-drop, getD-append-add, drop-length}
 use Rattle.rules.specs.Step.{splice}
 
 -- a splice is a run of stores
@@ -91,21 +90,6 @@ splice-more c at u n b e h =
     let size = splice-length c at u (omega arith) in
     subst (λ (k : ℕ). set (splice c at u) (at + k) b ≡ splice c at (u ++ (b ∷ []))) e
     (sets-splice (splice c at u) (at + length u) (b ∷ []) (omega arith) ∙ splice-join c at u (b ∷ []) (omega arith))
-
--- one byte more of a copy, and of zeros
-pub splice-copy-more : (c : List ℕ) (at : ℕ) (x : List ℕ) (n b : ℕ) → b ≡ getD x n 0 → n < length x → at + n < length c → set (splice c at (take n x)) (at + n) b ≡ splice c at (take (n + 1) x)
-splice-copy-more c at x n b e l h =
-    splice-more c at (take n x) n b (length-take-le n x (omega arith)) h
-    ∙ ap (λ (vs : List ℕ). splice c at vs) (ap (λ (z : ℕ). take n x ++ (z ∷ [])) e ∙ (sym (take-suc x n 0 l) ∙ ap (λ (k : ℕ). take k x) (sym (add-one n))))
-
-pub replicate-more : {A : Type 0} (n : ℕ) (a : A) → replicate n a ++ (a ∷ []) ≡ replicate (suc n) a
-replicate-more zero a = refl
-replicate-more {A} (suc n) a = ap {B = List A} (λ r. a ∷ r) (replicate-more n a)
-
-pub splice-zero-more : (c : List ℕ) (at n : ℕ) → at + n < length c → set (splice c at (replicate n 0)) (at + n) 0 ≡ splice c at (replicate (n + 1) 0)
-splice-zero-more c at n h =
-    splice-more c at (replicate n 0) n 0 (length-replicate n 0) h
-    ∙ ap (λ (vs : List ℕ). splice c at vs) (replicate-more n 0 ∙ ap (λ (k : ℕ). replicate k 0) (sym (add-one n)))
 
 -- a splice over the whole list leaves nothing of it
 pub splice-whole : (c vs : List ℕ) → length vs ≡ length c → splice c 0 vs ≡ vs
