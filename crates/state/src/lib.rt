@@ -1,0 +1,1 @@
+// A job kept in lent scratch.
