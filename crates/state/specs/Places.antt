@@ -39,6 +39,12 @@ waiting-back : (b : Bool) → eqb (cond b 1 0) 1 ≡ b
 waiting-back true = refl
 waiting-back false = refl
 
+-- and is the low byte of its number
+pub waiting-bytes : (b : Bool) → low-two (cond b 1 0) ≡ cond b 1 0 ∷ 0 ∷ []
+unfolding low-two
+waiting-bytes true = refl
+waiting-bytes false = refl
+
 -- a place that was put is read back
 pub seat-put : (c : List ℕ) (at : ℕ) (q : Place) → Fits-place q → at + 8 ≤ length c → place-in (splice c at (place-row q)) at ≡ q
 unfolding place-row low-two two place

@@ -85,6 +85,11 @@ splice-join c at u v h =
     ∙ (ap (λ (l : List ℕ). sets l (at + length u) v) (sym first)
     ∙ (sym (sets-join c at u v) ∙ sets-splice c at (u ++ v) (omega (arith, length-append u v))))
 
+-- the same of a store after a store
+pub splice-then : (c s t : List ℕ) (at n : ℕ) (u v : List ℕ) → s ≡ splice c at u → length u ≡ n → t ≡ splice s (at + n) v → at + (length u + length v) ≤ length c → t ≡ splice c at (u ++ v)
+splice-then c s t at n u v a e b h =
+    b ∙ (ap (λ (z : List ℕ). splice z (at + n) v) a ∙ (ap (λ (k : ℕ). splice (splice c at u) (at + k) v) (sym e) ∙ splice-join c at u v h))
+
 pub splice-more : (c : List ℕ) (at : ℕ) (u : List ℕ) (n b : ℕ) → length u ≡ n → at + n < length c → set (splice c at u) (at + n) b ≡ splice c at (u ++ (b ∷ []))
 splice-more c at u n b e h =
     let size = splice-length c at u (omega arith) in
