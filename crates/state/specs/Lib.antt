@@ -13,3 +13,5 @@ pub mod Decoded
 pub mod Rows
 pub mod Places
 pub mod Lists
+pub mod Tallied
+pub mod Decodes
