@@ -86,3 +86,8 @@ module _ {A : Type 0} where
 
   pub tab-all : (f : ℕ → A) (n : ℕ) (a : A) → ((k : ℕ) → k < n → f k ≡ a) → tab f 0 n ≡ replicate n a
   tab-all f n a e = tab-all-from f 0 n a (λ k l u. e k (omega arith))
+
+  -- and one more of it
+  pub replicate-more : (n : ℕ) (a : A) → replicate n a ++ (a ∷ []) ≡ replicate (suc n) a
+  replicate-more zero a = refl
+  replicate-more (suc n) a = ap (λ (xs : List A). a ∷ xs) (replicate-more n a)
