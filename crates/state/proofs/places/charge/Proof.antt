@@ -1,11 +1,10 @@
 -- `state::places::charge` meets its contract: the four figures that were read make the charged place. Assumes nothing.
-use mathlib.Core.Path.{_≡_, _∙_, ap}
-use mathlib.Core.Bool.{true, false}
 use Prim.Native.Nat.{_+_}
-use Rattle.rules.specs.Job.{Place, place}
+use Rattle.rules.specs.Job.{place}
 use Rattle.state.specs.Layout.{seat-at}
-use Rattle.state.specs.Decoded.{place-in, place-row}
-use Rattle.rules.specs.Step.{splice, charged}
+use Rattle.state.specs.Decoded.{place-in}
+use Rattle.state.specs.Places.{seat-as}
+use Rattle.rules.specs.Step.{charged}
 use borrow.Author.Needs.{needs}
 use Rattle.state.proofs.places.charge.Statement.{statement}
 use Rattle.state.proofs.places.charge.Tie as tie
@@ -54,14 +53,13 @@ same-length c = search needs
 returns : tie.Need-returns
 unfolding charged place
 returns c =
-    let a = c  .before .before .before .before .before .before .before .before .before .before .before .before .before .before .args in
-    let f = c  .before .before .before .before .before .before .before .before .before .before .before .finished-of .ensures .0 in
-    let w = c  .before .before .before .before .before .before .before .before .before .waiting-of .ensures in
-    let u = c  .before .before .before .before .before .before .before .in-use-of .ensures .0 in
-    let p = c  .before .before .before .before .before .peak-of .ensures .0 in
-    let m = c  .before .before .before .before .larger .ensures in
-    let whole : place (c  .before .before .before .before .before .before .before .before .before .before .before .finished-of .result) (c  .before .before .before .before .before .before .before .before .before .waiting-of .result) (c  .before .before .before .before .before .before .before .in-use-of .result + a .n) (c  .before .before .before .before .larger .result) ≡ charged (a .n) (place-in (a .c .now) (seat-at (a .r))) = cc (f, w, u, p, m) in
-    c  .before .before .put-place .ensures ∙ ap (λ (q : Place). splice (a .c .now) (seat-at (a .r)) (place-row q)) whole
+    let a = c .before .before .before .before .before .before .before .before .before .before .before .before .before .before .args in
+    let f = c .before .before .before .before .before .before .before .before .before .before .before .finished-of .ensures .0 in
+    let w = c .before .before .before .before .before .before .before .before .before .waiting-of .ensures in
+    let u = c .before .before .before .before .before .before .before .in-use-of .ensures .0 in
+    let p = c .before .before .before .before .before .peak-of .ensures .0 in
+    let m = c .before .before .before .before .larger .ensures in
+    seat-as (a .c .now) (c .before .before .put-place .last .0) (a .r) (place (c .before .before .before .before .before .before .before .before .before .before .before .finished-of .result) (c .before .before .before .before .before .before .before .before .before .waiting-of .result) (c .before .before .before .before .before .before .before .in-use-of .result + a .n) (c .before .before .before .before .larger .result)) (charged (a .n) (place-in (a .c .now) (seat-at (a .r)))) (c .before .before .put-place .ensures) (cc (f, w, u, p, m))
 
 pub charge-spec : {M : Type 1} → statement M
 charge-spec =

@@ -1,13 +1,13 @@
 -- `state::places::finish_one` meets its contract: the three figures that were read make the place with one more finished.
 -- Assumes nothing.
-use mathlib.Core.Path.{_≡_, _∙_, ap}
-use mathlib.Core.Bool.{true, false}
+use mathlib.Core.Bool.{false}
 use Prim.Native.Nat.{_+_}
-use Rattle.rules.specs.Job.{Place, place}
+use Rattle.rules.specs.Job.{place}
 use Rattle.state.specs.Layout.{seat-at}
-use Rattle.state.specs.Decoded.{place-in, place-row}
+use Rattle.state.specs.Decoded.{place-in}
+use Rattle.state.specs.Places.{seat-as}
 use native.Mathlib.Numerals.{add-one}
-use Rattle.rules.specs.Step.{splice, one-finished}
+use Rattle.rules.specs.Step.{one-finished}
 use borrow.Author.Needs.{needs}
 use Rattle.state.proofs.places.finish_one.Statement.{statement}
 use Rattle.state.proofs.places.finish_one.Tie as tie
@@ -46,12 +46,11 @@ same-length c = search needs
 returns : tie.Need-returns
 unfolding one-finished place
 returns c =
-    let a = c  .before .before .before .before .before .before .before .before .before .before .before .args in
-    let f = c  .before .before .before .before .before .before .before .before .finished-of .ensures .0 in
-    let u = c  .before .before .before .before .before .before .in-use-of .ensures .0 in
-    let p = c  .before .before .before .before .peak-of .ensures .0 in
-    let whole : place (c  .before .before .before .before .before .before .before .before .finished-of .result + 1) false (c  .before .before .before .before .before .before .in-use-of .result) (c  .before .before .before .before .peak-of .result) ≡ one-finished (place-in (a .c .now) (seat-at (a .r))) = cc (f, u, p, add-one (c  .before .before .before .before .before .before .before .before .finished-of .result)) in
-    c  .before .before .put-place .ensures ∙ ap (λ (q : Place). splice (a .c .now) (seat-at (a .r)) (place-row q)) whole
+    let a = c .before .before .before .before .before .before .before .before .before .before .before .args in
+    let f = c .before .before .before .before .before .before .before .before .finished-of .ensures .0 in
+    let u = c .before .before .before .before .before .before .in-use-of .ensures .0 in
+    let p = c .before .before .before .before .peak-of .ensures .0 in
+    seat-as (a .c .now) (c .before .before .put-place .last .0) (a .r) (place (c .before .before .before .before .before .before .before .before .finished-of .result + 1) false (c .before .before .before .before .before .before .in-use-of .result) (c .before .before .before .before .peak-of .result)) (one-finished (place-in (a .c .now) (seat-at (a .r)))) (c .before .before .put-place .ensures) (cc (f, u, p, add-one (c .before .before .before .before .before .before .before .before .finished-of .result)))
 
 pub finish-one-spec : {M : Type 1} → statement M
 finish-one-spec =

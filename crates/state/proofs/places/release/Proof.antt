@@ -1,11 +1,9 @@
 -- `state::places::release` meets its contract: the four figures that were read make the released place. Assumes nothing.
-use mathlib.Core.Path.{_≡_, _∙_, ap}
-use mathlib.Core.Bool.{true, false}
-use Prim.Native.Nat.{_+_}
-use Rattle.rules.specs.Job.{Place, place}
+use Rattle.rules.specs.Job.{place}
 use Rattle.state.specs.Layout.{seat-at}
-use Rattle.state.specs.Decoded.{place-in, place-row}
-use Rattle.rules.specs.Step.{splice, released}
+use Rattle.state.specs.Decoded.{place-in}
+use Rattle.state.specs.Places.{seat-as}
+use Rattle.rules.specs.Step.{released}
 use borrow.Author.Needs.{needs}
 use Rattle.state.proofs.places.release.Statement.{statement}
 use Rattle.state.proofs.places.release.Tie as tie
@@ -50,14 +48,13 @@ same-length c = search needs
 returns : tie.Need-returns
 unfolding released place
 returns c =
-    let a = c  .before .before .before .before .before .before .before .before .before .before .before .before .before .before .args in
-    let f = c  .before .before .before .before .before .before .before .before .before .before .before .finished-of .ensures .0 in
-    let w = c  .before .before .before .before .before .before .before .before .before .waiting-of .ensures in
-    let u = c  .before .before .before .before .before .before .before .in-use-of .ensures .0 in
-    let m = c  .before .before .before .before .before .before .less .ensures in
-    let p = c  .before .before .before .before .peak-of .ensures .0 in
-    let whole : place (c  .before .before .before .before .before .before .before .before .before .before .before .finished-of .result) (c  .before .before .before .before .before .before .before .before .before .waiting-of .result) (c  .before .before .before .before .before .before .less .result) (c  .before .before .before .before .peak-of .result) ≡ released (a .n) (place-in (a .c .now) (seat-at (a .r))) = cc (f, w, u, m, p) in
-    c  .before .before .put-place .ensures ∙ ap (λ (q : Place). splice (a .c .now) (seat-at (a .r)) (place-row q)) whole
+    let a = c .before .before .before .before .before .before .before .before .before .before .before .before .before .before .args in
+    let f = c .before .before .before .before .before .before .before .before .before .before .before .finished-of .ensures .0 in
+    let w = c .before .before .before .before .before .before .before .before .before .waiting-of .ensures in
+    let u = c .before .before .before .before .before .before .before .in-use-of .ensures .0 in
+    let m = c .before .before .before .before .before .before .less .ensures in
+    let p = c .before .before .before .before .peak-of .ensures .0 in
+    seat-as (a .c .now) (c .before .before .put-place .last .0) (a .r) (place (c .before .before .before .before .before .before .before .before .before .before .before .finished-of .result) (c .before .before .before .before .before .before .before .before .before .waiting-of .result) (c .before .before .before .before .before .before .less .result) (c .before .before .before .before .peak-of .result)) (released (a .n) (place-in (a .c .now) (seat-at (a .r)))) (c .before .before .put-place .ensures) (cc (f, w, u, m, p))
 
 pub release-spec : {M : Type 1} → statement M
 release-spec =

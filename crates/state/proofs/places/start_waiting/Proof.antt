@@ -1,11 +1,10 @@
 -- `state::places::start_waiting` meets its contract: the three figures that were read make the waiting place. Assumes nothing.
-use mathlib.Core.Path.{_≡_, _∙_, ap}
-use mathlib.Core.Bool.{true, false}
-use Prim.Native.Nat.{_+_}
-use Rattle.rules.specs.Job.{Place, place}
+use mathlib.Core.Bool.{true}
+use Rattle.rules.specs.Job.{place}
 use Rattle.state.specs.Layout.{seat-at}
-use Rattle.state.specs.Decoded.{place-in, place-row}
-use Rattle.rules.specs.Step.{splice, now-waiting}
+use Rattle.state.specs.Decoded.{place-in}
+use Rattle.state.specs.Places.{seat-as}
+use Rattle.rules.specs.Step.{now-waiting}
 use borrow.Author.Needs.{needs}
 use Rattle.state.proofs.places.start_waiting.Statement.{statement}
 use Rattle.state.proofs.places.start_waiting.Tie as tie
@@ -40,12 +39,11 @@ same-length c = search needs
 returns : tie.Need-returns
 unfolding now-waiting place
 returns c =
-    let a = c  .before .before .before .before .before .before .before .before .before .before .before .args in
-    let f = c  .before .before .before .before .before .before .before .before .finished-of .ensures .0 in
-    let u = c  .before .before .before .before .before .before .in-use-of .ensures .0 in
-    let p = c  .before .before .before .before .peak-of .ensures .0 in
-    let whole : place (c  .before .before .before .before .before .before .before .before .finished-of .result) true (c  .before .before .before .before .before .before .in-use-of .result) (c  .before .before .before .before .peak-of .result) ≡ now-waiting (place-in (a .c .now) (seat-at (a .r))) = cc (f, u, p) in
-    c  .before .before .put-place .ensures ∙ ap (λ (q : Place). splice (a .c .now) (seat-at (a .r)) (place-row q)) whole
+    let a = c .before .before .before .before .before .before .before .before .before .before .before .args in
+    let f = c .before .before .before .before .before .before .before .before .finished-of .ensures .0 in
+    let u = c .before .before .before .before .before .before .in-use-of .ensures .0 in
+    let p = c .before .before .before .before .peak-of .ensures .0 in
+    seat-as (a .c .now) (c .before .before .put-place .last .0) (a .r) (place (c .before .before .before .before .before .before .before .before .finished-of .result) true (c .before .before .before .before .before .before .in-use-of .result) (c .before .before .before .before .peak-of .result)) (now-waiting (place-in (a .c .now) (seat-at (a .r)))) (c .before .before .put-place .ensures) (cc (f, u, p))
 
 pub start-waiting-spec : {M : Type 1} → statement M
 start-waiting-spec =

@@ -32,8 +32,8 @@ same-length c = search needs
 -- src/start.rt:24:1
 returns : tie.Need-returns
 returns c =
-    let a = c  .before .before .before .before .before .before .before .before .before .args in
-    c  .before .before .put-zeros .ensures ∙ ap (λ (s : List ℕ). splice s places-at (replicate (8 * a .p) 0)) (c  .before .before .before .before .before .before .put-rows .ensures)
+    let a = c .before .before .before .before .before .before .before .before .before .args in
+    c .before .before .put-zeros .ensures ∙ ap (λ (s : List ℕ). splice s places-at (replicate (8 * a .p) 0)) (c .before .before .before .before .before .before .put-rows .ensures)
 
 pub init-spec : {M : Type 1} → statement M
 init-spec =

@@ -40,9 +40,9 @@ loop-less c = omega arith
 -- src/start.rt:17:5
 loop-again : tie.Need-loop-again Inv-loop μ-loop
 loop-again c =
-    let a = c  .before .before .before .before .before .before .before .args in
-    let l = c  .before .before .before .before .before .loop in
-    bare-more (a .c .now) (l .c) (c  .before .before .put-bare .last .0) (a .n) (l .i) (l .inv) (c  .before .before .before .before .loop-test .taken) (c  .before .before .put-bare .ensures)
+    let a = c .before .before .before .before .before .before .before .args in
+    let l = c .before .before .before .before .before .loop in
+    bare-more (a .c .now) (l .c) (c .before .before .put-bare .last .0) (a .n) (l .i) (l .inv) (c .before .before .before .before .loop-test .taken) (c .before .before .put-bare .ensures)
 
 -- src/start.rt:12:1
 same-length : tie.Need-same-length Inv-loop μ-loop
@@ -51,7 +51,7 @@ same-length c = omega arith
 -- src/start.rt:12:1
 returns : tie.Need-returns Inv-loop μ-loop
 returns c =
-    let a = c  .before .before .before .args in
+    let a = c .before .before .before .args in
     let l = c .before .loop in
     let last : l .i ≡ a .n = omega arith in
     l .inv .is ∙ ap (λ (k : ℕ). splice (a .c .now) 0 (bare-rows k)) last
