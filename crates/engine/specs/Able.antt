@@ -14,7 +14,7 @@ use Rattle.rules.specs.Sheet.{Sheet, Op, sheet-in, op, op-in, board, P-of, N-of
 use Rattle.rules.specs.Job.{Job, Entry, Place, Stop, entry-at, place-at}
 use Rattle.rules.specs.Step.{able, next-op, is-finished, complete, complete-if, waited, waited-below, half-complete, in-waiting-half, is-none}
 use Rattle.laws.specs.Laid.{Laid}
-use Rattle.laws.specs.Decoded.{P-decoded, N-decoded, op-decoded, board-decoded}
+use Rattle.laws.specs.Decoded.{op-by}
 use Rattle.promises.specs.Good.{Good}
 use Rattle.state.specs.declared.Tally.{Tally}
 use Rattle.state.specs.Layout.{row-at, seat-at, word-at, waits-at}
@@ -76,16 +76,9 @@ module _ (bs lent c : List ℕ) (t : Tally) (x : Job) (d : Stands bs lent c t x)
       let e = n .is-next in
       omega (arith, d .good .script-inside r (n .there))
 
-  -- where its sixteen bytes stand
-  pub op-here : (i p : ℕ) → i < N-of s → p ≡ P-in bs → op-in bs (ops-at p + 16 * i) ≡ op s i
-  op-here i p l e = ap (λ (k : ℕ). op-in bs (ops-at k + 16 * i)) e ∙ sym (op-decoded bs i (omega (arith, N-decoded bs)))
-
-  pub op-within : (i p : ℕ) → i < N-of s → p ≡ P-in bs → ops-at p + 16 * i + 15 < length bs
-  op-within i p l e = omega (arith, N-decoded bs, d .laid .whole)
-
   -- its kind, as it was read
   pub kind-here : (i p k : ℕ) → i < N-of s → p ≡ P-in bs → k ≡ op-in bs (ops-at p + 16 * i) .kind → k ≡ op s i .kind
-  kind-here i p k l e q = q ∙ ap (λ (o : Op). o .kind) (op-here i p l e)
+  kind-here i p k l e q = q ∙ ap (λ (o : Op). o .kind) (op-by bs i p l e)
 
   pub wait-read : (i p k : ℕ) → i < N-of s → p ≡ P-in bs → k ≡ op-in bs (ops-at p + 16 * i) .kind → k ≡ 6 → is-wait (op s i) ≡ true
   unfolding is-wait
