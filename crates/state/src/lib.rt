@@ -4,6 +4,8 @@ pub mod lists;
 pub mod places;
 pub mod ranks;
 pub mod rows;
+pub mod start;
+pub mod tallies;
 pub mod waits;
 
 // Another limit changes these two numbers; the layout follows.
