@@ -3,7 +3,7 @@
 -- i (`Filled`), the list is right there (`Latest`); one operation more keeps both. Assumes nothing.
 --   latest                   the latest operation of board r below i that took slot k; waited-latest: what a wait waits for
 --   Latest                   latest-none: before a script; latest-more: one operation more
---   Filled                   filled-none, filled-more
+--   Filled                   filled-none, filled-more; filled-all: state's Indexed
 use mathlib.Core.Path.{_≡_, refl, sym, ap, subst, _∙_}
 use mathlib.Core.Bool.{Bool, true, false, _&&_, not, cond}
 use mathlib.Core.List.{List, [], _∷_}
@@ -17,17 +17,16 @@ use lib.ListN.{length, getD, set, replicate, length-set, length-replicate}
 use lib.Seq.{getD-set-same, getD-set-other}
 use borrow.Author.Tests.{eq-eqb, ne-eqb, eqb-true}
 use Rattle.rules.specs.Limits.{most-ops, slot-limit, scratch-size}
-use Rattle.rules.specs.Sheet.{Sheet, Op, op, board, P-of, N-of, rank-of, is-wait, is-nonblocking, two}
+use Rattle.rules.specs.Sheet.{Sheet, Op, op, board, P-of, N-of, rank-of, is-wait, is-nonblocking}
 use Rattle.rules.specs.Refusal.{freed, holds, slot-held, request-good}
 use Rattle.rules.specs.Step.{waited-below, waited, splice}
 use Rattle.rules.specs.Report.{low-two}
 use Rattle.laws.specs.Tests.{and-left, and-right, and-both, true-not-false, not-so, cond-true, cond-false}
 use Rattle.laws.specs.Below.{Found, below-found}
-use Rattle.words.specs.Splice.{splice-length, splice-within, splice-apart}
-use Rattle.words.specs.Two.{two-same, two-put}
-use Rattle.state.specs.Layout.{rank-at, word-at, ranks-at, waits-at}
+use Rattle.words.specs.Splice.{splice-length}
+use Rattle.state.specs.Layout.{rank-at, word-at, waits-at}
+use Rattle.state.specs.Indexed.{Ranked, Awaited, Indexed, ranked-kept, awaited-kept, ranked-more, awaited-skip, awaited-more}
 use Rattle.promises.specs.Good.{Good}
-use Rattle.promises.specs.Kinds.{wait-blocking}
 
 -- LATEST
 -- operation j of board r takes slot k
@@ -163,8 +162,8 @@ latest-more s r i last L e m = subst (λ (n : ℕ). Latest s r n (last-after (op
 -- THE TABLES are right below operation i
 pub record Filled (s : Sheet) (c : List ℕ) (i : ℕ) : Type 0 where
   pub roomy : scratch-size ≤ length c
-  pub ranks : (j : ℕ) → j < i → getD c (rank-at j) 0 ≡ rank-of s j
-  pub waits : (j : ℕ) → j < i → is-wait (op s j) ≡ true → waited s j ≡ some (two c (word-at waits-at j))
+  pub ranks : Ranked s c i
+  pub waits : Awaited s c i
 
 pub filled-none : (s : Sheet) (c : List ℕ) → scratch-size ≤ length c → Filled s c 0
 filled-none s c h =
@@ -174,91 +173,63 @@ filled-none s c h =
       waits = λ j l. absurd (omega arith);
     }
 
+pub filled-all : (s : Sheet) (c : List ℕ) → Filled s c (N-of s) → Indexed s c
+filled-all s c F =
+    record {
+      rank-is = F .ranks;
+      wait-is = F .waits;
+    }
+
 -- what operation i of board r writes: its rank, and where it is a wait the latest that took its slot
-abbrev pub ranked : (i r : ℕ) → List ℕ → List ℕ
-ranked i r c = splice c (rank-at i) (r ∷ [])
+abbrev pub rank-put : (i r : ℕ) → List ℕ → List ℕ
+rank-put i r c = splice c (rank-at i) (r ∷ [])
+
+abbrev pub wait-put : (i v : ℕ) → List ℕ → List ℕ
+wait-put i v c = splice c (word-at waits-at i) (low-two v)
 
 unfoldable pub op-put : Op → (i r : ℕ) → (last c : List ℕ) → List ℕ
-op-put o i r last c =
-    cond (is-wait o) (splice (ranked i r c) (word-at waits-at i) (low-two (getD last (o .slot) 0))) (ranked i r c)
-
-module _ (s : Sheet) (c : List ℕ) (r i : ℕ) (F : Filled s c i) (few : i < most-ops) (e : rank-of s i ≡ r) where
-  rank-fits : rank-at i + 1 ≤ length c
-  rank-fits = omega (arith, F .roomy)
-
-  ranked-long : length (ranked i r c) ≡ length c
-  ranked-long = splice-length c (rank-at i) (r ∷ []) rank-fits
-
-  ranked-ranks : (j : ℕ) → j < suc i → getD (ranked i r c) (rank-at j) 0 ≡ rank-of s j
-  ranked-ranks j l = go (ℕ-discrete j i)
-    where
-      here : getD (ranked i r c) (rank-at i) 0 ≡ r
-      here =
-          let z : rank-at i + 0 ≡ rank-at i = omega arith in
-          ap (λ (k : ℕ). getD (ranked i r c) k 0) (sym z) ∙ splice-within c (rank-at i) (r ∷ []) rank-fits 0 (omega arith)
-
-      go : Dec (j ≡ i) → getD (ranked i r c) (rank-at j) 0 ≡ rank-of s j
-      go (yes q) = subst (λ (k : ℕ). getD (ranked i r c) (rank-at k) 0 ≡ rank-of s k) (sym q) (here ∙ sym e)
-      go (no d) =
-          splice-apart c (rank-at i) (r ∷ []) rank-fits (rank-at j) (rank-at j + 1) (omega arith) (rank-at j) (omega arith) (omega arith)
-          ∙ F .ranks j (omega arith)
-
-  ranked-waits : (j : ℕ) → j < i → is-wait (op s j) ≡ true → waited s j ≡ some (two (ranked i r c) (word-at waits-at j))
-  ranked-waits j l w =
-      F .waits j l w
-      ∙ ap some (sym (two-same (ranked i r c) c (word-at waits-at j) (splice-apart c (rank-at i) (r ∷ []) rank-fits (word-at waits-at j) (word-at waits-at j + 2) (omega arith))))
-
-  -- with the word of a wait put behind it
-  module _ (v : ℕ) (small : v < 65536) where
-    abbrev noted : List ℕ
-    noted = splice (ranked i r c) (word-at waits-at i) (low-two v)
-
-    word-fits : word-at waits-at i + length (low-two v) ≤ length (ranked i r c)
-    unfolding low-two
-    word-fits = omega (arith, F .roomy, ranked-long)
-
-    noted-filled : waited s i ≡ some v → Filled s noted (suc i)
-    unfolding low-two
-    noted-filled h =
-        record {
-          roomy = omega (arith, F .roomy, ranked-long, splice-length (ranked i r c) (word-at waits-at i) (low-two v) word-fits);
-          ranks = λ j l.
-              splice-apart (ranked i r c) (word-at waits-at i) (low-two v) word-fits (rank-at j) (rank-at j + 1) (omega arith) (rank-at j) (omega arith) (omega arith)
-              ∙ ranked-ranks j l;
-          waits = λ j l w. go j l w (ℕ-discrete j i);
-        }
-      where
-        go : (j : ℕ) → j < suc i → is-wait (op s j) ≡ true → Dec (j ≡ i) → waited s j ≡ some (two noted (word-at waits-at j))
-        go j l w (yes q) =
-            subst (λ (k : ℕ). waited s k ≡ some (two noted (word-at waits-at k))) (sym q)
-            (h ∙ ap some (sym (two-put (ranked i r c) (word-at waits-at i) v small word-fits)))
-        go j l w (no d) =
-            ranked-waits j (omega arith) w
-            ∙ ap some (sym (two-same noted (ranked i r c) (word-at waits-at j) (splice-apart (ranked i r c) (word-at waits-at i) (low-two v) word-fits (word-at waits-at j) (word-at waits-at j + 2) (omega arith))))
+op-put o i r last c = cond (is-wait o) (wait-put i (getD last (o .slot) 0) (rank-put i r c)) (rank-put i r c)
 
 -- one operation more
-pub filled-more : (s : Sheet) → Good s → (r i : ℕ) (last c : List ℕ) → Filled s c i → Latest s r i last → i < N-of s → rank-of s i ≡ r →
-    op s i .slot < slot-limit → Filled s (op-put (op s i) i r last c) (i + 1)
-unfolding op-put
-filled-more s g r i last c F L l e m = subst (λ (n : ℕ). Filled s (op-put (op s i) i r last c) n) (sym (add-one i)) (go (is-wait (op s i)) refl)
-  where
-    few : i < most-ops
-    few = omega (arith, g .ops-few)
+module _ (s : Sheet) (g : Good s) (r i : ℕ) (last c : List ℕ) (F : Filled s c i) (L : Latest s r i last) (l : i < N-of s) (e : rank-of s i ≡ r) where
+  few : i < most-ops
+  few = omega (arith, g .ops-few)
 
-    go : (b : Bool) → is-wait (op s i) ≡ b →
-        Filled s (cond b (splice (ranked i r c) (word-at waits-at i) (low-two (getD last (op s i .slot) 0))) (ranked i r c)) (suc i)
-    go true w =
-        let T = wait-taken s g r i l e w in
-        let is = L .is (op s i .slot) (T .by) m (T .is) in
-        noted-filled s c r i F few e (getD last (op s i .slot) 0) (omega (arith, is, T .below))
-        (waited-latest s i r e ∙ (T .is ∙ ap some (sym is)))
-    go false w =
-        record {
-          roomy = omega (arith, F .roomy, ranked-long s c r i F few e);
-          ranks = ranked-ranks s c r i F few e;
-          waits = λ j h q. before j h q (ℕ-discrete j i);
-        }
-      where
-        before : (j : ℕ) → j < suc i → is-wait (op s j) ≡ true → Dec (j ≡ i) → waited s j ≡ some (two (ranked i r c) (word-at waits-at j))
-        before j h q (yes d) = true-not-false (subst (λ (z : ℕ). is-wait (op s z) ≡ true) d q) w
-        before j h q (no d) = ranked-waits s c r i F few e j (omega arith) q
+  rank-fits : rank-at i + 1 ≤ length c
+  rank-fits = omega (arith, F .roomy, few)
+
+  -- its rank is put, which leaves the other table
+  rank-filled : (scratch-size ≤ length (rank-put i r c)) × Ranked s (rank-put i r c) (i + 1) × Awaited s (rank-put i r c) i
+  rank-filled = (
+      omega (arith, F .roomy, splice-length c (rank-at i) (r ∷ []) rank-fits),
+      ranked-more s c i few (F .roomy) r (sym e) (F .ranks),
+      awaited-kept s c (rank-at i) (r ∷ []) i (omega (arith, few)) (F .roomy) rank-fits (λ j a b p q. omega (arith, few)) (F .waits),
+    )
+
+  -- a wait's word is put, which leaves the ranks
+  wait-filled : (v : ℕ) → v < 65536 → waited s i ≡ some v → Filled s (wait-put i v (rank-put i r c)) (i + 1)
+  unfolding low-two
+  wait-filled v small h =
+      let d = rank-put i r c in
+      let room : word-at waits-at i + length (low-two v) ≤ length d = omega (arith, rank-filled .0, few) in
+      record {
+        roomy = omega (arith, rank-filled .0, splice-length d (word-at waits-at i) (low-two v) room);
+        ranks = ranked-kept s d (word-at waits-at i) (low-two v) (i + 1) (omega (arith, few)) (rank-filled .0) room (λ j a b p q. omega arith) (rank-filled .1);
+        waits = awaited-more s d i few (rank-filled .0) v small h (rank-filled .2);
+      }
+
+  pub filled-more : op s i .slot < slot-limit → Filled s (op-put (op s i) i r last c) (i + 1)
+  unfolding op-put
+  filled-more m = go (is-wait (op s i)) refl
+    where
+      go : (b : Bool) → is-wait (op s i) ≡ b → Filled s (cond b (wait-put i (getD last (op s i .slot) 0) (rank-put i r c)) (rank-put i r c)) (i + 1)
+      go true w =
+          let T = wait-taken s g r i l e w in
+          let is = L .is (op s i .slot) (T .by) m (T .is) in
+          wait-filled (getD last (op s i .slot) 0) (omega (arith, is, T .below, few)) (waited-latest s i r e ∙ (T .is ∙ ap some (sym is)))
+      go false w =
+          record {
+            roomy = rank-filled .0;
+            ranks = rank-filled .1;
+            waits = awaited-skip s (rank-put i r c) i few (rank-filled .0) w (rank-filled .2);
+          }

@@ -51,11 +51,11 @@ unfolding place-row low-two two place
 seat-put c at q f h =
     let z : at + 0 ≡ at = omega arith in
     let a : two (splice c at (place-row q)) at ≡ q .finished =
-          ap (λ (k : ℕ). two (splice c at (place-row q)) k) (sym z) ∙ (two-within c at (place-row q) h 0 (omega arith) ∙ two-bytes (q .finished) (f .finished-fits)) in
+    ap (λ (k : ℕ). two (splice c at (place-row q)) k) (sym z) ∙ (two-within c at (place-row q) h 0 (omega arith) ∙ two-bytes (q .finished) (f .finished-fits)) in
     let i : two (splice c at (place-row q)) (at + 2) ≡ q .in-use = two-within c at (place-row q) h 2 (omega arith) ∙ two-bytes (q .in-use) (f .in-use-fits) in
     let p : two (splice c at (place-row q)) (at + 4) ≡ q .peak = two-within c at (place-row q) h 4 (omega arith) ∙ two-bytes (q .peak) (f .peak-fits) in
     let w : eqb (getD (splice c at (place-row q)) (at + 6) 0) 1 ≡ q .waiting =
-          ap (λ (k : ℕ). eqb k 1) (splice-within c at (place-row q) h 6 (omega arith)) ∙ waiting-back (q .waiting) in
+    ap (λ (k : ℕ). eqb k 1) (splice-within c at (place-row q) h 6 (omega arith)) ∙ waiting-back (q .waiting) in
     let whole : place-in (splice c at (place-row q)) at ≡ place (q .finished) (q .waiting) (q .in-use) (q .peak) = cc in
     whole
 
