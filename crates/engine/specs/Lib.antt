@@ -2,6 +2,8 @@
 --   Stands   a job stands in scratch: what every function of the engine is given and keeps
 --   Search   the earliest that fits
 --   Able     whether a board is able, test by test
+--   SetupTables   the tables of ranks and waits, filled script by script
 pub mod Stands
 pub mod Able
 pub mod Search
+pub mod SetupTables

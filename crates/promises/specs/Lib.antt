@@ -15,6 +15,7 @@
 --   Kept          what every order keeps, said of a sheet's bytes
 --   Likeness      jobs whose boards stand alike are alike
 --   Needed        why demand 3 asks for calm sheets and sets the peaks aside
+--   Facts         what an engine that steps needs to know of a reachable job
 pub mod Statements
 pub mod Good
 pub mod FromBytes
@@ -69,3 +70,4 @@ pub mod Run
 pub mod Swapped
 pub mod Matched
 pub mod Theorems
+pub mod Facts

@@ -20,7 +20,8 @@ use Rattle.state.specs.Layout.{row-at, seat-at, word-at, places-at, mess
 use Rattle.state.specs.Decoded.{entry-in, entries-in, place-in, places-in, place-row, words-in, Fits-row, Fits-place}
 use Rattle.state.specs.Rows.{row-length, entries-same, entries-put, entries-at}
 use Rattle.state.specs.Places.{seat-length, places-same, places-put, places-at-rank}
-use Rattle.state.specs.Lists.{behind, words-same, words-at, words-length, words-append, words-remove, without-at}
+use Rattle.state.specs.Lists.{behind, words-same, words-at, words-length, words-append, words-remove, First-at, without-at}
+use Rattle.state.specs.Indexed.{Indexed, indexed-kept}
 use Rattle.state.specs.Tallied.{stop-of, stop-some, counted, stepped, halted}
 
 pub record Decodes (s : Sheet) (c : List ℕ) (t : Tally) (x : Job) : Type 0 where
@@ -35,6 +36,12 @@ pub record Decodes (s : Sheet) (c : List ℕ) (t : Tally) (x : Job) : Type 0 whe
   pub receives-are : x .receives ≡ words-in c receives-at (t .receives)
   pub stop-is : x .stop ≡ stop-of (t .verdict) (t .rank) (t .op)
   pub steps-are : x .steps ≡ t .steps
+  pub indexed : Indexed s c
+
+-- the same bytes and numbers under other names
+pub decodes-as : (s : Sheet) (b c : List ℕ) (u t : Tally) (x : Job) → b ≡ c → u ≡ t → Decodes s c t x → Decodes s b u x
+decodes-as s b c u t x e f d =
+    subst (λ (l : List ℕ). Decodes s l u x) (sym e) (subst (λ (q : Tally). Decodes s c q x) (sym f) d)
 
 -- GETTERS: what a reader reads is the job's
 module _ (s : Sheet) (c : List ℕ) (t : Tally) (x : Job) (d : Decodes s c t x) where
@@ -88,6 +95,7 @@ module _ (s : Sheet) (c : List ℕ) (t : Tally) (x : Job) (d : Decodes s c t x) 
         receives-are = sym w;
         stop-is = d .stop-is;
         steps-are = d .steps-are;
+        indexed = indexed-kept s c at vs (d .few-ops) (d .roomy) h (d .indexed);
       }
 
   -- a splice inside one region changes that part of the job alone
@@ -177,26 +185,29 @@ module _ (s : Sheet) (c : List ℕ) (t : Tally) (x : Job) (d : Decodes s c t x) 
       receives-spliced (word-at receives-at (t .receives)) (low-two i) (t .receives + 1) (x .receives ++ (i ∷ [])) (omega arith) (omega arith) (omega arith)
       (words-append c receives-at (t .receives) i f (omega arith) ∙ ap (λ (rs : List ℕ). rs ++ (i ∷ [])) (sym (d .receives-are)))
 
-  -- v is the k-th and no earlier one is v
-  pub message-remove : (left k v : ℕ) → left + 1 ≡ t .messages → k ≤ left → getD (x .messages) k 0 ≡ v → ((j : ℕ) → j < k → getD (x .messages) j 0 ≡ v → ⊥) → Decodes s (splice c (word-at messages-at k) (behind c messages-at left k)) (counted left (t .receives) t) (with-messages (without v (x .messages)) x)
-  message-remove left k v n l e o =
+  pub message-remove : (left k v : ℕ) → left + 1 ≡ t .messages → First-at (x .messages) k v → Decodes s (splice c (word-at messages-at k) (behind c messages-at left k)) (counted left (t .receives) t) (with-messages (without v (x .messages)) x)
+  message-remove left k v n f =
+      let inside : k < length (x .messages) = f .inside in
+      let size = messages-length s c t x d in
       let roomy : scratch-size ≤ length c = d .roomy in
       let few : t .messages ≤ most-ops = d .few-messages in
       let long = part-length c (word-at messages-at k + 2) (2 * (left - k)) (omega arith) in
       messages-spliced (word-at messages-at k) (behind c messages-at left k) left (without v (x .messages)) (omega arith) (omega arith) (omega arith)
       (words-remove c messages-at left k (omega arith) (omega arith)
       ∙ (ap (λ (i : ℕ). drop-at k (words-in c messages-at i)) n
-      ∙ (ap (λ (ms : List ℕ). drop-at k ms) (sym (d .messages-are)) ∙ sym (without-at (x .messages) k v (omega (arith, messages-length s c t x d)) e o))))
+      ∙ (ap (λ (ms : List ℕ). drop-at k ms) (sym (d .messages-are)) ∙ sym (without-at (x .messages) k v f))))
 
-  pub receive-remove : (left k v : ℕ) → left + 1 ≡ t .receives → k ≤ left → getD (x .receives) k 0 ≡ v → ((j : ℕ) → j < k → getD (x .receives) j 0 ≡ v → ⊥) → Decodes s (splice c (word-at receives-at k) (behind c receives-at left k)) (counted (t .messages) left t) (with-receives (without v (x .receives)) x)
-  receive-remove left k v n l e o =
+  pub receive-remove : (left k v : ℕ) → left + 1 ≡ t .receives → First-at (x .receives) k v → Decodes s (splice c (word-at receives-at k) (behind c receives-at left k)) (counted (t .messages) left t) (with-receives (without v (x .receives)) x)
+  receive-remove left k v n f =
+      let inside : k < length (x .receives) = f .inside in
+      let size = receives-length s c t x d in
       let roomy : scratch-size ≤ length c = d .roomy in
       let few : t .receives ≤ most-ops = d .few-receives in
       let long = part-length c (word-at receives-at k + 2) (2 * (left - k)) (omega arith) in
       receives-spliced (word-at receives-at k) (behind c receives-at left k) left (without v (x .receives)) (omega arith) (omega arith) (omega arith)
       (words-remove c receives-at left k (omega arith) (omega arith)
       ∙ (ap (λ (i : ℕ). drop-at k (words-in c receives-at i)) n
-      ∙ (ap (λ (rs : List ℕ). drop-at k rs) (sym (d .receives-are)) ∙ sym (without-at (x .receives) k v (omega (arith, receives-length s c t x d)) e o))))
+      ∙ (ap (λ (rs : List ℕ). drop-at k rs) (sym (d .receives-are)) ∙ sym (without-at (x .receives) k v f))))
 
   -- what is kept beside scratch, and what is kept nowhere
   pub steps-put : (k : ℕ) → Decodes s c (stepped k t) (with-steps k x)
@@ -214,6 +225,7 @@ module _ (s : Sheet) (c : List ℕ) (t : Tally) (x : Job) (d : Decodes s c t x) 
         receives-are = d .receives-are;
         stop-is = d .stop-is;
         steps-are = refl;
+        indexed = d .indexed;
       }
 
   pub stop-put : (v r i : ℕ) → (v ≡ 0 → ⊥) → Decodes s c (halted v r i t) (stopped v r i x)
@@ -231,6 +243,7 @@ module _ (s : Sheet) (c : List ℕ) (t : Tally) (x : Job) (d : Decodes s c t x) 
         receives-are = d .receives-are;
         stop-is = sym (stop-some v r i h);
         steps-are = d .steps-are;
+        indexed = d .indexed;
       }
 
   pub memory-put : (m : List ℕ) → Decodes s c t (with-memory m x)
@@ -248,4 +261,5 @@ module _ (s : Sheet) (c : List ℕ) (t : Tally) (x : Job) (d : Decodes s c t x) 
         receives-are = d .receives-are;
         stop-is = d .stop-is;
         steps-are = d .steps-are;
+        indexed = d .indexed;
       }

@@ -19,6 +19,7 @@ use Rattle.words.specs.Tab.{tab-snoc, tab-all, replicate-more}
 use Rattle.state.specs.Layout.{row-at, seat-at, places-at, messages-at}
 use Rattle.state.specs.Decoded.{entry-in, entries-in, place-in, places-in, words-in, Fits-row}
 use Rattle.state.specs.Rows.{row-length, row-put, entries-same}
+use Rattle.state.specs.Indexed.{Indexed, indexed-kept}
 use Rattle.state.specs.Tallied.{stop-of, no-tally}
 use Rattle.state.specs.Decodes.{Decodes}
 
@@ -122,9 +123,9 @@ places-zero c p m h =
 abbrev pub started-bytes : List ℕ → (p n : ℕ) → List ℕ
 started-bytes c p n = splice (splice c 0 (bare-rows n)) places-at (replicate (8 * p) 0)
 
-pub started-decodes : (s : Sheet) (c inboxes : List ℕ) → N-of s ≤ most-ops → P-of s ≤ most-boards → scratch-size ≤ length c → Decodes s (started-bytes c (P-of s) (N-of s)) no-tally (started s inboxes)
+pub started-decodes : (s : Sheet) (c inboxes : List ℕ) → N-of s ≤ most-ops → P-of s ≤ most-boards → scratch-size ≤ length c → Indexed s c → Decodes s (started-bytes c (P-of s) (N-of s)) no-tally (started s inboxes)
 unfolding started job stop-of words-in Rattle.words.specs.Tab.tab bare-entry entry
-started-decodes s c inboxes n p h =
+started-decodes s c inboxes n p h x =
     let rows = rows-length (N-of s) (bare-entry 0) in
     let b = splice c 0 (bare-rows (N-of s)) in
     let one : length b ≡ length c = splice-length c 0 (bare-rows (N-of s)) (omega arith) in
@@ -153,4 +154,5 @@ started-decodes s c inboxes n p h =
       receives-are = refl;
       stop-is = refl;
       steps-are = refl;
+      indexed = indexed-kept s b places-at zs n (omega arith) (omega arith) (indexed-kept s c 0 (bare-rows (N-of s)) n h (omega arith) x);
     }
