@@ -10,7 +10,7 @@ use native.Mathlib.Nat.{add-zero, zero-add}
 use native.Mathlib.Decide.{ℕ-discrete}
 use lib.Dec.{eqb}
 use lib.ListN.{length}
-use Rattle.rules.specs.Limits.{any, most-ops, scratch-size}
+use Rattle.rules.specs.Limits.{any, most-ops, most-boards, scratch-size}
 use Rattle.rules.specs.Sheet.{Sheet, sheet-in, op, N-of, rank-of, two}
 use Rattle.rules.specs.Step.{first-by, fits-with}
 use Rattle.laws.specs.Laid.{Laid}
@@ -26,6 +26,7 @@ pub record Readable (bs c : List ℕ) : Type 0 where
   pub few : N-of (sheet-in bs) ≤ most-ops
   pub roomy : scratch-size ≤ length c
   pub tables : Indexed (sheet-in bs) c
+  pub ranked : (i : ℕ) → i < N-of (sheet-in bs) → rank-of (sheet-in bs) i < most-boards
 
 -- a fit, from its fields as they were read
 pub fits-read : (s : Sheet) (m r pm rr cm cr pr rm tr tm : ℕ) → pm ≡ op s m .peer → rr ≡ rank-of s r → cm ≡ op s m .comm → cr ≡ op s r .comm → pr ≡ op s r .peer → rm ≡ rank-of s m → tr ≡ op s r .tag → tm ≡ op s m .tag → ((eqb pm rr && eqb cm cr) && ((eqb pr any || eqb pr rm) && (eqb tr any || eqb tr tm))) ≡ fits-with s m r
