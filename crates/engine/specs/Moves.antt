@@ -9,11 +9,12 @@ use mathlib.Core.List.{List, [], _∷_, _++_}
 use Prim.Native.Nat.{ℕ, zero, suc, _+_, _-_, _*_, _<_, _≤_, max}
 use native.Mathlib.Omega.{arith}
 use native.Mathlib.Decide.{ℕ-discrete, decLt}
-use lib.Dec.{eqb, leb}
+use lib.Dec.{eqb, leb, ltb}
+use borrow.Author.Tests.{eq-eqb, ne-eqb}
 use lib.ListN.{length, getD, set}
 use lib.Seq.{getD-set-same, getD-set-other, set-out}
 use Rattle.rules.specs.Limits.{most-ops, most-boards, scratch-size, absent}
-use Rattle.rules.specs.Sheet.{Sheet, Op, op, P-of, N-of, rank-of, two, is-nonblocking}
+use Rattle.rules.specs.Sheet.{Sheet, Op, sheet-in, op, P-of, N-of, rank-of, two, is-nonblocking}
 use Rattle.rules.specs.Job.{Job, Entry, Place, job, entry, place, entry-at, place-at, with-entries, with-places}
 use Rattle.rules.specs.Step.{splice, is-cut, charge-of, charged, released, with-place, charge, release, matched-rows, one-finished, now-waiting, initiated}
 use Rattle.rules.specs.Report.{op-row}
@@ -26,6 +27,7 @@ use Rattle.state.specs.Places.{seat-length}
 use Rattle.state.specs.Decodes.{Decodes, entry-is, place-is}
 use Rattle.state.specs.Steps.{rows-match, place-change}
 use Rattle.state.specs.Indexed.{Indexed, indexed-kept}
+use Rattle.engine.specs.Search.{Readable, readable-kept}
 
 pub record Held (s : Sheet) (c : List ℕ) (t : Tally) (x : Job) : Type 0 where
   pub decodes : Decodes s c t x
@@ -45,15 +47,42 @@ seat-after o q = cond (is-nonblocking o) (one-finished q) (now-waiting q)
 unfoldable pub released-bytes : Sheet → (m : ℕ) → List ℕ → List ℕ
 released-bytes s m c =
     cond (eqb (entry-in c (row-at m) .state) 2)
-        (splice c (seat-at (rank-of s m)) (place-row (released (charge-of (op s m)) (place-in c (seat-at (rank-of s m)))))) c
+    (splice c (seat-at (rank-of s m)) (place-row (released (charge-of (op s m)) (place-in c (seat-at (rank-of s m)))))) c
 
 unfoldable pub rows-bytes : Sheet → (m r : ℕ) → List ℕ → List ℕ
 rows-bytes s m r c =
     splice (splice c (row-at m) (op-row (entry 3 0 r absent absent 0))) (row-at r)
-      (op-row (entry 3 (cond (is-cut s m r) 1 0) m (rank-of s m) (op s m .tag) (op s m .long)))
+    (op-row (entry 3 (cond (is-cut s m r) 1 0) m (rank-of s m) (op s m .tag) (op s m .long)))
 
 unfoldable pub met-bytes : Sheet → (m r : ℕ) → List ℕ → List ℕ
 met-bytes s m r c = rows-bytes s m r (released-bytes s m c)
+
+-- the same, by the tests that the code makes
+pub seat-finished : (o : Op) (q : Place) → o .flag ≡ 1 → one-finished q ≡ seat-after o q
+unfolding seat-after is-nonblocking
+seat-finished o q e = let t = eq-eqb (o .flag) 1 e in rw t
+
+pub seat-waiting : (o : Op) (q : Place) → (o .flag ≡ 1 → ⊥) → now-waiting q ≡ seat-after o q
+unfolding seat-after is-nonblocking
+seat-waiting o q e = let t = ne-eqb (o .flag) 1 e in rw t
+
+pub released-charge : (s : Sheet) (m : ℕ) (c : List ℕ) (state rank long : ℕ) → state ≡ entry-in c (row-at m) .state → state ≡ 2 → rank ≡ rank-of s m → long ≡ op s m .long → splice c (seat-at rank) (place-row (released long (place-in c (seat-at rank)))) ≡ released-bytes s m c
+unfolding released-bytes charge-of
+released-charge s m c state rank long e h er el =
+    let t : eqb (entry-in c (row-at m) .state) 2 ≡ true = eq-eqb (entry-in c (row-at m) .state) 2 (sym e ∙ h) in
+    ap₂ (λ (k n : ℕ). splice c (seat-at k) (place-row (released n (place-in c (seat-at k))))) er el ∙ rw t
+
+pub released-none : (s : Sheet) (m : ℕ) (c : List ℕ) (state : ℕ) → state ≡ entry-in c (row-at m) .state → (state ≡ 2 → ⊥) → c ≡ released-bytes s m c
+unfolding released-bytes
+released-none s m c state e h =
+    let t : eqb (entry-in c (row-at m) .state) 2 ≡ false = ne-eqb (entry-in c (row-at m) .state) 2 (λ z. h (e ∙ z)) in
+    rw t
+
+pub rows-read : (s : Sheet) (m r cut source tag long capacity : ℕ) (c d e : List ℕ) → cut ≡ cond (ltb capacity long) 1 0 → capacity ≡ op s r .long → source ≡ rank-of s m → tag ≡ op s m .tag → long ≡ op s m .long → d ≡ splice c (row-at m) (op-row (entry 3 0 r absent absent 0)) → e ≡ splice d (row-at r) (op-row (entry 3 cut m source tag long)) → e ≡ rows-bytes s m r c
+unfolding rows-bytes is-cut
+rows-read s m r cut source tag long capacity c d e ec eq es et el p q =
+    let row : entry 3 cut m source tag long ≡ entry 3 (cond (ltb (op s r .long) (op s m .long)) 1 0) m (rank-of s m) (op s m .tag) (op s m .long) = cc in
+    q ∙ ap₂ (λ (l : List ℕ) (v : Entry). splice l (row-at r) (op-row v)) p row
 
 -- PLACES THAT FIT
 fits-charged : (n : ℕ) (q : Place) → q .in-use + n < 65536 → Fits-place q → Fits-place (charged n q)
@@ -168,8 +197,8 @@ module _ (s : Sheet) (c : List ℕ) (t : Tally) (x : Job) (h : Held s c t x) whe
         decodes = rows-match s c t x (h .decodes) m r (cond (is-cut s m r) 1 0) (rank-of s m) (op s m .tag) (op s m .long) lm lr refl refl refl refl a b d;
         tables =
             indexed-kept s (splice c (row-at m) sent) (row-at r) got few
-              (omega (arith, h .decodes .roomy, splice-length c (row-at m) sent (omega (arith, h .decodes .roomy, row-length (entry 3 0 r absent absent 0)))))
-              (omega (arith, row-length (entry 3 (cond (is-cut s m r) 1 0) m (rank-of s m) (op s m .tag) (op s m .long)))) one;
+            (omega (arith, h .decodes .roomy, splice-length c (row-at m) sent (omega (arith, h .decodes .roomy, row-length (entry 3 0 r absent absent 0)))))
+            (omega (arith, row-length (entry 3 (cond (is-cut s m r) 1 0) m (rank-of s m) (op s m .tag) (op s m .long)))) one;
       }
 
   pub held-initiated : (r i : ℕ) → r < P-of s → Fits-place (seat-after (op s i) (place-at x r)) → Held s (splice c (seat-at r) (place-row (seat-after (op s i) (place-in c (seat-at r))))) t (initiated s r i x)
@@ -184,3 +213,14 @@ small-released s m x l small = go (eqb (entry-at x m .state) 2)
     go : (b : Bool) → Small s (cond b (with-place (rank-of s m) (released (charge-of (op s m)) (place-at x (rank-of s m))) x) x)
     go true = small-put s x (rank-of s m) (released (charge-of (op s m)) (place-at x (rank-of s m))) small (fits-released (charge-of (op s m)) (place-at x (rank-of s m)) (small (rank-of s m) l))
     go false = small
+
+-- and so does a release
+pub readable-released : (bs c : List ℕ) (m : ℕ) → m < N-of (sheet-in bs) → Readable bs c → Readable bs (released-bytes (sheet-in bs) m c)
+unfolding released-bytes
+readable-released bs c m l q = go (eqb (entry-in c (row-at m) .state) 2)
+  where
+    go : (b : Bool) → Readable bs (cond b (splice c (seat-at (rank-of (sheet-in bs) m)) (place-row (released (charge-of (op (sheet-in bs) m)) (place-in c (seat-at (rank-of (sheet-in bs) m)))))) c)
+    go true =
+        readable-kept bs c (seat-at (rank-of (sheet-in bs) m)) (place-row (released (charge-of (op (sheet-in bs) m)) (place-in c (seat-at (rank-of (sheet-in bs) m)))))
+        (omega (arith, q .ranked m l, seat-length (released (charge-of (op (sheet-in bs) m)) (place-in c (seat-at (rank-of (sheet-in bs) m)))))) q
+    go false = q

@@ -5,7 +5,6 @@ ghost use Rattle.rules.specs.Sheet.{sheet-in, N-of, two};
 ghost use Rattle.rules.specs.Step.{fits-with};
 ghost use Rattle.state.specs.Layout.{word-at};
 ghost use Rattle.engine.specs.Search.{Readable, Listed, First};
-
 use sheet::header;
 use sheet::ops;
 use state::lists;

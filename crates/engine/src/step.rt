@@ -2,7 +2,7 @@
 // scratch changes: deliveries are made at the end of a job, from the rows.
 ghost use mathlib.Core.Path.{_≡_};
 ghost use mathlib.Core.List.{List};
-ghost use Prim.Native.Nat.{ℕ, _<_, _+_, _*_};
+ghost use Prim.Native.Nat.{ℕ, _<_, _≤_, _+_, _*_};
 ghost use lib.ListN.{length};
 ghost use Rattle.rules.specs.Limits.{most-boards, scratch-size};
 ghost use mathlib.Core.Bool.{cond};
@@ -15,7 +15,6 @@ ghost use Rattle.state.specs.Decoded.{place-in, place-row};
 ghost use Rattle.engine.specs.Stands.{Stands, Able-there};
 ghost use Rattle.engine.specs.Moves.{seat-after, released-bytes, rows-bytes, met-bytes};
 ghost use Rattle.engine.specs.Search.{Readable};
-
 use crate::search;
 use sheet::boards;
 use sheet::header;

@@ -83,11 +83,11 @@ returns c =
     let sent = op-by (a .s .now) (a .m) (c .before .before .before .before .before .before .before .before .boards .result) (p .1) (c .before .before .before .before .before .before .before .before .boards .ensures .0) in
     let posted = op-by (a .s .now) (a .r) (c .before .before .before .before .before .before .before .before .boards .result) (p .2) (c .before .before .before .before .before .before .before .before .boards .ensures .0) in
     fits-read (sheet-in (a .s .now)) (a .m) (a .r) (c .before .before .before .before .before .peer2 .result) (c .before .before .before .before .rank-at .result) (c .before .before .before .comm .result) (c .before .before .comm2 .result) (c .before .before .before .before .before .before .before .peer .result)
-      (c .before .rank-at2 .result) (c .before .before .before .before .before .before .tag .result) (c .tag2 .result)
-      (c .before .before .before .before .before .peer2 .ensures .0 ∙ ap (λ (o : Op). o .peer) sent) (c .before .before .before .before .rank-at .ensures .0 ∙ p .0 .tables .rank-is (a .r) (p .2))
-      (c .before .before .before .comm .ensures .0 ∙ ap (λ (o : Op). o .comm) sent) (c .before .before .comm2 .ensures .0 ∙ ap (λ (o : Op). o .comm) posted)
-      (c .before .before .before .before .before .before .before .peer .ensures .0 ∙ ap (λ (o : Op). o .peer) posted) (c .before .rank-at2 .ensures .0 ∙ p .0 .tables .rank-is (a .m) (p .1))
-      (c .before .before .before .before .before .before .tag .ensures .0 ∙ ap (λ (o : Op). o .tag) posted) (c .tag2 .ensures .0 ∙ ap (λ (o : Op). o .tag) sent)
+    (c .before .rank-at2 .result) (c .before .before .before .before .before .before .tag .result) (c .tag2 .result)
+    (c .before .before .before .before .before .peer2 .ensures .0 ∙ ap (λ (o : Op). o .peer) sent) (c .before .before .before .before .rank-at .ensures .0 ∙ p .0 .tables .rank-is (a .r) (p .2))
+    (c .before .before .before .comm .ensures .0 ∙ ap (λ (o : Op). o .comm) sent) (c .before .before .comm2 .ensures .0 ∙ ap (λ (o : Op). o .comm) posted)
+    (c .before .before .before .before .before .before .before .peer .ensures .0 ∙ ap (λ (o : Op). o .peer) posted) (c .before .rank-at2 .ensures .0 ∙ p .0 .tables .rank-is (a .m) (p .1))
+    (c .before .before .before .before .before .before .tag .ensures .0 ∙ ap (λ (o : Op). o .tag) posted) (c .tag2 .ensures .0 ∙ ap (λ (o : Op). o .tag) sent)
 
 pub fits-spec : {M : Type 1} → statement M
 fits-spec =
