@@ -2,10 +2,12 @@
 --   Stands   a job stands in scratch: what every function of the engine is given and keeps
 --   Search   the earliest that fits
 --   Moves    what the parts of a step do to scratch
+--   Initiate initiating steps in scratch are those of rules
 --   Able     whether a board is able, test by test
 --   SetupTables   the tables of ranks and waits, filled script by script
 pub mod Stands
 pub mod Able
 pub mod Search
 pub mod Moves
+pub mod Initiate
 pub mod SetupTables

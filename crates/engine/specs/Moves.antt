@@ -149,7 +149,7 @@ pub place-put-other : (x : Job) (r k : ℕ) (q : Place) → (k ≡ r → ⊥) �
 unfolding place-at with-place with-places job
 place-put-other x r k q d = getD-set-other (x .places) r k q (place 0 false 0 0) d
 
-place-put-out : (x : Job) (r : ℕ) (q : Place) → length (x .places) ≤ r → place-at (with-place r q x) r ≡ place-at x r
+pub place-put-out : (x : Job) (r : ℕ) (q : Place) → length (x .places) ≤ r → place-at (with-place r q x) r ≡ place-at x r
 unfolding place-at with-place with-places job
 place-put-out x r q l = ap (λ (ps : List Place). getD ps r (place 0 false 0 0)) (set-out (x .places) r q l)
 
