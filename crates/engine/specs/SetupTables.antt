@@ -22,7 +22,7 @@ use Rattle.rules.specs.Refusal.{freed, holds, slot-held, request-good}
 use Rattle.rules.specs.Step.{waited-below, waited, splice}
 use Rattle.rules.specs.Report.{low-two}
 use Rattle.laws.specs.Tests.{and-left, and-right, and-both, true-not-false, not-so, cond-true, cond-false}
-use Rattle.laws.specs.Below.{Found, below-found}
+use Rattle.laws.specs.Below.{below-found}
 use Rattle.words.specs.Splice.{splice-length}
 use Rattle.state.specs.Layout.{rank-at, word-at, waits-at}
 use Rattle.state.specs.Indexed.{Ranked, Awaited, Indexed, ranked-kept, awaited-kept, ranked-more, awaited-skip, awaited-more}
@@ -142,11 +142,14 @@ latest-more s r i last L e m = subst (λ (n : ℕ). Latest s r n (last-after (op
     not-taken : (k : ℕ) → takes s r k i ≡ false → latest (suc i) s r k ≡ latest i s r k
     not-taken k t = cond-false (takes s r k i) (some i) (latest i s r k) t
 
+    its-slot : (k : ℕ) → takes s r k i ≡ true → (is-nonblocking (op s i) && eqb slot k) ≡ true
+    its-slot k t = and-right (eqb (rank-of s i) r) (is-nonblocking (op s i) && eqb slot k) t
+
     other-slot : (k : ℕ) → (k ≡ slot → ⊥) → takes s r k i ≡ false
-    other-slot k d = not-so (takes s r k i) (λ t. d (sym (eqb-true slot k (and-right (is-nonblocking (op s i)) (eqb slot k) (and-right (eqb (rank-of s i) r) (is-nonblocking (op s i) && eqb slot k) t)))))
+    other-slot k d = not-so (takes s r k i) (λ t. d (sym (eqb-true slot k (and-right (is-nonblocking (op s i)) (eqb slot k) (its-slot k t)))))
 
     blocking : is-nonblocking (op s i) ≡ false → (k : ℕ) → takes s r k i ≡ false
-    blocking n k = not-so (takes s r k i) (λ t. true-not-false (and-left (is-nonblocking (op s i)) (eqb slot k) (and-right (eqb (rank-of s i) r) (is-nonblocking (op s i) && eqb slot k) t)) n)
+    blocking n k = not-so (takes s r k i) (λ t. true-not-false (and-left (is-nonblocking (op s i)) (eqb slot k) (its-slot k t)) n)
 
     go : (b : Bool) → is-nonblocking (op s i) ≡ b → Latest s r (suc i) (cond b (set last slot i) last)
     go false n =

@@ -3,8 +3,8 @@
 --   good-first      scripts lie one after another
 --   Going           going-none: before a script; going-more: one operation more; going-all: behind it
 --   start-stands    rows and places written over full tables: the start of a job stands there
-use mathlib.Core.Path.{_≡_, refl, sym, ap, subst, subst₂, _∙_}
-use mathlib.Core.Bool.{true, _&&_}
+use mathlib.Core.Path.{_≡_, sym, ap, subst, _∙_}
+use mathlib.Core.Bool.{_&&_}
 use mathlib.Core.List.{List}
 use Prim.Native.Nat.{ℕ, suc, _+_, _*_, _<_, _≤_}
 use native.Mathlib.Omega.{arith}
@@ -12,7 +12,7 @@ use native.Mathlib.Numerals.{add-one}
 use lib.Dec.{eqb, leb}
 use lib.ListN.{length, replicate}
 use borrow.Author.Tests.{eqb-true}
-use Rattle.rules.specs.Limits.{most-boards, most-ops, most-attached, most-inbox, slot-limit, scratch-size, ops-at}
+use Rattle.rules.specs.Limits.{most-boards, most-ops, most-attached, most-inbox, slot-limit, ops-at}
 use Rattle.rules.specs.Sheet.{Sheet, Op, op, op-in, board, P-of, N-of, P-in, N-in, rank-of, sheet-in, counts-before, inbox-start, inbox-total}
 use Rattle.rules.specs.Refusal.{board-good, op-good, room-for}
 use Rattle.rules.specs.Job.{started}

@@ -20,7 +20,8 @@ use state::start;
 use state::tallies;
 use state::waits;
 
-// What operation i of board r leaves among the latest that took each slot: a nonblocking operation takes its slot.
+// What operation i leaves in the table of the latest operation that took each slot: a nonblocking one takes its slot, which a
+// later wait on it waits for (document 01, "Slots").
 fn note(s: &[u8], at: usize, i: usize, last: &mut [usize; 32])
     requires { ⌜ (at + 15 < length (now s)) × (op-in (now s) at .slot < slot-limit) × (i < most-ops) ⌝ }
     ensures { λ _. ⌜ now (last .exit) ≡ last-after (op-in (now (s .entry)) at) i (now (last .entry)) ⌝ }
@@ -32,7 +33,8 @@ fn note(s: &[u8], at: usize, i: usize, last: &mut [usize; 32])
     last[slot] = i;
 }
 
-// Its entries in the tables: its rank, and where it is a wait the latest operation that took its slot.
+// The entries of operation i of board r: its rank, and where it is a wait the latest operation that took its slot. The others'
+// words are never read.
 fn put_op(s: &[u8], at: usize, c: &mut [u8], i: usize, r: usize, last: &[usize; 32])
     requires { ⌜ (at + 15 < length (now s)) × (op-in (now s) at .slot < slot-limit) × (i < most-ops) × (r < most-boards) × (scratch-size ≤ length (now c)) ⌝ }
     ensures { λ _. ⌜ now (c .exit) ≡ op-put (op-in (now (s .entry)) at) i r (now (last .entry)) (now (c .entry)) ⌝ }
@@ -45,7 +47,8 @@ fn put_op(s: &[u8], at: usize, c: &mut [u8], i: usize, r: usize, last: &[usize; 
     waits::put_waited(c, i, last[slot]);
 }
 
-// The tables filled for the script of board r.
+// The tables filled for the script of board r. At its start nobody holds a slot, so what stands in `last` then is never read: a
+// wait names a slot that is held (refusal 7).
 fn put_script(s: &[u8], c: &mut [u8], r: usize)
     requires { ⌜ Laid (now s) × Good (sheet-in (now s)) × (r < P-in (now s)) × Filled (sheet-in (now s)) (now c) (counts-before (sheet-in (now s)) r) ⌝ }
     ensures { λ _. ⌜ Filled (sheet-in (now (s .entry))) (now (c .exit)) (counts-before (sheet-in (now (s .entry))) (r + 1)) ⌝ }

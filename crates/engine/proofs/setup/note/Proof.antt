@@ -1,6 +1,6 @@
 -- `engine::setup::note` meets its contract: a nonblocking operation is then its slot's latest, another changes nothing.
 -- Assumes nothing.
-use mathlib.Core.Path.{_≡_, _∙_, sym, ap}
+use mathlib.Core.Path.{_∙_, sym, ap}
 use Prim.Native.Nat.{ℕ}
 use lib.ListN.{set}
 use Rattle.rules.specs.Sheet.{op-in}

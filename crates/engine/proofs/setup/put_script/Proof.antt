@@ -1,11 +1,10 @@
 -- `engine::setup::put_script` meets its contract. The loop's invariant: the tables and the latest of each slot are right before
 -- operation i. The measure is how many operations of the script are left. Assumes nothing.
-use mathlib.Core.Path.{_≡_, refl, sym, _∙_}
+use mathlib.Core.Path.{_≡_, refl}
 use Prim.Native.Nat.{_-_}
 use native.Mathlib.Omega.{arith}
 use lib.ListN.{length}
-use borrow.Author.Needs.{needs}
-use Rattle.rules.specs.Sheet.{sheet-in, P-of}
+use Rattle.rules.specs.Sheet.{sheet-in}
 use Rattle.laws.specs.Decoded.{P-decoded}
 use Rattle.engine.specs.SetupWalk.{Going, going-none, going-more, going-all, going-bytes, going-slot, going-few, going-rank}
 use Rattle.engine.proofs.setup.put_script.Statement.{statement}

@@ -1,11 +1,9 @@
 -- `engine::setup::put_tables` meets its contract. The loop's invariant: the tables are right below board r's script. The measure
 -- is how many boards are left. Assumes nothing.
 use mathlib.Core.Path.{_≡_, refl, sym, _∙_, ap, subst}
-use mathlib.Core.List.{List}
 use Prim.Native.Nat.{ℕ, _-_, _≤_}
 use native.Mathlib.Omega.{arith}
 use lib.ListN.{length}
-use borrow.Author.Needs.{needs}
 use Rattle.rules.specs.Sheet.{sheet-in, P-of, counts-before}
 use Rattle.laws.specs.Decoded.{P-decoded}
 use Rattle.laws.specs.Ranks.{counts-none}
