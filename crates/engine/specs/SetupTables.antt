@@ -221,10 +221,10 @@ module _ (s : Sheet) (g : Good s) (r i : ℕ) (last c : List ℕ) (F : Filled s 
   -- its rank is put, which leaves the other table
   rank-filled : (scratch-size ≤ length (rank-put i r c)) × Ranked s (rank-put i r c) (i + 1) × Awaited s (rank-put i r c) i
   rank-filled = (
-      omega (arith, F .roomy, splice-length c (rank-at i) (r ∷ []) rank-fits),
-      ranked-more s c i few (F .roomy) r (sym e) (F .ranks),
-      awaited-kept s c (rank-at i) (r ∷ []) i (omega (arith, few)) (F .roomy) rank-fits (λ j a b p q. omega (arith, few)) (F .waits),
-    )
+    omega (arith, F .roomy, splice-length c (rank-at i) (r ∷ []) rank-fits),
+    ranked-more s c i few (F .roomy) r (sym e) (F .ranks),
+    awaited-kept s c (rank-at i) (r ∷ []) i (omega (arith, few)) (F .roomy) rank-fits (λ j a b p q. omega (arith, few)) (F .waits),
+  )
 
   -- a wait's word is put, which leaves the ranks
   wait-filled : (v : ℕ) → v < 65536 → waited s i ≡ some v → Filled s (wait-put i v (rank-put i r c)) (i + 1)

@@ -69,8 +69,7 @@ put-op-requires c κs =
     let l = c .before .before .before .loop in
     let u = c .before .before .loop-test .taken in
     let e = c .before .before .before .before .before .before .boards .ensures .0 in
-    let G = l .inv .1 in
-    (
+    let G = l .inv .1 in (
       going-bytes (z .pre .0) (z .pre .1) (z .pre .2) e G u,
       going-slot (z .pre .0) (z .pre .1) (z .pre .2) e G u,
       going-few (z .pre .0) (z .pre .1) (z .pre .2) e G u,
@@ -85,8 +84,7 @@ note-requires c κs =
     let l = c .before .before .before .before .before .before .before .loop in
     let u = c .before .before .before .before .before .before .loop-test .taken in
     let e = c .before .before .before .before .before .before .before .before .before .before .boards .ensures .0 in
-    let G = l .inv .1 in
-    (
+    let G = l .inv .1 in (
       going-bytes (z .pre .0) (z .pre .1) (z .pre .2) e G u,
       going-slot (z .pre .0) (z .pre .1) (z .pre .2) e G u,
       going-few (z .pre .0) (z .pre .1) (z .pre .2) e G u,
@@ -104,8 +102,7 @@ loop-less c = omega arith
 loop-again : tie.Need-loop-again Inv-loop μ-loop
 loop-again c =
     let z = c .before .before .before .before .before .before .before .before .before .before .before .before .before .before in
-    let l = c .before .before .before .before .before .before .before .before .loop in
-    (
+    let l = c .before .before .before .before .before .before .before .before .loop in (
       omega (arith, l .inv .0),
       going-more (z .pre .0) (z .pre .1) (z .pre .2) (c .before .before .before .before .before .before .before .before .before .before .before .boards .ensures .0) (l .inv .1) (c .before .before .before .before .before .before .before .loop-test .taken)
           (c .before .before .before .before .put-op .ensures) (c .note .ensures),
