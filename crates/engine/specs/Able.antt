@@ -91,7 +91,7 @@ module _ (bs lent c : List ℕ) (t : Tally) (x : Job) (d : Stands bs lent c t x)
   -- what a wait waits for is one of the sheet
   pub wait-target : (i : ℕ) → is-wait (op s i) ≡ true → i < N-of s → two c (word-at waits-at i) < N-of s
   unfolding waited
-  wait-target i w l = let b = waited-before s i i (two c (word-at waits-at i)) (d .tables .wait-is i l w) in omega arith
+  wait-target i w l = let b = waited-before s i i (two c (word-at waits-at i)) (d .decodes .indexed .wait-is i l w) in omega arith
 
   -- NOT ABLE: stopped, no such board, finished
   pub able-stopped : (r : ℕ) → (t .verdict ≡ 0 → ⊥) → false ≡ able s x r
@@ -128,7 +128,7 @@ module _ (bs lent c : List ℕ) (t : Tally) (x : Job) (d : Stands bs lent c t x)
     unfolding in-waiting-half half-complete complete-if complete
     next-wait w =
         let j : ℕ = two c (word-at waits-at i) in
-        let target : waited s i ≡ some j = d .tables .wait-is i (next-below r i n) w in
+        let target : waited s i ≡ some j = d .decodes .indexed .wait-is i (next-below r i n) w in
         let w2 : is-wait (op s (next-op s x r)) ≡ true = ap (λ (k : ℕ). is-wait (op s k)) (sym (n .is-next)) ∙ w in
         ap (λ (v : ℕ). leb 2 v) (state-is j (wait-target i w (next-below r i n))) ∙ rw (w, w2, target) (only (place-at x r .waiting) (leb 2 (entry-at x j .state)))
       where

@@ -26,15 +26,12 @@ use Rattle.state.specs.declared.Tally.{Tally}
 use Rattle.state.specs.Layout.{row-at, seat-at, word-at, messages-at, receives-at, ranks-at}
 use Rattle.state.specs.Decoded.{place-in, place-row, words-in, Fits-place}
 use Rattle.state.specs.Tallied.{counted, halted}
-use Rattle.state.specs.Rows.{row-length}
 use Rattle.state.specs.Lists.{behind}
 use Rattle.state.specs.Decodes.{Decodes, message-is, receive-is, messages-length, receives-length, message-remove, receive-remove, memory-put, stop-put}
 use Rattle.state.specs.Steps.{message-pend, receive-pend}
-use Rattle.state.specs.Indexed.{Indexed, indexed-kept}
-use Rattle.words.specs.Splice.{splice-length}
 use Rattle.engine.specs.Stands.{Stands}
 use Rattle.engine.specs.Search.{Readable, Listed}
-use Rattle.engine.specs.Moves.{Held, Bytes, Small, seat-after, released-bytes, rows-bytes, met-bytes, fits-after, small-read, small-released, place-put-same, place-put-other, place-put-out, tables-kept, held-released, held-rows, held-initiated}
+use Rattle.engine.specs.Moves.{Bytes, Small, seat-after, released-bytes, rows-bytes, met-bytes, fits-after, small-read, small-released, place-put-same, place-put-other, place-put-out, decodes-released, decodes-rows, decodes-initiated}
 
 -- operation i is the next of board r, which is able, and its step is an initiating one
 pub record Begins (s : Sheet) (x : Job) (r i : ℕ) : Type 0 where
@@ -124,20 +121,13 @@ module _ (bs lent c : List ℕ) (t : Tally) (x : Job) (d : Stands bs lent c t x)
   abbrev s : Sheet
   s = sheet-in bs
 
-  pub held-here : Held s c t x
-  held-here =
-      record {
-        decodes = d .decodes;
-        tables = d .tables;
-      }
-
   pub readable : Readable bs c
   readable =
       record {
         laid = d .laid;
         few = d .good .ops-few;
         roomy = d .decodes .roomy;
-        tables = d .tables;
+        tables = d .decodes .indexed;
         ranked = λ i l. omega (arith, d .good .rank-small i l, d .good .boards-few);
       }
 
@@ -158,12 +148,12 @@ module _ (bs lent c : List ℕ) (t : Tally) (x : Job) (d : Stands bs lent c t x)
       }
 
   -- the rows of a match of message m and receive q
-  held-met : Bytes c → (m q : ℕ) → m < N-of s → q < N-of s → is-wait (op s m) ≡ false → Held s (met-bytes s m q c) t (matched-rows s m q (release s m x))
+  decodes-met : Bytes c → (m q : ℕ) → m < N-of s → q < N-of s → is-wait (op s m) ≡ false → Decodes s (met-bytes s m q c) t (matched-rows s m q (release s m x))
   unfolding met-bytes op-good
-  held-met bytes m q lm lq w =
+  decodes-met bytes m q lm lq w =
       let g : fields-good (P-of s) (s .comms) (room-for s m) (op s m) ≡ true = d .good .ops-good m lm in
       let rank = d .good .rank-small m lm in
-      let one = held-released s c t x held-here m lm rank (small-read s c t x (d .decodes) bytes) in
-      held-rows s (released-bytes s m c) t (release s m x) one m q lm lq (omega (arith, rank, d .good .boards-few))
+      let one = decodes-released s c t x (d .decodes) m lm rank (small-read s c t x (d .decodes) bytes) in
+      decodes-rows s (released-bytes s m c) t (release s m x) one m q lm lq (omega (arith, rank, d .good .boards-few))
         (tag-small (P-of s) (s .comms) (op s m) (fields-envelope (P-of s) (s .comms) (room-for s m) (op s m) g w))
         (omega (arith, extent-length (room-for s m) (op s m) (fields-extent (P-of s) (s .comms) (room-for s m) (op s m) g w)))

@@ -5,9 +5,11 @@
 --   Initiate initiating steps in scratch are those of rules
 --   Able     whether a board is able, test by test
 --   SetupTables   the tables of ranks and waits, filled script by script
+--   SetupWalk     the walk that fills them, and the start that then stands in scratch
 pub mod Stands
 pub mod Able
 pub mod Search
 pub mod Moves
 pub mod Initiate
 pub mod SetupTables
+pub mod SetupWalk

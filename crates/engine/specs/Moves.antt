@@ -1,5 +1,4 @@
 -- What the parts of a step do to scratch, as bytes, and that each is the change of the job that rules names.
---   Held           scratch and tally hold a job, with the two tables right
 --   Small          the places of a job fit their bytes
 --   released-bytes, rows-bytes, met-bytes, seat-after   what the parts write
 -- Assumes nothing.
@@ -18,20 +17,13 @@ use Rattle.rules.specs.Sheet.{Sheet, Op, sheet-in, op, P-of, N-of, rank-of, two
 use Rattle.rules.specs.Job.{Job, Entry, Place, job, entry, place, entry-at, place-at, with-entries, with-places}
 use Rattle.rules.specs.Step.{splice, is-cut, charge-of, charged, released, with-place, charge, release, matched-rows, one-finished, now-waiting, initiated}
 use Rattle.rules.specs.Report.{op-row}
-use Rattle.words.specs.Splice.{splice-length}
 use Rattle.state.specs.declared.Tally.{Tally}
-use Rattle.state.specs.Layout.{row-at, seat-at, ranks-at}
+use Rattle.state.specs.Layout.{row-at, seat-at}
 use Rattle.state.specs.Decoded.{entry-in, place-in, place-row, Fits-place}
-use Rattle.state.specs.Rows.{row-length}
 use Rattle.state.specs.Places.{seat-length}
 use Rattle.state.specs.Decodes.{Decodes, entry-is, place-is}
 use Rattle.state.specs.Steps.{rows-match, place-change}
-use Rattle.state.specs.Indexed.{Indexed, indexed-kept}
 use Rattle.engine.specs.Search.{Readable, readable-kept}
-
-pub record Held (s : Sheet) (c : List ℕ) (t : Tally) (x : Job) : Type 0 where
-  pub decodes : Decodes s c t x
-  pub tables : Indexed s c
 
 -- every byte of scratch is a byte, so what was read from two of them fits two of them
 abbrev pub Bytes : List ℕ → Type 0
@@ -163,47 +155,26 @@ small-put s x r q m f k l = go (ℕ-discrete k r) (decLt r (length (x .places)))
         (subst (λ (p : Place). Fits-place p) (sym (place-put-out x r q (omega arith))) (subst (λ (n : ℕ). Fits-place (place-at x n)) e (m k l)))
     go (no d) h = subst (λ (p : Place). Fits-place p) (sym (place-put-other x r k q d)) (m k l)
 
--- CHANGES OF A HELD JOB
-module _ (s : Sheet) (c : List ℕ) (t : Tally) (x : Job) (h : Held s c t x) where
-  -- the tables lie above every change
-  pub tables-kept : (at : ℕ) (vs : List ℕ) → at + length vs ≤ ranks-at → Indexed s (splice c at vs)
-  tables-kept at vs l = indexed-kept s c at vs (h .decodes .few-ops) (h .decodes .roomy) l (h .tables)
-
-  pub held-place : (f : Place → Place) (r : ℕ) → Fits-place (f (place-at x r)) → r < P-of s → Held s (splice c (seat-at r) (place-row (f (place-in c (seat-at r))))) t (with-place r (f (place-at x r)) x)
-  held-place f r q l =
-      record {
-        decodes = place-change s c t x (h .decodes) f r q l;
-        tables = tables-kept (seat-at r) (place-row (f (place-in c (seat-at r)))) (omega (arith, seat-length (f (place-in c (seat-at r))), h .decodes .few-boards));
-      }
-
-  pub held-released : (m : ℕ) → m < N-of s → rank-of s m < P-of s → Small s x → Held s (released-bytes s m c) t (release s m x)
+-- CHANGES OF A JOB IN SCRATCH
+module _ (s : Sheet) (c : List ℕ) (t : Tally) (x : Job) (d : Decodes s c t x) where
+  pub decodes-released : (m : ℕ) → m < N-of s → rank-of s m < P-of s → Small s x → Decodes s (released-bytes s m c) t (release s m x)
   unfolding released-bytes release
-  held-released m l r small =
-      let same : entry-in c (row-at m) .state ≡ entry-at x m .state = ap (λ (e : Entry). e .state) (entry-is s c t x (h .decodes) m l) in
+  decodes-released m l r small =
+      let same : entry-in c (row-at m) .state ≡ entry-at x m .state = ap (λ (e : Entry). e .state) (entry-is s c t x d m l) in
       rw same (go (eqb (entry-at x m .state) 2))
     where
-      go : (b : Bool) → Held s (cond b (splice c (seat-at (rank-of s m)) (place-row (released (charge-of (op s m)) (place-in c (seat-at (rank-of s m)))))) c) t (cond b (with-place (rank-of s m) (released (charge-of (op s m)) (place-at x (rank-of s m))) x) x)
-      go true = held-place (λ q. released (charge-of (op s m)) q) (rank-of s m) (fits-released (charge-of (op s m)) (place-at x (rank-of s m)) (small (rank-of s m) r)) r
-      go false = h
+      go : (b : Bool) → Decodes s (cond b (splice c (seat-at (rank-of s m)) (place-row (released (charge-of (op s m)) (place-in c (seat-at (rank-of s m)))))) c) t (cond b (with-place (rank-of s m) (released (charge-of (op s m)) (place-at x (rank-of s m))) x) x)
+      go true = place-change s c t x d (λ q. released (charge-of (op s m)) q) (rank-of s m) (fits-released (charge-of (op s m)) (place-at x (rank-of s m)) (small (rank-of s m) r)) r
+      go false = d
 
-  pub held-rows : (m r : ℕ) → m < N-of s → r < N-of s → rank-of s m < 65536 → op s m .tag < 65536 → op s m .long < 65536 → Held s (rows-bytes s m r c) t (matched-rows s m r x)
+  pub decodes-rows : (m r : ℕ) → m < N-of s → r < N-of s → rank-of s m < 65536 → op s m .tag < 65536 → op s m .long < 65536 → Decodes s (rows-bytes s m r c) t (matched-rows s m r x)
   unfolding rows-bytes
-  held-rows m r lm lr a b d =
-      let sent : List ℕ = op-row (entry 3 0 r absent absent 0) in
-      let got : List ℕ = op-row (entry 3 (cond (is-cut s m r) 1 0) m (rank-of s m) (op s m .tag) (op s m .long)) in
-      let few = h .decodes .few-ops in
-      let one : Indexed s (splice c (row-at m) sent) = tables-kept (row-at m) sent (omega (arith, row-length (entry 3 0 r absent absent 0))) in
-      record {
-        decodes = rows-match s c t x (h .decodes) m r (cond (is-cut s m r) 1 0) (rank-of s m) (op s m .tag) (op s m .long) lm lr refl refl refl refl a b d;
-        tables =
-            indexed-kept s (splice c (row-at m) sent) (row-at r) got few
-            (omega (arith, h .decodes .roomy, splice-length c (row-at m) sent (omega (arith, h .decodes .roomy, row-length (entry 3 0 r absent absent 0)))))
-            (omega (arith, row-length (entry 3 (cond (is-cut s m r) 1 0) m (rank-of s m) (op s m .tag) (op s m .long)))) one;
-      }
+  decodes-rows m r lm lr a b e =
+      rows-match s c t x d m r (cond (is-cut s m r) 1 0) (rank-of s m) (op s m .tag) (op s m .long) lm lr refl refl refl refl a b e
 
-  pub held-initiated : (r i : ℕ) → r < P-of s → Fits-place (seat-after (op s i) (place-at x r)) → Held s (splice c (seat-at r) (place-row (seat-after (op s i) (place-in c (seat-at r))))) t (initiated s r i x)
+  pub decodes-initiated : (r i : ℕ) → r < P-of s → Fits-place (seat-after (op s i) (place-at x r)) → Decodes s (splice c (seat-at r) (place-row (seat-after (op s i) (place-in c (seat-at r))))) t (initiated s r i x)
   unfolding initiated seat-after
-  held-initiated r i l f = held-place (λ q. seat-after (op s i) q) r f l
+  decodes-initiated r i l f = place-change s c t x d (λ q. seat-after (op s i) q) r f l
 
 -- a release only makes places smaller
 pub small-released : (s : Sheet) (m : ℕ) (x : Job) → rank-of s m < P-of s → Small s x → Small s (release s m x)

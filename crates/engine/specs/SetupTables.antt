@@ -22,7 +22,7 @@ use Rattle.rules.specs.Refusal.{freed, holds, slot-held, request-good}
 use Rattle.rules.specs.Step.{waited-below, waited, splice}
 use Rattle.rules.specs.Report.{low-two}
 use Rattle.laws.specs.Tests.{and-left, and-right, and-both, true-not-false, not-so, cond-true, cond-false}
-use Rattle.laws.specs.Below.{Found, below-found}
+use Rattle.laws.specs.Below.{below-found}
 use Rattle.words.specs.Splice.{splice-length}
 use Rattle.state.specs.Layout.{rank-at, word-at, waits-at}
 use Rattle.state.specs.Indexed.{Ranked, Awaited, Indexed, ranked-kept, awaited-kept, ranked-more, awaited-skip, awaited-more}
@@ -101,6 +101,14 @@ pub record Latest (s : Sheet) (r i : ℕ) (last : List ℕ) : Type 0 where
 unfoldable pub last-after : Op → (i : ℕ) → List ℕ → List ℕ
 last-after o i last = cond (is-nonblocking o) (set last (o .slot) i) last
 
+pub last-nonblocking : (o : Op) (i : ℕ) (last : List ℕ) → o .flag ≡ 1 → set last (o .slot) i ≡ last-after o i last
+unfolding last-after is-nonblocking
+last-nonblocking o i last h = sym (cond-true (eqb (o .flag) 1) (set last (o .slot) i) last (eq-eqb (o .flag) 1 h))
+
+pub last-blocking : (o : Op) (i : ℕ) (last : List ℕ) → (o .flag ≡ 1 → ⊥) → last ≡ last-after o i last
+unfolding last-after is-nonblocking
+last-blocking o i last h = sym (cond-false (eqb (o .flag) 1) (set last (o .slot) i) last (ne-eqb (o .flag) 1 h))
+
 -- before a script nobody has taken a slot
 pub latest-none : (s : Sheet) → Good s → (r : ℕ) → r < P-of s → Latest s r (board s r .first) (replicate 32 0)
 unfolding latest
@@ -134,11 +142,14 @@ latest-more s r i last L e m = subst (λ (n : ℕ). Latest s r n (last-after (op
     not-taken : (k : ℕ) → takes s r k i ≡ false → latest (suc i) s r k ≡ latest i s r k
     not-taken k t = cond-false (takes s r k i) (some i) (latest i s r k) t
 
+    its-slot : (k : ℕ) → takes s r k i ≡ true → (is-nonblocking (op s i) && eqb slot k) ≡ true
+    its-slot k t = and-right (eqb (rank-of s i) r) (is-nonblocking (op s i) && eqb slot k) t
+
     other-slot : (k : ℕ) → (k ≡ slot → ⊥) → takes s r k i ≡ false
-    other-slot k d = not-so (takes s r k i) (λ t. d (sym (eqb-true slot k (and-right (is-nonblocking (op s i)) (eqb slot k) (and-right (eqb (rank-of s i) r) (is-nonblocking (op s i) && eqb slot k) t)))))
+    other-slot k d = not-so (takes s r k i) (λ t. d (sym (eqb-true slot k (and-right (is-nonblocking (op s i)) (eqb slot k) (its-slot k t)))))
 
     blocking : is-nonblocking (op s i) ≡ false → (k : ℕ) → takes s r k i ≡ false
-    blocking n k = not-so (takes s r k i) (λ t. true-not-false (and-left (is-nonblocking (op s i)) (eqb slot k) (and-right (eqb (rank-of s i) r) (is-nonblocking (op s i) && eqb slot k) t)) n)
+    blocking n k = not-so (takes s r k i) (λ t. true-not-false (and-left (is-nonblocking (op s i)) (eqb slot k) (its-slot k t)) n)
 
     go : (b : Bool) → is-nonblocking (op s i) ≡ b → Latest s r (suc i) (cond b (set last slot i) last)
     go false n =
@@ -189,6 +200,15 @@ wait-put i v c = splice c (word-at waits-at i) (low-two v)
 
 unfoldable pub op-put : Op → (i r : ℕ) → (last c : List ℕ) → List ℕ
 op-put o i r last c = cond (is-wait o) (wait-put i (getD last (o .slot) 0) (rank-put i r c)) (rank-put i r c)
+
+module _ (o : Op) (i r : ℕ) (last c : List ℕ) where
+  pub put-wait : o .kind ≡ 6 → wait-put i (getD last (o .slot) 0) (rank-put i r c) ≡ op-put o i r last c
+  unfolding op-put is-wait
+  put-wait h = sym (cond-true (eqb (o .kind) 6) (wait-put i (getD last (o .slot) 0) (rank-put i r c)) (rank-put i r c) (eq-eqb (o .kind) 6 h))
+
+  pub put-other : (o .kind ≡ 6 → ⊥) → rank-put i r c ≡ op-put o i r last c
+  unfolding op-put is-wait
+  put-other h = sym (cond-false (eqb (o .kind) 6) (wait-put i (getD last (o .slot) 0) (rank-put i r c)) (rank-put i r c) (ne-eqb (o .kind) 6 h))
 
 -- one operation more
 module _ (s : Sheet) (g : Good s) (r i : ℕ) (last c : List ℕ) (F : Filled s c i) (L : Latest s r i last) (l : i < N-of s) (e : rank-of s i ≡ r) where

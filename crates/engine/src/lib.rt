@@ -1,4 +1,5 @@
 // The engine: boards step in lent scratch; then deliveries and the report are made from what scratch holds.
 pub mod able;
 pub mod search;
+pub mod setup;
 pub mod step;
