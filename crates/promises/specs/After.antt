@@ -124,7 +124,7 @@ module _ {s : Sheet} {x y : Job} {r : ℕ} (n : Next s x r) where
       (ap (λ (b : Bool). (b || is-wait (op s (next-op s x r))) || is-nonblocking (op s (next-op s x r))) w
       ∙ ap (λ (b : Bool). b || is-nonblocking (op s (next-op s x r))) e))
   after (posts w e m uses E a b c f) = turned (is-nonblocking (op s (next-op s x r))) m (initiates s x r w (receive-no-wait (op s (next-op s x r)) e))
-  after (pends w e m uses E a b c f) = turned (is-nonblocking (op s (next-op s x r))) m (initiates s x r w (send-no-wait (op s (next-op s x r)) e))
+  after (pends w e m uses E a b c f l) = turned (is-nonblocking (op s (next-op s x r))) m (initiates s x r w (send-no-wait (op s (next-op s x r)) e))
   after (meets m q w v uses M a b c f) = turned (is-nonblocking (op s (next-op s x r))) v (initiates s x r w (not-wait (M .one)))
     where
       not-wait : (next-op s x r ≡ m) ⊎ (next-op s x r ≡ q) → is-wait (op s (next-op s x r)) ≡ false

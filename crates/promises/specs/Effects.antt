@@ -98,18 +98,19 @@ module _ (s : Sheet) (g : Good s) (lent : List ℕ) (x : Job) (R : Reached s len
       pends w e (m .0) (m .1)
       (subst (λ (v : ℕ). Enters x y here v) (sym (unmatched-unbuffered e b))
       (set-enters x y here 1 (next-fresh s x r (R .placed) n w) entries-inside (omega arith) (omega arith) refl))
-      refl refl refl none-fits
+      refl refl refl none-fits (λ c. absurd (clash c b))
 
   outcome-buffers : place-at x r .waiting ≡ false → is-send (op s here) ≡ true → is-buffered (op s here) ≡ true → first-receive s here (x .receives) ≡ none →
+      fits-buffer s r here x ≡ true →
       Outcome s x (with-steps (suc (x .steps)) (initiated s r here (charge s r here (pend-message here 2 x)))) r here
   unfolding initiated charge pend-message with-messages with-place with-places with-steps with-state with-entries job place-at
-  outcome-buffers w e b none-fits =
+  outcome-buffers w e b none-fits room =
       let y = with-steps (suc (x .steps)) (initiated s r here (charge s r here (pend-message here 2 x))) in
       let m = stepped-moved y (used-charged s x (R .in-use-peak) r here places-inside b) r (is-nonblocking (op s here)) places-inside refl (length-set (x .entries) here (bare-entry 2)) refl refl in
       pends w e (m .0) (m .1)
       (subst (λ (v : ℕ). Enters x y here v) (sym (unmatched-buffered e b))
       (set-enters x y here 2 (next-fresh s x r (R .placed) n w) entries-inside (omega arith) (omega arith) refl))
-      refl refl refl none-fits
+      refl refl refl none-fits (λ c. room)
 
   -- a message and a receive are matched
   outcome-meets : (m q : ℕ) → place-at x r .waiting ≡ false → is-send (op s m) ≡ true → is-receive (op s q) ≡ true → fits-with s m q ≡ true →
@@ -188,18 +189,18 @@ module _ (s : Sheet) (g : Good s) (lent : List ℕ) (x : Job) (R : Reached s len
   outcome-unmatched : place-at x r .waiting ≡ false → is-send (op s here) ≡ true → first-receive s here (x .receives) ≡ none →
       Outcome s x (with-steps (suc (x .steps)) (unmatched s r here x)) r here
   unfolding unmatched
-  outcome-unmatched w k e = go (is-ready (op s here)) (is-buffered (op s here)) refl (fits-buffer s r here x)
+  outcome-unmatched w k e = go (is-ready (op s here)) (is-buffered (op s here)) refl (fits-buffer s r here x) refl
     where
-      go : (a b : Bool) → is-buffered (op s here) ≡ b → (c : Bool) →
+      go : (a b : Bool) → is-buffered (op s here) ≡ b → (c : Bool) → fits-buffer s r here x ≡ c →
           Outcome s x
           (with-steps (suc (x .steps))
           (cond a (stopped 4 r here x)
           (cond b (cond c (initiated s r here (charge s r here (pend-message here 2 x))) (stopped 3 r here x)) (initiated s r here (pend-message here 1 x)))))
           r here
-      go true b h c = stops 4 (inr refl) w k e refl
-      go false true h true = outcome-buffers w k h e
-      go false true h false = stops 3 (inl refl) w k e refl
-      go false false h c = outcome-pends w k h e
+      go true b h c f = stops 4 (inr refl) w k e refl
+      go false true h true f = outcome-buffers w k h e f
+      go false true h false f = stops 3 (inl refl) w k e refl
+      go false false h c f = outcome-pends w k h e
 
   outcome-sent : (o : Option ℕ) → first-receive s here (x .receives) ≡ o → place-at x r .waiting ≡ false → is-send (op s here) ≡ true →
       Outcome s x (with-steps (suc (x .steps)) (sent s r here o x)) r here

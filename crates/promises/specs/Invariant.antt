@@ -160,6 +160,8 @@ pub record Reached (s : Sheet) (i : List ℕ) (x : Job) : Type 0 where
   -- in use is the sum of the pending charges, and at most the peak (In-use, Peaks, calm sheets never stop)
   pub in-use-sum : (r : ℕ) → r < P-of s → place-at x r .in-use ≡ sum-below (N-of s) (charge-in s x r)
   pub in-use-peak : (r : ℕ) → place-at x r .in-use ≤ place-at x r .peak
+  -- no board has ever more in use than its attached buffer holds (the engine: they fit two bytes)
+  pub peak-attached : (r : ℕ) → r < P-of s → place-at x r .peak ≤ board s r .attached
   -- memory holds the deliveries in script order: time is gone from it (alike, whole or cut)
   pub memory-painted : x .memory ≡ painted s x (N-of s) i
   pub memory-long : length (x .memory) ≡ length i

@@ -51,7 +51,7 @@ pub data Outcome (s : Sheet) (x y : Job) (r i : ℕ) : Type 0 where
       y .messages ≡ x .messages → y .receives ≡ x .receives ++ (i ∷ []) → y .memory ≡ x .memory → first-message s i (x .messages) ≡ none → Outcome s x y r i
   pends : place-at x r .waiting ≡ false → is-send (op s i) ≡ true → Moved x y r (is-nonblocking (op s i)) → Use x y (use-charged s r i) →
       Enters x y i (unmatched-state (op s i)) → y .messages ≡ x .messages ++ (i ∷ []) → y .receives ≡ x .receives → y .memory ≡ x .memory →
-      first-receive s i (x .receives) ≡ none → Outcome s x y r i
+      first-receive s i (x .receives) ≡ none → (is-buffered (op s i) ≡ true → fits-buffer s r i x ≡ true) → Outcome s x y r i
   meets : (m q : ℕ) → place-at x r .waiting ≡ false → Moved x y r (is-nonblocking (op s i)) → Use x y (use-released s x m) → Matches s x y m q i →
       y .messages ≡ without m (x .messages) → y .receives ≡ without q (x .receives) → y .memory ≡ delivered s m q (x .memory) →
       ((q ≡ i) × (first-message s i (x .messages) ≡ some m)) ⊎ ((m ≡ i) × (first-receive s i (x .receives) ≡ some q)) → Outcome s x y r i

@@ -9,10 +9,12 @@ use mathlib.Core.Option.{Option, none, some}
 use Prim.Native.Nat.{ℕ, zero, suc, _+_, _-_, _≤_, _<_, max}
 use native.Mathlib.Omega.{arith}
 use native.Mathlib.Decide.{ℕ-discrete, decLt}
+use lib.Dec.{eqb}
 use lib.ListN.{length}
-use Rattle.rules.specs.Sheet.{Sheet, op, P-of, N-of, rank-of, inbox-total, is-send, is-receive, is-wait, is-buffered, is-nonblocking}
+use borrow.Author.Tests.{eqb-true, leb-true}
+use Rattle.rules.specs.Sheet.{Sheet, op, board, P-of, N-of, rank-of, inbox-total, is-send, is-receive, is-wait, is-buffered, is-nonblocking}
 use Rattle.rules.specs.Job.{Job, Stop, job, place-at, entry-at, with-stop, with-steps}
-use Rattle.rules.specs.Step.{able, step, next-op, half-complete, complete, complete-if, first-message, first-receive, fits-with, delivered, without, stopped, is-none}
+use Rattle.rules.specs.Step.{able, step, next-op, half-complete, complete, complete-if, first-message, first-receive, fits-with, delivered, without, stopped, is-none, fits-buffer, charge-of}
 use Rattle.promises.specs.Good.{Good}
 use Rattle.promises.specs.Ground.{Ground}
 use Rattle.promises.specs.Kinds.{clash, send-no-wait, receive-no-wait, receive-no-send, send-no-receive, fit-one-board, wait-kind, send-kind, receive-kind, is-false}
@@ -49,9 +51,9 @@ module _ {s : Sheet} (g : Good s) (A : Ground s) {lent : List ℕ} (room : inbox
   extended-turn : {y : Job} {r : ℕ} {last : Bool} → Turn s x y r last → (came : ℕ → ℕ) → ((j : ℕ) → Entered x j → came j ≡ R .came j) →
       (Entered y (next-op s x r) → (Entered x (next-op s x r) → ⊥) → (j : ℕ) → Entered x j → came j < came (next-op s x r)) → Stable s came y → Arrived s came y → Shaped s y →
       Holds (Came-before came) (Pending-message s y) (y .messages) → Holds (Posted-before s) (Pending-receive s y) (y .receives) →
-      ((q : ℕ) → q < P-of s → place-at y q .in-use ≡ sum-below (N-of s) (charge-in s y q)) → y .memory ≡ painted s y (N-of s) lent →
-      Extended R y (next-op s x r)
-  extended-turn {y} {r} {last} T came old new stable arrived shaped messages receives uses memory =
+      ((q : ℕ) → q < P-of s → place-at y q .in-use ≡ sum-below (N-of s) (charge-in s y q)) →
+      ((q : ℕ) → q < P-of s → place-at y q .in-use ≤ board s q .attached) → y .memory ≡ painted s y (N-of s) lent → Extended R y (next-op s x r)
+  extended-turn {y} {r} {last} T came old new stable arrived shaped messages receives uses covered memory =
       record {
         reached =
             record {
@@ -64,6 +66,7 @@ module _ {s : Sheet} (g : Good s) (A : Ground s) {lent : List ℕ} (room : inbox
               receives-held = receives;
               in-use-sum = uses;
               in-use-peak = λ q. omega (arith, moved-peak (T .moved) q);
+              peak-attached = λ q l. omega (arith, moved-peak (T .moved) q, covered q l, R .peak-attached q l);
               memory-painted = memory;
               memory-long = ap (λ (z : List ℕ). length z) memory ∙ painted-length g A stable placed shaped (N-of s) lent room;
               steps-sum =
@@ -91,6 +94,10 @@ module _ {s : Sheet} (g : Good s) (A : Ground s) {lent : List ℕ} (room : inbox
       uses q ∙ R .in-use-sum q l
       ∙ sum-same (N-of s) (charge-in s x q) (charge-in s y q) (λ j k. charge-same s x y q j (state-same (same j)))
 
+  -- where no more is in use than was, the attached buffer covers it
+  covered-less : (y : Job) → ((q : ℕ) → place-at y q .in-use ≤ place-at x q .in-use) → (q : ℕ) → q < P-of s → place-at y q .in-use ≤ board s q .attached
+  covered-less y less q l = omega (arith, less q, R .in-use-peak q, R .peak-attached q l)
+
   module _ (y : Job) (r : ℕ) (n : Next s x r) where
     abbrev i : ℕ
     i = next-op s x r
@@ -105,7 +112,7 @@ module _ {s : Sheet} (g : Good s) (A : Ground s) {lent : List ℕ} (room : inbox
         (arrived-same same (omega (arith, m .steps-more)) (R .arrived)) (shaped-same y (R .shaped) e)
         (subst (λ (l : List ℕ). Holds (Came-before (R .came)) (Pending-message s y) l) (sym (k .messages)) (messages-same same (R .messages-held)))
         (subst (λ (l : List ℕ). Holds (Posted-before s) (Pending-receive s y) l) (sym (k .receives)) (receives-same same (R .receives-held)))
-        (uses-same y same uses) (k .memory ∙ R .memory-painted ∙ sym (painted-rows s x y (N-of s) lent same))
+        (uses-same y same uses) (covered-less y (λ q. omega (arith, uses q))) (k .memory ∙ R .memory-painted ∙ sym (painted-rows s x y (N-of s) lent same))
       where
         same : Same-rows x y
         same = rows-same x y e
@@ -121,11 +128,12 @@ module _ {s : Sheet} (g : Good s) (A : Ground s) {lent : List ℕ} (room : inbox
         (is-send (op s i) ≡ true → (q : ℕ) → Pending-receive s x q → fits-with s i q ≡ true → ⊥) →
         (is-receive (op s i) ≡ true → (m : ℕ) → Pending-message s x m → fits-with s m i ≡ true → ⊥) →
         Holds (Came-before now) (Pending-message s y) (y .messages) → Holds (Posted-before s) (Pending-receive s y) (y .receives) →
-        ((q : ℕ) → q < P-of s → place-at y q .in-use ≡ sum-below (N-of s) (charge-in s y q)) → y .memory ≡ x .memory → Extended R y i
-    sound-enters T E state no-receive no-message messages receives uses memory =
+        ((q : ℕ) → q < P-of s → place-at y q .in-use ≡ sum-below (N-of s) (charge-in s y q)) →
+        ((q : ℕ) → q < P-of s → place-at y q .in-use ≤ board s q .attached) → y .memory ≡ x .memory → Extended R y i
+    sound-enters T E state no-receive no-message messages receives uses covered memory =
         extended-turn T now (came-old (enters-grows E)) (λ inn out. arrives-later (R .arrived) (enters-grows E) .new)
         (enter-stable (R .stable) (arrives-later (R .arrived) (enters-grows E)) E no-receive no-message)
-        (arrived-step (R .arrived) (enters-grows E) (R .placed) (T .moved .steps-more)) (shaped-enters (R .shaped) E state) messages receives uses
+        (arrived-step (R .arrived) (enters-grows E) (R .placed) (T .moved .steps-more)) (shaped-enters (R .shaped) E state) messages receives uses covered
         (memory ∙ R .memory-painted ∙ sym (painted-enters s (N-of s) lent E))
 
     later : {v : ℕ} → Enters x y i v → Later (R .came) now x i
@@ -145,7 +153,8 @@ module _ {s : Sheet} (g : Good s) (A : Ground s) {lent : List ℕ} (room : inbox
     sound-wait w e m k uses E =
         sound-enters (turn-wait n m (enters-grows E) w e) E (sym (unmatched-wait s i e)) (λ a. absurd (clash a no-send)) (λ a. absurd (clash a no-receive))
         (messages-are (k .messages) (queue-message-other E (later E) no-send (R .messages-held)))
-        (receives-are (k .receives) (queue-receive-other E no-receive (R .receives-held))) (uses-other E (omega arith) uses) (k .memory)
+        (receives-are (k .receives) (queue-receive-other E no-receive (R .receives-held))) (uses-other E (omega arith) uses) (covered-less y (λ q. omega (arith, uses q)))
+        (k .memory)
       where
         no-send : is-send (op s i) ≡ false
         no-send = is-false (is-send (op s i)) (λ a. clash e (send-no-wait (op s i) a))
@@ -161,29 +170,41 @@ module _ {s : Sheet} (g : Good s) (A : Ground s) {lent : List ℕ} (room : inbox
         (λ a. absurd (clash a (receive-no-send (op s i) e)))
         (λ a k p f. clash f (first-by-none (λ k. fits-with s k i) (x .messages) none-fits k (R .messages-held .whole k p)))
         (messages-are messages (queue-message-other E (later E) (receive-no-send (op s i) e) (R .messages-held)))
-        (receives-are receives (queue-receive E (R .placed) e (R .receives-held))) (uses-other E (omega arith) uses) memory
+        (receives-are receives (queue-receive E (R .placed) e (R .receives-held))) (uses-other E (omega arith) uses)
+        (covered-less y (λ q. omega (arith, uses q))) memory
 
     sound-pends : place-at x r .waiting ≡ false → is-send (op s i) ≡ true → Moved x y r (is-nonblocking (op s i)) → Use x y (use-charged s r i) →
         Enters x y i (unmatched-state (op s i)) → y .messages ≡ x .messages ++ (i ∷ []) → y .receives ≡ x .receives → y .memory ≡ x .memory →
-        first-receive s i (x .receives) ≡ none → Extended R y i
-    unfolding first-receive
-    sound-pends w e m uses E messages receives memory none-fits =
+        first-receive s i (x .receives) ≡ none → (is-buffered (op s i) ≡ true → fits-buffer s r i x ≡ true) → Extended R y i
+    unfolding first-receive use-charged fits-buffer
+    sound-pends w e m uses E messages receives memory none-fits fits =
         sound-enters (turn-initiating n m (enters-grows E) w (send-no-wait (op s i) e)) E refl
         (λ a q p f. clash f (first-by-none (λ q. fits-with s i q) (x .receives) none-fits q (R .receives-held .whole q p)))
         (λ a. absurd (clash a (send-no-receive (op s i) e)))
         (messages-are messages (queue-message E (later E) e (R .messages-held)))
         (receives-are receives (queue-receive-other E (send-no-receive (op s i) e) (R .receives-held)))
-        (λ q l. uses q ∙ charging-enters s r q (place-at x q .in-use) E (n .inside) (n .ranked) e (R .in-use-sum q l)) memory
+        (λ q l. uses q ∙ charging-enters s r q (place-at x q .in-use) E (n .inside) (n .ranked) e (R .in-use-sum q l))
+        (λ q l. subst (λ (k : ℕ). k ≤ board s q .attached) (sym (uses q)) (covered q l (eqb q r) refl (is-buffered (op s i)) refl)) memory
+      where
+        -- the charge of this send had room
+        covered : (q : ℕ) → q < P-of s → (a : Bool) → eqb q r ≡ a → (b : Bool) → is-buffered (op s i) ≡ b →
+            cond (a && b) (place-at x q .in-use + charge-of (op s i)) (place-at x q .in-use) ≤ board s q .attached
+        covered q l true p true o =
+            subst (λ (z : ℕ). place-at x z .in-use + charge-of (op s i) ≤ board s z .attached) (sym (eqb-true q r p))
+            (leb-true (place-at x r .in-use + charge-of (op s i)) (board s r .attached) (fits o))
+        covered q l true p false o = omega (arith, R .in-use-peak q, R .peak-attached q l)
+        covered q l false p b o = omega (arith, R .in-use-peak q, R .peak-attached q l)
 
     sound-meets : (m q : ℕ) → place-at x r .waiting ≡ false → Moved x y r (is-nonblocking (op s i)) → Use x y (use-released s x m) → Matches s x y m q i →
         y .messages ≡ without m (x .messages) → y .receives ≡ without q (x .receives) → y .memory ≡ delivered s m q (x .memory) →
         ((q ≡ i) × (first-message s i (x .messages) ≡ some m)) ⊎ ((m ≡ i) × (first-receive s i (x .receives) ≡ some q)) → Extended R y i
-    unfolding first-message first-receive
+    unfolding first-message first-receive use-released
     sound-meets m q w v uses M messages receives memory found =
         extended-turn (turn-initiating n v G w (not-wait (M .one))) now (came-old G) (λ inn out. L .new) (match-stable (R .stable) L M (first found))
         (arrived-step (R .arrived) G (R .placed) (v .steps-more)) (shaped-matches (R .shaped) M)
         (messages-are messages (queue-message-match M L (R .messages-held))) (receives-are receives (queue-receive-match M (R .receives-held)))
         (λ o l. uses o ∙ charging-matches o (place-at x o .in-use) M (R .shaped) inside-m (R .in-use-sum o l))
+        (covered-less y (λ o. released-less (eqb o (rank-of s m) && eqb (state-at x m) 2) (place-at x o .in-use) (charge-of (op s m)) (uses o)))
         (memory ∙ ap (λ (z : List ℕ). delivered s m q z) (R .memory-painted)
         ∙ sym (painted-matches g A (R .stable) (R .placed) (R .shaped) M inside-m inside-q (N-of s) lent inside-q room))
       where
@@ -192,6 +213,10 @@ module _ {s : Sheet} (g : Good s) (A : Ground s) {lent : List ℕ} (room : inbox
 
         L : Later (R .came) now x i
         L = arrives-later (R .arrived) G
+
+        released-less : {k : ℕ} (b : Bool) (n c : ℕ) → k ≡ cond b (n - c) n → k ≤ n
+        released-less true n c e = omega (arith, e)
+        released-less false n c e = omega (arith, e)
 
         not-wait : (i ≡ m) ⊎ (i ≡ q) → is-wait (op s i) ≡ false
         not-wait (inl e) = ap (λ (z : ℕ). is-wait (op s z)) e ∙ send-no-wait (op s m) (M .sends)
@@ -243,6 +268,7 @@ module _ {s : Sheet} (g : Good s) (A : Ground s) {lent : List ℕ} (room : inbox
               receives-held = receives-same same (R .receives-held);
               in-use-sum = R .in-use-sum;
               in-use-peak = R .in-use-peak;
+              peak-attached = R .peak-attached;
               memory-painted = R .memory-painted ∙ sym (painted-rows s x y (N-of s) lent same);
               memory-long = R .memory-long;
               steps-sum = ap suc (R .steps-sum) ∙ ap (λ (o : Option Stop). suc (sum-below (N-of s) (steps-done s x) + cond (is-none o) 0 1)) (n .going) ∙ omega arith;
@@ -285,7 +311,7 @@ module _ {s : Sheet} (g : Good s) (A : Ground s) {lent : List ℕ} (room : inbox
   sound y r n (ends-half w m k uses e) = sound-half y r n w m k uses e
   sound y r n (ends-wait w e m k uses E) = sound-wait y r n w e m k uses E
   sound y r n (posts w e m uses E a b c f) = sound-posts y r n w e m uses E a b c f
-  sound y r n (pends w e m uses E a b c f) = sound-pends y r n w e m uses E a b c f
+  sound y r n (pends w e m uses E a b c f l) = sound-pends y r n w e m uses E a b c f l
   sound y r n (meets m q w v uses M a b c f) = sound-meets y r n m q w v uses M a b c f
   sound y r n (stops v reason w e f is) = subst (λ (z : Job). Extended R z (next-op s x r)) (sym is) (sound-stops v r n reason w)
 

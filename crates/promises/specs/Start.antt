@@ -135,6 +135,7 @@ module _ {s : Sheet} (g : Good s) (lent : List ℕ) where
             };
         in-use-sum = λ r l. start-in-use r ∙ sym (sum-zero (N-of s) (charge-in s x₀ r) (λ j k. charge-none s x₀ r j (λ c. omega (arith, start-state j))));
         in-use-peak = λ r. omega (arith, start-in-use r);
+        peak-attached = λ r l. omega (arith, start-peak r);
         memory-painted = sym (painted-none s x₀ (N-of s) lent (λ j c. omega (arith, start-state j)));
         memory-long = refl;
         steps-sum = omega (arith, sum-zero (N-of s) (steps-done s x₀) start-steps);
