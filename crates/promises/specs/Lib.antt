@@ -68,4 +68,5 @@ pub mod Ends
 pub mod Run
 pub mod Swapped
 pub mod Matched
+pub mod Bounds
 pub mod Theorems
