@@ -19,8 +19,9 @@ use borrow.Author.Tests.{lt-ltb, not-true}
 use Rattle.rules.specs.Sheet.{Sheet, op, board, P-of, N-of, rank-of, is-send, is-receive, is-wait}
 use Rattle.rules.specs.Job.{Job, Stop, Entry, bare-entry, entry-at, place-at}
 use Rattle.rules.specs.Step.{able, next-op, is-finished, in-waiting-half, half-complete, is-none}
+use Rattle.laws.specs.Tests.{and-both, and-left, and-right, true-not-false}
 use Rattle.promises.specs.Good.{Good}
-use Rattle.promises.specs.Kinds.{clash, and-left, and-right, and-both, kind-send}
+use Rattle.promises.specs.Kinds.{kind-send}
 use Rattle.promises.specs.Invariant.{Entered, state-at, partner-at, reach, row-of, unmatched-state, Met, Placed, Reached}
 use Rattle.promises.specs.Keep.{Within, Same-order, keep}
 use Rattle.promises.specs.Shaping.{row-bare}

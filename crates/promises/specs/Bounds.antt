@@ -16,8 +16,8 @@ use Rattle.rules.specs.Sheet.{Sheet, op, board, P-of, N-of, rank-of, counts-bef
 use Rattle.rules.specs.Refusal.{board-good}
 use Rattle.rules.specs.Job.{Job, place-at}
 use Rattle.rules.specs.Step.{able, next-op}
+use Rattle.laws.specs.Tests.{and-left, and-right}
 use Rattle.promises.specs.Good.{Good}
-use Rattle.promises.specs.Kinds.{and-left, and-right}
 use Rattle.promises.specs.Lists.{In, sorted-length}
 use Rattle.promises.specs.Invariant.{state-at, partner-at, Came-before, Posted-before, Reached}
 use Rattle.promises.specs.Moves.{able-next}

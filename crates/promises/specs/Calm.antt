@@ -22,8 +22,9 @@ use Rattle.rules.specs.Sheet.{Sheet, Op, Board, op, board, no-op, no-board, P-o
 use Rattle.rules.specs.Job.{Job, Stop, place-at}
 use Rattle.rules.specs.Step.{able, step, next-op, in-waiting-half, is-none, first-receive, fits-buffer, fits-with, charge-of}
 use Rattle.rules.specs.Claims.{calm, none-wild, is-any-source, all-charges, script, all-covered}
+use Rattle.laws.specs.Tests.{and-both, and-left, and-right, not-so, or-false-left, true-not-false}
 use Rattle.promises.specs.Good.{Good}
-use Rattle.promises.specs.Kinds.{clash, and-left, and-right, and-both, is-false, fit-source, or-left-none}
+use Rattle.promises.specs.Kinds.{fit-source}
 use Rattle.promises.specs.Sums.{sum-below, sum-gap, sum-rest, sum-more, sum-zero}
 use Rattle.promises.specs.Invariant.{Entered, state-at, charge-in, unmatched-state, Reached}
 use Rattle.promises.specs.Keep.{Same-order}
@@ -173,7 +174,7 @@ module _ {s : Sheet} (g : Good s) (c : calm s ≡ true) {lent : List ℕ} {x : J
       ))
     where
       fresh : state-at x i ≡ 0
-      fresh = next-fresh s x r (R .placed) n (or-left-none (place-at x r .waiting) (is-wait (op s i)) half)
+      fresh = next-fresh s x r (R .placed) n (or-false-left (place-at x r .waiting) (is-wait (op s i)) half)
 
   pub calm-going : step s r x .stop ≡ none
   unfolding stop-after
@@ -184,13 +185,13 @@ module _ {s : Sheet} (g : Good s) (c : calm s ≡ true) {lent : List ℕ} {x : J
       go true p b d e q k o = refl
       go false p true d e q k o = refl
       go false p false false e q k o = refl
-      go false p false true true q k o = absurd (clash refl q)
+      go false p false true true q k o = true-not-false refl q
       go false p false true false q false o = refl
       go false p false true false q true o = fits (fits-buffer s r i x) (room-left p o)
         where
           fits : (z : Bool) → z ≡ true → stop-after r i false false true false true z (x .stop) ≡ x .stop
           fits true t = refl
-          fits false t = absurd (clash t refl)
+          fits false t = true-not-false t refl
 
 -- ONE ORDER OF ARRIVAL
 pub calm-order : {s : Sheet} → calm s ≡ true → {i j : List ℕ} {x y : Job} (X : Reached s i x) (Y : Reached s j y) → Same-order s (X .came) x (Y .came) y
@@ -201,7 +202,7 @@ calm-order {s} c {i} {j} {x} {y} X Y k m r sk sm rr fk fm hm hk l = go (decLt k 
     source q f = told (fit-source s q r f)
       where
         told : (op s r .peer ≡ any) ⊎ (op s r .peer ≡ rank-of s q) → op s r .peer ≡ rank-of s q
-        told (inl e) = absurd (clash (and-both rr (eq-eqb (op s r .peer) any e)) (calm-tame-all s c r))
+        told (inl e) = true-not-false (and-both rr (eq-eqb (op s r .peer) any e)) (calm-tame-all s c r)
         told (inr e) = e
 
     same : rank-of s k ≡ rank-of s m

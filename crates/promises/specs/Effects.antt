@@ -13,10 +13,12 @@ use Rattle.rules.specs.Limits.{absent}
 use Rattle.rules.specs.Sheet.{Sheet, op, board, P-of, N-of, rank-of, is-send, is-receive, is-wait, is-ready, is-buffered, is-nonblocking}
 use Rattle.rules.specs.Job.{Job, Entry, Place, Stop, job, entry, bare-entry, place, entry-at, place-at, with-entries, with-places, with-messages, with-receives, with-memory, with-stop, with-steps}
 use Rattle.rules.specs.Step.{able, step, next-op, in-waiting-half, half-complete, one-finished, now-waiting, first-by, first-message, first-receive, fits-with, is-cut, without, delivered, charge-of, charged, released, with-place, charge, release, matched, with-state, pend-message, pend-receive, stopped, initiated, fits-buffer, unmatched, sent, received, initiating, ended}
+use Rattle.laws.specs.Tests.{or-false-left, or-false-right, true-not-false}
 use Rattle.promises.specs.Good.{Good}
-use Rattle.promises.specs.Kinds.{clash, kind-send, send-no-wait, receive-no-wait, send-receive-differ, or-left-none, or-right-none}
+use Rattle.promises.specs.Kinds.{kind-send, send-no-wait, receive-no-wait, send-receive-differ}
 use Rattle.promises.specs.Lists.{In, Holds, Found, first-by-none, first-by-some}
 use Rattle.promises.specs.Invariant.{Entered, state-at, partner-at, unmatched-state, Pending-message, Pending-receive, Placed, Posted-before, Came-before, Reached}
+use Rattle.promises.specs.States.{unmatched-send}
 use Rattle.promises.specs.Changes.{Enters, Matches, state-same, state-name}
 use Rattle.promises.specs.Moves.{Next, next-fresh, Moved}
 use Rattle.promises.specs.Outcome.{Outcome, ends-half, ends-wait, posts, pends, meets, stops, Quiet, Use, use-kept, use-charged, use-released, Used, used-kept, used-released, used-charged, used-uncharged, released-places, matched-is, place-in, stepped-places, stepped-moved, set-enters}
@@ -39,7 +41,7 @@ module _ (s : Sheet) (g : Good s) (lent : List ℕ) (x : Job) (R : Reached s len
     where
       go : (b : Bool) → b ≡ false →
           Outcome s x (with-steps (suc (x .steps)) (with-place r (one-finished (place-at x r)) (cond b (with-state here 5 x) x))) r here
-      go true e = absurd (clash refl e)
+      go true e = true-not-false refl e
       go false e =
           let m = stepped-moved (with-steps (suc (x .steps)) (with-place r (one-finished (place-at x r)) x)) (used-kept s x (R .in-use-peak)) r true places-inside refl refl refl refl in
           ends-half w (m .0)
@@ -60,7 +62,7 @@ module _ (s : Sheet) (g : Good s) (lent : List ℕ) (x : Job) (R : Reached s len
 
       go : (b : Bool) → b ≡ true →
           Outcome s x (with-steps (suc (x .steps)) (with-place r (one-finished (place-at x r)) (cond b (with-state here 5 x) x))) r here
-      go false c = absurd (clash c refl)
+      go false c = true-not-false c refl
       go true c =
           let m = stepped-moved y (used-kept s x (R .in-use-peak)) r true places-inside refl (length-set (x .entries) here (bare-entry 5)) refl refl in
           ends-wait w e (m .0)
@@ -81,14 +83,6 @@ module _ (s : Sheet) (g : Good s) (lent : List ℕ) (x : Job) (R : Reached s len
       posts w e (m .0) (m .1) (set-enters x y here 1 (next-fresh s x r (R .placed) n w) entries-inside (omega arith) (omega arith) refl) refl refl refl none-fits
 
   -- a send is pending, buffered or not
-  unmatched-buffered : is-send (op s here) ≡ true → is-buffered (op s here) ≡ true → unmatched-state (op s here) ≡ 2
-  unfolding unmatched-state
-  unmatched-buffered e b = ap (λ (c : Bool). cond c 5 (cond (is-buffered (op s here)) 2 1)) (send-no-wait (op s here) e) ∙ ap (λ (c : Bool). cond c 2 1) b
-
-  unmatched-unbuffered : is-send (op s here) ≡ true → is-buffered (op s here) ≡ false → unmatched-state (op s here) ≡ 1
-  unfolding unmatched-state
-  unmatched-unbuffered e b = ap (λ (c : Bool). cond c 5 (cond (is-buffered (op s here)) 2 1)) (send-no-wait (op s here) e) ∙ ap (λ (c : Bool). cond c 2 1) b
-
   outcome-pends : place-at x r .waiting ≡ false → is-send (op s here) ≡ true → is-buffered (op s here) ≡ false → first-receive s here (x .receives) ≡ none →
       Outcome s x (with-steps (suc (x .steps)) (initiated s r here (pend-message here 1 x))) r here
   unfolding initiated pend-message with-messages with-place with-places with-steps with-state with-entries job place-at
@@ -96,9 +90,9 @@ module _ (s : Sheet) (g : Good s) (lent : List ℕ) (x : Job) (R : Reached s len
       let y = with-steps (suc (x .steps)) (initiated s r here (pend-message here 1 x)) in
       let m = stepped-moved y (used-uncharged s x (R .in-use-peak) r here b) r (is-nonblocking (op s here)) places-inside refl (length-set (x .entries) here (bare-entry 1)) refl refl in
       pends w e (m .0) (m .1)
-      (subst (λ (v : ℕ). Enters x y here v) (sym (unmatched-unbuffered e b))
+      (subst (λ (v : ℕ). Enters x y here v) (sym (unmatched-send s here e ∙ ap (λ (c : Bool). cond c 2 1) b))
       (set-enters x y here 1 (next-fresh s x r (R .placed) n w) entries-inside (omega arith) (omega arith) refl))
-      refl refl refl none-fits (λ c. absurd (clash c b))
+      refl refl refl none-fits (λ c. true-not-false c b)
 
   outcome-buffers : place-at x r .waiting ≡ false → is-send (op s here) ≡ true → is-buffered (op s here) ≡ true → first-receive s here (x .receives) ≡ none →
       fits-buffer s r here x ≡ true →
@@ -108,7 +102,7 @@ module _ (s : Sheet) (g : Good s) (lent : List ℕ) (x : Job) (R : Reached s len
       let y = with-steps (suc (x .steps)) (initiated s r here (charge s r here (pend-message here 2 x))) in
       let m = stepped-moved y (used-charged s x (R .in-use-peak) r here places-inside b) r (is-nonblocking (op s here)) places-inside refl (length-set (x .entries) here (bare-entry 2)) refl refl in
       pends w e (m .0) (m .1)
-      (subst (λ (v : ℕ). Enters x y here v) (sym (unmatched-buffered e b))
+      (subst (λ (v : ℕ). Enters x y here v) (sym (unmatched-send s here e ∙ ap (λ (c : Bool). cond c 2 1) b))
       (set-enters x y here 2 (next-fresh s x r (R .placed) n w) entries-inside (omega arith) (omega arith) refl))
       refl refl refl none-fits (λ c. room)
 

@@ -14,7 +14,8 @@ use Rattle.promises.specs.Ground.{Ground}
 use Rattle.promises.specs.FromBytes.{good-from-bytes}
 use Rattle.promises.specs.Delivering.{ground}
 use Rattle.promises.specs.Start.{left-reached}
-use Rattle.promises.specs.Ends.{none-able-all, ends-like}
+use Rattle.promises.specs.Lowest.{next-none}
+use Rattle.promises.specs.Ends.{ends-like}
 use Rattle.promises.specs.Run.{run-ended}
 use Rattle.promises.specs.Likeness.{like-alike}
 use Rattle.promises.specs.Services.{follows-alike, run-alike}
@@ -41,7 +42,7 @@ module _ {bs i : List ℕ} (h : Given bs i) where
       let g = lent-good lent in
       let A = ground s g in
       like-alike g
-      (ends-like g A (h .calm-sheet) a b i (h .room) (none-able-all g (left-by s a i) full-a) (none-able-all g (left-by s b i) full-b)
+      (ends-like g A (h .calm-sheet) a b i (h .room) (next-none s g (left-by s a i) full-a) (next-none s g (left-by s b i) full-b)
       (left-reached g A (h .room) a) (left-reached g A (h .room) b))
 
 pub ends-alike : Ends-alike

@@ -1,7 +1,6 @@
 -- On a calm sheet every order stays behind every end: let no board of y be able; a board that is able in x, which is behind y,
 -- stands before its place in y, so that x stepped is behind y still. Two ends are therefore behind each other, and alike.
 -- Assumes nothing.
---   none-able-all     no board is able
 --   step-behind       one step; left-behind: a whole order
 --   ends-like         two ends
 use mathlib.Core.Path.{_≡_, refl, sym, ap, subst, _∙_}
@@ -20,9 +19,9 @@ use Rattle.rules.specs.Job.{Job, Stop, place-at, started, job}
 use Rattle.rules.specs.Step.{able, step, next-op, in-waiting-half, is-finished, is-none}
 use Rattle.rules.specs.Order.{lowest-able, next-rank, none-able}
 use Rattle.rules.specs.Claims.{calm, left-by}
+use Rattle.laws.specs.Tests.{not-so, true-not-false}
 use Rattle.promises.specs.Good.{Good}
 use Rattle.promises.specs.Ground.{Ground}
-use Rattle.promises.specs.Kinds.{clash, is-false}
 use Rattle.promises.specs.Sums.{sum-below, sum-same}
 use Rattle.promises.specs.Invariant.{reach, steps-done, steps-of, Placed, Reached}
 use Rattle.promises.specs.Keep.{Same-order}
@@ -34,23 +33,6 @@ use Rattle.promises.specs.After.{finishing, stand-on, moved-stand, moved
 use Rattle.promises.specs.Swap.{step-moved}
 use Rattle.promises.specs.Like.{Like}
 use Rattle.promises.specs.Calm.{calm-going, calm-order}
-
--- NONE ABLE
-lowest-none : (k r : ℕ) (s : Sheet) (x : Job) → is-none (lowest-able k r s x) ≡ true → (q : ℕ) → r ≤ q → q < r + k → able s x q ≡ false
-unfolding lowest-able is-none
-lowest-none zero r s x h q l m = absurd (omega arith)
-lowest-none (suc k) r s x h q l m = go (able s x r) refl (λ e. lowest-none k (suc r) s x e q) (ℕ-discrete q r) h
-  where
-    go : (b : Bool) → able s x r ≡ b → (is-none (lowest-able k (suc r) s x) ≡ true → suc r ≤ q → q < suc r + k → able s x q ≡ false) → Dec (q ≡ r) →
-        is-none (cond b (some r) (lowest-able k (suc r) s x)) ≡ true → able s x q ≡ false
-    go true e rest d h = absurd (clash h refl)
-    go false e rest (yes c) h = ap (λ (z : ℕ). able s x z) c ∙ e
-    go false e rest (no c) h = rest h (omega arith) (omega arith)
-
-pub none-able-all : {s : Sheet} → Good s → (x : Job) → none-able s x ≡ true → (q : ℕ) → able s x q ≡ false
-unfolding none-able next-rank
-none-able-all {s} g x h q =
-    is-false (able s x q) (λ e. clash e (lowest-none (P-of s) 0 s x h q (omega arith) (omega (arith, able-next s g x q e .rank-small))))
 
 start-stand : {s : Sheet} → Good s → (lent : List ℕ) (r : ℕ) → stand (started s lent) r ≡ 0
 unfolding stand
@@ -83,7 +65,7 @@ module _ {s : Sheet} (g : Good s) (A : Ground s) (c : calm s ≡ true) (i : List
     before = go (ℕ-discrete (stand x r) (stand y r))
       where
         go : Dec (stand x r ≡ stand y r) → stand x r < stand y r
-        go (yes e) = absurd (clash (still-able g X Y behind r e a going) (end r))
+        go (yes e) = true-not-false (still-able g X Y behind r e a going) (end r)
         go (no d) = omega (arith, C .places r (n .rank-small))
 
     moved : Moved x (step s r x) r (finishing s x r)
@@ -102,9 +84,9 @@ module _ {s : Sheet} (g : Good s) (A : Ground s) (c : calm s ≡ true) (i : List
         same = ap (λ (z : ℕ). board s r .first + z) e
 
         go : (a : Bool) → is-wait (op s k) ≡ a → (b : Bool) → is-nonblocking (op s k) ≡ b → a || b ≡ true → ⊥
-        go true p b q o = clash p (ap (λ (z : ℕ). is-wait (op s z)) (sym same) ∙ Y .placed .waiting-no-wait r (n .rank-small) v)
-        go false p true q o = clash q (ap (λ (z : ℕ). is-nonblocking (op s z)) (sym same) ∙ Y .placed .waiting-blocking r (n .rank-small) v)
-        go false p false q o = clash o refl
+        go true p b q o = true-not-false p (ap (λ (z : ℕ). is-wait (op s z)) (sym same) ∙ Y .placed .waiting-no-wait r (n .rank-small) v)
+        go false p true q o = true-not-false q (ap (λ (z : ℕ). is-nonblocking (op s z)) (sym same) ∙ Y .placed .waiting-blocking r (n .rank-small) v)
+        go false p false q o = true-not-false o refl
 
     stepped-before : stand (step s r x) r ≤ stand y r
     unfolding stand stand-on

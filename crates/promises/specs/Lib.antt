@@ -38,6 +38,8 @@ pub mod Sums
 pub mod Lists
 pub mod Invariant
 pub mod Kinds
+pub mod States
+pub mod Lowest
 pub mod Keep
 pub mod Changes
 pub mod Stable

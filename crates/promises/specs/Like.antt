@@ -17,9 +17,10 @@ use Rattle.rules.specs.Sheet.{Sheet, op, board, P-of, N-of, rank-of, inbox-tota
 use Rattle.rules.specs.Job.{Job, Stop, entry-at, place-at}
 use Rattle.rules.specs.Step.{able, step, next-op, in-waiting-half, is-none, first-by, first-receive, fits-with, fits-buffer, charge-of}
 use Rattle.rules.specs.Order.{Followed, followed, follow-from}
+use Rattle.laws.specs.Tests.{not-so, true-not-false}
 use Rattle.promises.specs.Good.{Good}
 use Rattle.promises.specs.Ground.{Ground}
-use Rattle.promises.specs.Kinds.{clash, is-true, is-false}
+use Rattle.promises.specs.Kinds.{is-true}
 use Rattle.promises.specs.Sums.{sum-below, sum-same}
 use Rattle.promises.specs.Lists.{Holds, first-by-none, first-by-some}
 use Rattle.promises.specs.Invariant.{Entered, state-at, charge-in, Posted-before, Pending-receive, Reached}
@@ -87,10 +88,10 @@ module _ {s : Sheet} (g : Good s) {i j : List ℕ} {x y : Job} {X : Reached s i 
       go false e false f = refl
       go true e false f =
           let n = able-next s g x r e in
-          absurd (clash (still-able g X Y like-behind r (K .places r (n .rank-small)) e (sym (K .stop) ∙ n .going)) f)
+          true-not-false (still-able g X Y like-behind r (K .places r (n .rank-small)) e (sym (K .stop) ∙ n .going)) f
       go false e true f =
           let n = able-next s g y r f in
-          absurd (clash (still-able g Y X like-ahead r (sym (K .places r (n .rank-small))) f (K .stop ∙ n .going)) e)
+          true-not-false (still-able g Y X like-ahead r (sym (K .places r (n .rank-small))) f (K .stop ∙ n .going)) e
 
   -- THE NEXT STEP of board r
   module _ (r : ℕ) (l : r < P-of s) where
@@ -109,9 +110,9 @@ module _ {s : Sheet} (g : Good s) {i j : List ℕ} {x y : Job} {X : Reached s i 
   same-found m =
       is-none-same (first-by f (x .receives)) (first-by f (y .receives))
       (none-found f (x .receives) (y .receives)
-      (λ v e c. clash (found-y v e .1) (first-by-none f (x .receives) c v (X .receives-held .whole v (pending-receive-same x (sym (state-same (like-rows v))) (found-y v e .0))))))
+      (λ v e c. true-not-false (found-y v e .1) (first-by-none f (x .receives) c v (X .receives-held .whole v (pending-receive-same x (sym (state-same (like-rows v))) (found-y v e .0))))))
       (none-found f (y .receives) (x .receives)
-      (λ v e c. clash (found-x v e .1) (first-by-none f (y .receives) c v (Y .receives-held .whole v (pending-receive-same y (state-same (like-rows v)) (found-x v e .0))))))
+      (λ v e c. true-not-false (found-x v e .1) (first-by-none f (y .receives) c v (Y .receives-held .whole v (pending-receive-same y (state-same (like-rows v)) (found-x v e .0))))))
     where
       f : ℕ → Bool
       f = λ r. fits-with s m r

@@ -12,8 +12,9 @@ use Rattle.rules.specs.Sheet.{Sheet, op, sheet-in, rank-of, is-send, is-receive
 use Rattle.rules.specs.Job.{Job, Entry, entry, entry-at}
 use Rattle.rules.specs.Step.{fits-with, is-cut}
 use Rattle.rules.specs.Claims.{left-by}
+use Rattle.laws.specs.Tests.{not-so}
 use Rattle.promises.specs.Statements.{Lent, None-fit, No-overtaking, No-overtaking-receives, Status, Statuses}
-use Rattle.promises.specs.Kinds.{is-false, send-no-receive}
+use Rattle.promises.specs.Kinds.{send-no-receive}
 use Rattle.promises.specs.Invariant.{Entered, state-at, partner-at, row-of, Met, Reached}
 use Rattle.promises.specs.Placing.{prefix}
 use Rattle.promises.specs.Shaping.{row-message, row-receive}
@@ -22,7 +23,7 @@ use Rattle.promises.specs.Kept.{lent-reached}
 pub none-fit : None-fit
 unfolding None-fit
 none-fit bs i rs m r h sends receives low high pending =
-    is-false (fits-with (sheet-in bs) m r)
+    not-so (fits-with (sheet-in bs) m r)
     (λ f.
     lent-reached h rs .stable .none-fit m r
     (record {

@@ -18,15 +18,15 @@ use borrow.Author.Tests.{ltb-true, leb-false, not-true, eq-eqb, ne-eqb}
 use Rattle.rules.specs.Sheet.{Sheet, op, board, P-of, N-of, rank-of, is-wait, is-nonblocking}
 use Rattle.rules.specs.Job.{Job, Place, Stop, place, place-at}
 use Rattle.rules.specs.Step.{able, next-op, is-finished, in-waiting-half, half-complete, is-none, one-finished, now-waiting}
+use Rattle.laws.specs.Tests.{and-left, and-right, or-cases, true-not-false}
 use Rattle.promises.specs.Good.{Good}
-use Rattle.promises.specs.Kinds.{clash, and-left, and-right, or-split}
 use Rattle.promises.specs.Invariant.{Entered, state-at, Placed, reach}
 
 -- NEXT: what able says
 pub none-is : {A : Type 0} (o : Option A) → is-none o ≡ true → o ≡ none
 unfolding is-none
 none-is none e = refl
-none-is (some a) e = absurd (clash e refl)
+none-is (some a) e = true-not-false e refl
 
 pub record Next (s : Sheet) (x : Job) (r : ℕ) : Type 0 where
   pub going : x .stop ≡ none
@@ -45,7 +45,7 @@ able-next s g x r a =
       unfinished = left;
       inside = omega (arith, left, g .script-inside r small);
       ranked = g .script-ranked r (board s r .first + place-at x r .finished) small (omega arith) (omega (arith, left));
-      complete = λ w. half w (or-split (not (in-waiting-half s x r)) (half-complete s x (board s r .first + place-at x r .finished)) (and-right (going && small-unfinished) last-part a));
+      complete = λ w. half w (or-cases (not (in-waiting-half s x r)) (half-complete s x (board s r .first + place-at x r .finished)) (and-right (going && small-unfinished) last-part a));
     }
   where
     going : Bool
@@ -71,7 +71,7 @@ able-next s g x r a =
 
     half : in-waiting-half s x r ≡ true → (not (in-waiting-half s x r) ≡ true) ⊎ (half-complete s x (board s r .first + place-at x r .finished) ≡ true) →
         half-complete s x (board s r .first + place-at x r .finished) ≡ true
-    half w (inl e) = absurd (clash w (not-true (in-waiting-half s x r) e))
+    half w (inl e) = true-not-false w (not-true (in-waiting-half s x r) e)
     half w (inr e) = e
 
 -- an operation whose board has not reached it is not entered

@@ -15,9 +15,9 @@ use Rattle.rules.specs.Job.{Job, started}
 use Rattle.rules.specs.Step.{able, step, is-none}
 use Rattle.rules.specs.Order.{Followed, followed, follow-from, follow}
 use Rattle.rules.specs.Claims.{accepts, left-by}
+use Rattle.laws.specs.Tests.{true-not-false}
 use Rattle.promises.specs.Good.{Good}
 use Rattle.promises.specs.Ground.{Ground}
-use Rattle.promises.specs.Kinds.{clash}
 use Rattle.promises.specs.Invariant.{Reached}
 use Rattle.promises.specs.Sound.{Extended, step-sound}
 use Rattle.promises.specs.Like.{Like, like-able, like-step}
@@ -45,8 +45,8 @@ like-follow {s} g A {i} {j} room-x room-y k (r ∷ rs) {x} {y} {X} {Y} K =
         (able s x r ≡ true → able s y r ≡ true → Left-like s i j (follow-from (suc k) s rs (step s r x)) (follow-from (suc k) s rs (step s r y))) →
         Left-like s i j (cond a (follow-from (suc k) s rs (step s r x)) (followed (some k) x)) (cond b (follow-from (suc k) s rs (step s r y)) (followed (some k) y))
     go true e true f rest = rest e f
-    go true e false f rest = absurd (clash (sym (like-able g K r) ∙ e) f)
-    go false e true f rest = absurd (clash (like-able g K r ∙ f) e)
+    go true e false f rest = true-not-false (sym (like-able g K r) ∙ e) f
+    go false e true f rest = true-not-false (like-able g K r ∙ f) e
     go false e false f rest =
         record {
           refused = refl;
@@ -70,7 +70,7 @@ follow-from-join s k (r ∷ rs) b x e = go (able s x r) (λ h. follow-from-join 
         ≡ follow-from (k + suc (length rs)) s b (cond c (follow-from (suc k) s rs (step s r x)) (followed (some k) x) .left)
     go true rest h =
         rest h ∙ ap (λ (n : ℕ). follow-from n s b (follow-from (suc k) s rs (step s r x) .left)) (omega arith)
-    go false rest h = absurd (clash h refl)
+    go false rest h = true-not-false h refl
 
 pub follow-join : (s : Sheet) (a b lent : List ℕ) → accepts s a lent ≡ true → follow s (a ++ b) lent ≡ follow-from (length a) s b (left-by s a lent)
 unfolding follow accepts left-by

@@ -17,8 +17,9 @@ use Rattle.rules.specs.Limits.{absent}
 use Rattle.rules.specs.Sheet.{Sheet, op, board, P-of, N-of, rank-of, is-send, is-receive, is-wait, is-ready, is-buffered, is-nonblocking}
 use Rattle.rules.specs.Job.{Job, Entry, Place, Stop, job, entry, bare-entry, place, entry-at, place-at, with-entries, with-places, with-messages, with-receives, with-memory, with-stop, with-steps}
 use Rattle.rules.specs.Step.{able, step, next-op, in-waiting-half, half-complete, one-finished, now-waiting, first-by, first-message, first-receive, fits-with, is-cut, without, delivered, charge-of, charged, released, with-place, charge, release, matched-rows, matched, with-state, pend-message, pend-receive, stopped, initiated, fits-buffer, unmatched, sent, received, initiating, ended}
+use Rattle.laws.specs.Tests.{or-false-left, or-false-right, true-not-false}
 use Rattle.promises.specs.Good.{Good}
-use Rattle.promises.specs.Kinds.{clash, kind-send, send-no-wait, receive-no-wait, or-left-none, or-right-none, receive-no-buffered}
+use Rattle.promises.specs.Kinds.{kind-send, send-no-wait, receive-no-wait, receive-no-buffered}
 use Rattle.promises.specs.Lists.{In, Holds, Found, first-by-none, first-by-some}
 use Rattle.promises.specs.Invariant.{Entered, state-at, partner-at, unmatched-state, Pending-message, Pending-receive, Placed, Posted-before, Came-before, Reached}
 use Rattle.promises.specs.Changes.{Enters, Matches, state-same, state-name}
@@ -215,7 +216,7 @@ module _ (s : Sheet) (x : Job) (small : (q : ℕ) → place-at x q .in-use ≤ p
       uses : (b c : Bool) → c ≡ true → (q : ℕ) → cond b (charged (charge-of (op s i)) (place-at x q)) (place-at x q) .in-use
           ≡ cond (b && c) (place-at x q .in-use + charge-of (op s i)) (place-at x q .in-use)
       uses true true h q = charged-use (charge-of (op s i)) (place-at x q)
-      uses true false h q = absurd (clash h refl)
+      uses true false h q = true-not-false h refl
       uses false c h q = refl
 
   pub used-uncharged : (r i : ℕ) → is-buffered (op s i) ≡ false → Used x (x .places) (use-charged s r i)
@@ -230,7 +231,7 @@ module _ (s : Sheet) (x : Job) (small : (q : ℕ) → place-at x q .in-use ≤ p
       }
     where
       same : (b c : Bool) → c ≡ false → (n k : ℕ) → n ≡ cond (b && c) k n
-      same true true h n k = absurd (clash refl h)
+      same true true h n k = true-not-false refl h
       same true false h n k = refl
       same false c h n k = refl
 

@@ -20,13 +20,14 @@ use Rattle.rules.specs.Sheet.{Sheet, op, N-of, rank-of, inbox-total, is-send, i
 use Rattle.rules.specs.Refusal.{share}
 use Rattle.rules.specs.Job.{Job, Entry, entry-at, place-at}
 use Rattle.rules.specs.Step.{next-op, delivered, half-complete, complete, complete-if, waited}
+use Rattle.laws.specs.Tests.{and-left, and-right, true-not-false}
 use Rattle.promises.specs.Good.{Good}
 use Rattle.promises.specs.Ground.{Ground, Pair, Apart}
-use Rattle.promises.specs.Kinds.{clash, and-left, and-right, receive-no-wait, send-no-receive, is-true, wait-blocking}
+use Rattle.promises.specs.Kinds.{receive-no-wait, send-no-receive, is-true, wait-blocking}
 use Rattle.promises.specs.Invariant.{Entered, state-at, partner-at, paint, painted, reach, Placed, Shaped, Stable, Met}
 use Rattle.promises.specs.Changes.{Enters, Matches, state-same, partner-same, state-name, enters-state, matches-met, matches-receive-state, matches-message-state}
 use Rattle.promises.specs.Placing.{prefix}
-use Rattle.promises.specs.Charging.{unmatched-receive}
+use Rattle.promises.specs.States.{unmatched-receive}
 
 -- ONE OPERATION
 -- it paints nothing, or it is a matched receive and paints its message
@@ -59,7 +60,7 @@ paints s x j = go (is-receive (op s j)) refl (ℕ-discrete (state-at x j) 3)
     go : (b : Bool) → is-receive (op s j) ≡ b → Dec (state-at x j ≡ 3) → Paints s x j ⊎ (is-receive (op s j) ≡ true → state-at x j ≡ 3 → ⊥)
     go true e (yes f) = inl (e, f)
     go true e (no d) = inr (λ a b. d b)
-    go false e t = inr (λ a b. clash a e)
+    go false e t = inr (λ a b. true-not-false a e)
 
 -- ALL
 pub painted-same : (s : Sheet) (x y : Job) (n : ℕ) (bs : List ℕ) → ((j : ℕ) (cs : List ℕ) → j < n → paint s y j cs ≡ paint s x j cs) →
@@ -169,7 +170,7 @@ module _ {s : Sheet} (g : Good s) (A : Ground s) {came : ℕ → ℕ} {x : Job} 
     matches-paint j bs d = go (ℕ-discrete j m)
       where
         no-receive : j ≡ m → is-receive (op s j) ≡ true → ⊥
-        no-receive e a = clash (ap (λ (z : ℕ). is-receive (op s z)) (sym e) ∙ a) (send-no-receive (op s m) (M .sends))
+        no-receive e a = true-not-false (ap (λ (z : ℕ). is-receive (op s z)) (sym e) ∙ a) (send-no-receive (op s m) (M .sends))
 
         go : Dec (j ≡ m) → paint s y j bs ≡ paint s x j bs
         go (yes e) = paint-none s y j bs (λ a b. no-receive e a) ∙ sym (paint-none s x j bs (λ a b. no-receive e a))

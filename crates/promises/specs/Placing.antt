@@ -16,8 +16,8 @@ use borrow.Author.Tests.{leb-true, le-leb, lt-ltb, le-ltb, not-true, ltb-true, l
 use Rattle.rules.specs.Sheet.{Sheet, Op, op, board, P-of, N-of, rank-of, is-wait, is-nonblocking}
 use Rattle.rules.specs.Job.{Job, place-at}
 use Rattle.rules.specs.Step.{next-op, in-waiting-half, half-complete, complete, complete-if, waited}
+use Rattle.laws.specs.Tests.{true-not-false}
 use Rattle.promises.specs.Good.{Good}
-use Rattle.promises.specs.Kinds.{clash}
 use Rattle.promises.specs.Invariant.{Entered, state-at, Placed, reach, steps-of}
 use Rattle.promises.specs.Moves.{Next, Moved, moved-finished, moved-waiting, moved-finished-other, moved-waiting-other}
 
@@ -136,11 +136,11 @@ module _ {s : Sheet} {x y : Job} {r : ℕ} {last : Bool} (g : Good s) (p : Place
       not-last q e w = go last (moved-waiting (T .moved))
         where
           go : (b : Bool) → place-at y r .waiting ≡ not b → b ≡ false
-          go true h = absurd (clash (ap (λ (z : ℕ). place-at y z .waiting) (sym e) ∙ w) h)
+          go true h = true-not-false (ap (λ (z : ℕ). place-at y z .waiting) (sym e) ∙ w) h
           go false h = refl
 
       stays : (b : Bool) → b ≡ false → next-op s y r ≡ cond b (suc here) here → next-op s y r ≡ here
-      stays true e h = absurd (clash refl e)
+      stays true e h = true-not-false refl e
       stays false e h = h
 
       most : (q : ℕ) → q < P-of s → Dec (q ≡ r) → place-at y q .finished ≤ board s q .count
@@ -156,7 +156,7 @@ module _ {s : Sheet} {x y : Job} {r : ℕ} {last : Bool} (g : Good s) (p : Place
       unfinished q l w (yes e) = subst (λ (z : ℕ). place-at y z .finished < board s z .count) (sym e) (go last (not-last q e w) (moved-finished (T .moved)))
         where
           go : (b : Bool) → b ≡ false → place-at y r .finished ≡ cond b (suc (place-at x r .finished)) (place-at x r .finished) → place-at y r .finished < board s r .count
-          go true c h = absurd (clash refl c)
+          go true c h = true-not-false refl c
           go false c h = omega (arith, n .unfinished)
 
       blocking : (q : ℕ) → q < P-of s → place-at y q .waiting ≡ true → Dec (q ≡ r) → is-nonblocking (op s (next-op s y q)) ≡ false

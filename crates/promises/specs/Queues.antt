@@ -12,7 +12,8 @@ use native.Mathlib.Decide.{ℕ-discrete, decLt}
 use Rattle.rules.specs.Sheet.{Sheet, op, rank-of, is-send, is-receive}
 use Rattle.rules.specs.Job.{Job}
 use Rattle.rules.specs.Step.{without}
-use Rattle.promises.specs.Kinds.{send-receive-differ, clash}
+use Rattle.laws.specs.Tests.{true-not-false}
+use Rattle.promises.specs.Kinds.{send-receive-differ}
 use Rattle.promises.specs.Lists.{Holds, holds-more, holds-less, holds-same}
 use Rattle.promises.specs.Invariant.{Entered, state-at, Pending-message, Pending-receive, Placed, Posted-before, Came-before}
 use Rattle.promises.specs.Changes.{Grows, Enters, Matches, state-same, state-name, enters-state, enters-grows, enters-differ, matches-grows, matches-message-state, matches-receive-state, grows-message, grows-receive}
@@ -79,7 +80,7 @@ module _ {s : Sheet} {x y : Job} {i v : ℕ} (E : Enters x y i v) where
     where
       only : (k : ℕ) → Pending-message s y k → Pending-message s x k ⊎ (k ≡ i) → Pending-message s x k
       only k p (inl h) = h
-      only k p (inr c) = absurd (clash (ap (λ (z : ℕ). is-send (op s z)) (sym c) ∙ p .sends) e)
+      only k p (inr c) = true-not-false (ap (λ (z : ℕ). is-send (op s z)) (sym c) ∙ p .sends) e
 
   pub queue-receive : {l : List ℕ} → Placed s x → is-receive (op s i) ≡ true →
       Holds (Posted-before s) (Pending-receive s x) l → Holds (Posted-before s) (Pending-receive s y) (l ++ (i ∷ []))
@@ -104,7 +105,7 @@ module _ {s : Sheet} {x y : Job} {i v : ℕ} (E : Enters x y i v) where
     where
       only : (q : ℕ) → Pending-receive s y q → Pending-receive s x q ⊎ (q ≡ i) → Pending-receive s x q
       only q o (inl h) = h
-      only q o (inr c) = absurd (clash (ap (λ (z : ℕ). is-receive (op s z)) (sym c) ∙ o .receives) e)
+      only q o (inr c) = true-not-false (ap (λ (z : ℕ). is-receive (op s z)) (sym c) ∙ o .receives) e
 
 -- MATCHED
 module _ {s : Sheet} {x y : Job} {m r i : ℕ} (M : Matches s x y m r i) where

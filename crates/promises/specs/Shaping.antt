@@ -13,7 +13,8 @@ use Rattle.rules.specs.Limits.{absent}
 use Rattle.rules.specs.Sheet.{Sheet, Op, op, rank-of, is-receive, is-wait, is-buffered}
 use Rattle.rules.specs.Job.{Job, Entry, entry, bare-entry, entry-at}
 use Rattle.rules.specs.Step.{is-cut}
-use Rattle.promises.specs.Kinds.{clash, send-no-receive, send-no-wait, receive-no-wait}
+use Rattle.laws.specs.Tests.{true-not-false}
+use Rattle.promises.specs.Kinds.{send-no-receive, send-no-wait, receive-no-wait}
 use Rattle.promises.specs.Invariant.{Entered, state-at, partner-at, row-of, unmatched-state, Shaped}
 use Rattle.promises.specs.Changes.{Enters, Matches, state-same, partner-same, state-name, enters-state, matches-message-state, matches-receive-state, matches-met}
 
@@ -107,6 +108,6 @@ shaped-matches {s} {x} {y} {m} {r} {i} h M =
         same ∙ h .unmatched j (omega (arith, same)) (λ k. d (same ∙ k))
 
     waits : (j : ℕ) → is-wait (op s j) ≡ true → state-at y j ≡ 3 → Dec (j ≡ m) → Dec (j ≡ r) → ⊥
-    waits j w c (yes e) _ = clash (ap (λ (z : ℕ). is-wait (op s z)) (sym e) ∙ w) (send-no-wait (op s m) (M .sends))
-    waits j w c (no d) (yes e) = clash (ap (λ (z : ℕ). is-wait (op s z)) (sym e) ∙ w) (receive-no-wait (op s r) (M .receives))
+    waits j w c (yes e) _ = true-not-false (ap (λ (z : ℕ). is-wait (op s z)) (sym e) ∙ w) (send-no-wait (op s m) (M .sends))
+    waits j w c (no d) (yes e) = true-not-false (ap (λ (z : ℕ). is-wait (op s z)) (sym e) ∙ w) (receive-no-wait (op s r) (M .receives))
     waits j w c (no d) (no a) = h .wait-unmatched j w (sym (state-same (M .other j d a)) ∙ c)

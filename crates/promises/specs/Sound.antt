@@ -15,9 +15,10 @@ use borrow.Author.Tests.{eqb-true, leb-true}
 use Rattle.rules.specs.Sheet.{Sheet, op, board, P-of, N-of, rank-of, inbox-total, is-send, is-receive, is-wait, is-buffered, is-nonblocking}
 use Rattle.rules.specs.Job.{Job, Stop, job, place-at, entry-at, with-stop, with-steps}
 use Rattle.rules.specs.Step.{able, step, next-op, half-complete, complete, complete-if, first-message, first-receive, fits-with, delivered, without, stopped, is-none, fits-buffer, charge-of}
+use Rattle.laws.specs.Tests.{not-so, true-not-false}
 use Rattle.promises.specs.Good.{Good}
 use Rattle.promises.specs.Ground.{Ground}
-use Rattle.promises.specs.Kinds.{clash, send-no-wait, receive-no-wait, receive-no-send, send-no-receive, fit-one-board, wait-kind, send-kind, receive-kind, is-false}
+use Rattle.promises.specs.Kinds.{send-no-wait, receive-no-wait, receive-no-send, send-no-receive, fit-one-board, wait-kind, send-kind, receive-kind}
 use Rattle.promises.specs.Sums.{sum-below, sum-same}
 use Rattle.promises.specs.Lists.{In, Holds, Found, first-by-none, first-by-some}
 use Rattle.promises.specs.Invariant.{Entered, state-at, partner-at, unmatched-state, steps-done, charge-in, painted, paint, reach, Pending-message, Pending-receive, Met, Stable, Arrived, Placed, Shaped, Stopped, Posted-before, Came-before, Reached}
@@ -31,7 +32,8 @@ use Rattle.promises.specs.Counting.{steps-step}
 use Rattle.promises.specs.Arrivals.{came-with, came-same, came-other, arrives-later, arrived-step}
 use Rattle.promises.specs.Shaping.{shaped-same, shaped-enters, shaped-matches}
 use Rattle.promises.specs.Queues.{queue-message, queue-message-other, queue-receive, queue-receive-other, queue-message-match, queue-receive-match}
-use Rattle.promises.specs.Charging.{charge-same, charging-other, charging-enters, charging-matches, unmatched-receive, unmatched-wait}
+use Rattle.promises.specs.Charging.{charge-same, charging-other, charging-enters, charging-matches}
+use Rattle.promises.specs.States.{unmatched-receive, unmatched-wait}
 use Rattle.promises.specs.Painting.{painted-length, painted-rows, painted-enters, painted-matches}
 use Rattle.promises.specs.Same.{Same-rows, rows-same, stable-same, arrived-same, messages-same, receives-same}
 use Rattle.promises.specs.Earliest.{first-for-receive, first-for-message}
@@ -151,24 +153,24 @@ module _ {s : Sheet} (g : Good s) (A : Ground s) {lent : List ℕ} (room : inbox
 
     sound-wait : place-at x r .waiting ≡ false → is-wait (op s i) ≡ true → Moved x y r true → Quiet x y → Use x y use-kept → Enters x y i 5 → Extended R y i
     sound-wait w e m k uses E =
-        sound-enters (turn-wait n m (enters-grows E) w e) E (sym (unmatched-wait s i e)) (λ a. absurd (clash a no-send)) (λ a. absurd (clash a no-receive))
+        sound-enters (turn-wait n m (enters-grows E) w e) E (sym (unmatched-wait s i e)) (λ a. true-not-false a no-send) (λ a. true-not-false a no-receive)
         (messages-are (k .messages) (queue-message-other E (later E) no-send (R .messages-held)))
         (receives-are (k .receives) (queue-receive-other E no-receive (R .receives-held))) (uses-other E (omega arith) uses) (covered-less y (λ q. omega (arith, uses q)))
         (k .memory)
       where
         no-send : is-send (op s i) ≡ false
-        no-send = is-false (is-send (op s i)) (λ a. clash e (send-no-wait (op s i) a))
+        no-send = not-so (is-send (op s i)) (λ a. true-not-false e (send-no-wait (op s i) a))
 
         no-receive : is-receive (op s i) ≡ false
-        no-receive = is-false (is-receive (op s i)) (λ a. clash e (receive-no-wait (op s i) a))
+        no-receive = not-so (is-receive (op s i)) (λ a. true-not-false e (receive-no-wait (op s i) a))
 
     sound-posts : place-at x r .waiting ≡ false → is-receive (op s i) ≡ true → Moved x y r (is-nonblocking (op s i)) → Use x y use-kept → Enters x y i 1 →
         y .messages ≡ x .messages → y .receives ≡ x .receives ++ (i ∷ []) → y .memory ≡ x .memory → first-message s i (x .messages) ≡ none → Extended R y i
     unfolding first-message
     sound-posts w e m uses E messages receives memory none-fits =
         sound-enters (turn-initiating n m (enters-grows E) w (receive-no-wait (op s i) e)) E (sym (unmatched-receive s i e))
-        (λ a. absurd (clash a (receive-no-send (op s i) e)))
-        (λ a k p f. clash f (first-by-none (λ k. fits-with s k i) (x .messages) none-fits k (R .messages-held .whole k p)))
+        (λ a. true-not-false a (receive-no-send (op s i) e))
+        (λ a k p f. true-not-false f (first-by-none (λ k. fits-with s k i) (x .messages) none-fits k (R .messages-held .whole k p)))
         (messages-are messages (queue-message-other E (later E) (receive-no-send (op s i) e) (R .messages-held)))
         (receives-are receives (queue-receive E (R .placed) e (R .receives-held))) (uses-other E (omega arith) uses)
         (covered-less y (λ q. omega (arith, uses q))) memory
@@ -179,8 +181,8 @@ module _ {s : Sheet} (g : Good s) (A : Ground s) {lent : List ℕ} (room : inbox
     unfolding first-receive use-charged fits-buffer
     sound-pends w e m uses E messages receives memory none-fits fits =
         sound-enters (turn-initiating n m (enters-grows E) w (send-no-wait (op s i) e)) E refl
-        (λ a q p f. clash f (first-by-none (λ q. fits-with s i q) (x .receives) none-fits q (R .receives-held .whole q p)))
-        (λ a. absurd (clash a (send-no-receive (op s i) e)))
+        (λ a q p f. true-not-false f (first-by-none (λ q. fits-with s i q) (x .receives) none-fits q (R .receives-held .whole q p)))
+        (λ a. true-not-false a (send-no-receive (op s i) e))
         (messages-are messages (queue-message E (later E) e (R .messages-held)))
         (receives-are receives (queue-receive-other E (send-no-receive (op s i) e) (R .receives-held)))
         (λ q l. uses q ∙ charging-enters s r q (place-at x q .in-use) E (n .inside) (n .ranked) e (R .in-use-sum q l))

@@ -16,9 +16,9 @@ use Rattle.rules.specs.Job.{Job, Entry, Place, Stop, job, started, entry, bare-
 use Rattle.rules.specs.Step.{able, step, next-op, is-none}
 use Rattle.rules.specs.Order.{Followed, followed, follow-from, follow}
 use Rattle.rules.specs.Claims.{left-by}
+use Rattle.laws.specs.Tests.{true-not-false}
 use Rattle.promises.specs.Good.{Good}
 use Rattle.promises.specs.Ground.{Ground}
-use Rattle.promises.specs.Kinds.{clash}
 use Rattle.promises.specs.Sums.{sum-below, sum-zero}
 use Rattle.promises.specs.Lists.{Holds, In}
 use Rattle.promises.specs.Invariant.{Entered, state-at, partner-at, reach, steps-done, steps-of, charge-in, paint, painted, row-of, Pending-message, Pending-receive, Stable, Arrived, Placed, Shaped, Came-before, Posted-before, Reached}
@@ -107,9 +107,9 @@ module _ {s : Sheet} (g : Good s) (lent : List ℕ) where
               entries-long = length-replicate (N-of s) (bare-entry 0);
               places-long = length-replicate (P-of s) (place 0 false 0 0);
               finished-most = λ r l. omega (arith, start-finished r);
-              waiting-unfinished = λ r l w. absurd (clash w (start-waiting r));
-              waiting-blocking = λ r l w. absurd (clash w (start-waiting r));
-              waiting-no-wait = λ r l w. absurd (clash w (start-waiting r));
+              waiting-unfinished = λ r l w. true-not-false w (start-waiting r);
+              waiting-blocking = λ r l w. true-not-false w (start-waiting r);
+              waiting-no-wait = λ r l w. true-not-false w (start-waiting r);
               entered-if = λ j l h. absurd (omega (arith, start-reach (rank-of s j), g .rank-low j l));
               entered-only = λ j h. none-entered j h;
               passed-complete = λ j l h. absurd (omega (arith, start-next (rank-of s j), g .rank-low j l));

@@ -18,10 +18,11 @@ use Rattle.rules.specs.Sheet.{Sheet, op, P-of, N-of, rank-of, inbox-total, is-s
 use Rattle.rules.specs.Job.{Job, Stop, place-at}
 use Rattle.rules.specs.Step.{able, step, next-op, in-waiting-half, fits-with}
 use Rattle.rules.specs.Claims.{is-any-source}
+use Rattle.laws.specs.Tests.{and-both, not-so, true-not-false}
 use Rattle.promises.specs.Statements.{Harmless}
 use Rattle.promises.specs.Good.{Good}
 use Rattle.promises.specs.Ground.{Ground}
-use Rattle.promises.specs.Kinds.{clash, and-both, is-false, send-no-wait, fit-source}
+use Rattle.promises.specs.Kinds.{send-no-wait, fit-source}
 use Rattle.promises.specs.Invariant.{Entered, state-at, reach, Placed, Reached}
 use Rattle.promises.specs.Keep.{Same-order}
 use Rattle.promises.specs.Moves.{Next, Moved, able-next}

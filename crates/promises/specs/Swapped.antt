@@ -13,10 +13,10 @@ use Rattle.rules.specs.Job.{Job}
 use Rattle.rules.specs.Step.{able, step}
 use Rattle.rules.specs.Order.{Followed, follow, follow-from}
 use Rattle.rules.specs.Claims.{accepts, left-by, calm, Alike, Given}
+use Rattle.laws.specs.Tests.{true-not-false}
 use Rattle.promises.specs.Statements.{Lent, Harmless, Swap-general, Swap-same, Follow-swaps}
 use Rattle.promises.specs.Good.{Good}
 use Rattle.promises.specs.Ground.{Ground}
-use Rattle.promises.specs.Kinds.{clash}
 use Rattle.promises.specs.Invariant.{Reached}
 use Rattle.promises.specs.Sound.{Extended}
 use Rattle.promises.specs.Delivering.{ground}
@@ -81,7 +81,7 @@ module _ {bs i : List ℕ} (h : Lent bs i) (before : List ℕ) (p q : ℕ) (d : 
       record {
         goes-on = calm-on c p q d a b;
         goes-on-swapped = calm-on c q p (λ e. d (sym e)) b a;
-        no-race = λ r half other sends receives wild fits too. clash wild (calm-tame-all s c r);
+        no-race = λ r half other sends receives wild fits too. true-not-false wild (calm-tame-all s c r);
       }
 
 pub swap-general : Swap-general

@@ -8,7 +8,7 @@ use native.Mathlib.Omega.{arith}
 use Rattle.rules.specs.Sheet.{Sheet, op, is-wait, is-nonblocking}
 use Rattle.rules.specs.Job.{Job, place-at, entry-at}
 use Rattle.rules.specs.Step.{next-op, in-waiting-half}
-use Rattle.promises.specs.Kinds.{clash}
+use Rattle.laws.specs.Tests.{true-not-false}
 use Rattle.promises.specs.Invariant.{Entered, state-at, steps-of, reach, Placed}
 use Rattle.promises.specs.Changes.{Grows, state-same}
 use Rattle.promises.specs.Moves.{Next, Moved}
@@ -33,7 +33,7 @@ steps-one s i (inr e) = go (is-nonblocking (op s i)) (is-wait (op s i)) e
     go : (a b : Bool) → b ≡ true → _≡_ {A = ℕ} (cond (a || b) 1 2) 1
     go true b e = refl
     go false true e = refl
-    go false false e = absurd (clash e refl)
+    go false false e = true-not-false e refl
 
 steps-two : (s : Sheet) (i : ℕ) → is-nonblocking (op s i) ≡ false → is-wait (op s i) ≡ false → steps-of (op s i) ≡ 2
 unfolding steps-of
@@ -48,7 +48,7 @@ turn-initiating {s} {x} {y} {r} n m G w e =
       moved = m;
       advances = advances-grows G;
       goes-waiting = λ b. (b, e, w);
-      finishes = λ a b. absurd (clash a b);
+      finishes = λ a b. true-not-false a b;
       steps-left = λ a. ap (λ (b : Bool). cond b 1 0 + 1) w ∙ sym (steps-one s (next-op s x r) (inl a));
     }
 
@@ -61,7 +61,7 @@ turn-wait {s} {x} {y} {r} n m G w e =
       next = n;
       moved = m;
       advances = advances-grows G;
-      goes-waiting = λ b. absurd (clash refl b);
+      goes-waiting = λ b. true-not-false refl b;
       finishes = λ a b. n .complete (ap (λ (c : Bool). c || is-wait (op s (next-op s x r))) w ∙ e);
       steps-left = λ a. ap (λ (b : Bool). cond b 1 0 + 1) w ∙ sym (steps-one s (next-op s x r) (inr e));
     }
@@ -81,7 +81,7 @@ turn-half {s} {x} {y} {r} p n m same w =
             back = λ j d h. omega (arith, state-same (same j));
             complete-on = λ j h. omega (arith, state-same (same j));
           };
-      goes-waiting = λ b. absurd (clash refl b);
+      goes-waiting = λ b. true-not-false refl b;
       finishes = λ a b. n .complete (ap (λ (c : Bool). c || is-wait (op s (next-op s x r))) w);
       steps-left = λ a.
           ap (λ (b : Bool). cond b 1 0 + 1) w
