@@ -6,18 +6,15 @@ use mathlib.Core.Logic.{_⊎_, inl, inr, _≢_}
 use mathlib.Core.Bool.{Bool, true, false, _||_, not, cond}
 use mathlib.Core.List.{List}
 use mathlib.Core.Option.{Option, none, some}
-use Prim.Native.Nat.{ℕ, zero, suc, _+_, _*_, _≤_, _<_}
+use Prim.Native.Nat.{ℕ, suc, _+_, _*_, _<_}
 use lib.ListN.{getD}
 use native.Mathlib.Omega.{arith}
-use native.Mathlib.Decide.{ℕ-discrete}
 use Rattle.rules.specs.Sheet.{Sheet, op, board, is-receive, is-wait, is-ready, is-buffered, is-nonblocking}
-use Rattle.rules.specs.Job.{Job, Stop, Place, place, job, place-at, with-entries, with-places, with-messages, with-receives, with-memory, with-stop, with-steps}
+use Rattle.rules.specs.Job.{Job, Stop, Place, place, job, place-at, with-entries, with-places, with-messages, with-receives, with-stop, with-steps}
 use Rattle.rules.specs.Step.{able, step, next-op, in-waiting-half, is-none, first-message, first-receive, matched, with-place, with-state, charge, pend-message, pend-receive, stopped, initiated, fits-buffer, unmatched, sent, received, initiating, ended}
-use Rattle.laws.specs.Tests.{true-not-false}
 use Rattle.promises.specs.Good.{Good}
 use Rattle.promises.specs.Kinds.{send-no-wait, receive-no-wait}
 use Rattle.promises.specs.Invariant.{Reached}
-use Rattle.promises.specs.Changes.{Matches}
 use Rattle.promises.specs.Moves.{Next, Moved, able-next, moved-finished, moved-waiting, moved-finished-other, moved-waiting-other}
 use Rattle.promises.specs.Outcome.{Outcome, ends-half, ends-wait, posts, pends, meets, stops, matched-is}
 use Rattle.promises.specs.Effects.{outcome}

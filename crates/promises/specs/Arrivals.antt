@@ -1,15 +1,15 @@
 -- The order of arrival after a step: the operation that enters is last. Assumes nothing.
-use mathlib.Core.Path.{_≡_, refl, sym, ap, subst, _∙_}
+use mathlib.Core.Path.{_≡_, refl, sym, ap, _∙_}
 use mathlib.Core.Logic.{_≢_}
-use mathlib.Core.Bool.{Bool, true, false, cond}
-use Prim.Native.Nat.{ℕ, suc, _≤_, _<_}
+use mathlib.Core.Bool.{Bool, true, cond}
+use Prim.Native.Nat.{ℕ, suc, _<_}
 use native.Mathlib.Omega.{arith}
 use native.Mathlib.Decide.{ℕ-discrete}
 use lib.Dec.{eqb}
 use borrow.Author.Tests.{eq-eqb, ne-eqb}
 use Rattle.rules.specs.Sheet.{Sheet, op, rank-of, is-send}
 use Rattle.rules.specs.Job.{Job}
-use Rattle.promises.specs.Invariant.{Entered, state-at, Arrived, Placed}
+use Rattle.promises.specs.Invariant.{Entered, Arrived, Placed}
 use Rattle.promises.specs.Changes.{Grows, state-name}
 use Rattle.promises.specs.Stable.{Later}
 use Rattle.promises.specs.Placing.{prefix}

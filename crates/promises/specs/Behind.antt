@@ -6,27 +6,25 @@
 --   Behind           x is behind y
 --   behind-met, behind-complete, still-able
 --   level-rows       behind both ways: the same rows
-use mathlib.Core.Path.{_≡_, refl, sym, ap, subst, _∙_}
-use mathlib.Core.Logic.{_⊎_, inl, inr, _≢_}
+use mathlib.Core.Path.{_≡_, refl, sym, ap, _∙_}
+use mathlib.Core.Logic.{_≢_}
 use mathlib.Core.Bool.{Bool, true, false, _&&_, _||_, not, cond}
 use mathlib.Core.List.{List}
-use mathlib.Core.Option.{Option, none, some}
-use Prim.Native.Nat.{ℕ, zero, suc, _+_, _*_, _≤_, _<_}
+use mathlib.Core.Option.{none}
+use Prim.Native.Nat.{ℕ, _+_, _*_, _≤_, _<_}
 use native.Mathlib.Omega.{arith}
 use native.Mathlib.Decide.{ℕ-discrete}
 use lib.Dec.{ltb, leb}
-use borrow.Author.Tests.{lt-ltb, not-true}
-use Rattle.rules.specs.Sheet.{Sheet, op, board, P-of, N-of, rank-of, is-send, is-receive, is-wait}
-use Rattle.rules.specs.Job.{Job, Stop, Entry, bare-entry, entry-at, place-at}
+use Rattle.rules.specs.Sheet.{Sheet, op, board, P-of, rank-of, is-receive, is-wait}
+use Rattle.rules.specs.Job.{Job, bare-entry, entry-at, place-at}
 use Rattle.rules.specs.Step.{able, next-op, is-finished, in-waiting-half, half-complete, is-none}
-use Rattle.laws.specs.Tests.{and-both, and-left, and-right, true-not-false}
+use Rattle.laws.specs.Tests.{and-both, and-left, and-right}
 use Rattle.promises.specs.Good.{Good}
 use Rattle.promises.specs.Kinds.{kind-send}
-use Rattle.promises.specs.Invariant.{Entered, state-at, partner-at, reach, row-of, unmatched-state, Met, Placed, Reached}
-use Rattle.promises.specs.Keep.{Within, Same-order, keep}
+use Rattle.promises.specs.Invariant.{Entered, state-at, partner-at, reach, row-of, Met, Placed, Reached}
+use Rattle.promises.specs.Keep.{Same-order, keep}
 use Rattle.promises.specs.Shaping.{row-bare}
 use Rattle.promises.specs.Placing.{prefix, half-complete-on}
-use Rattle.promises.specs.Moves.{Next, able-next}
 
 -- a board goes from operation to operation, by way of a waiting half
 unfoldable pub stand : Job → (r : ℕ) → ℕ

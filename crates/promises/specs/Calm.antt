@@ -5,24 +5,24 @@
 --   calm-covered     the attached buffer covers the charges of a board's script
 --   calm-going       an able step goes on
 --   calm-order       one order of arrival
-use mathlib.Core.Path.{_≡_, refl, sym, ap, subst, _∙_}
+use mathlib.Core.Path.{_≡_, refl, sym, ap, _∙_}
 use mathlib.Core.Logic.{_⊎_, inl, inr, _≢_}
-use mathlib.Core.Bool.{Bool, true, false, _&&_, _||_, not, cond}
+use mathlib.Core.Bool.{Bool, true, false, _&&_, not, cond}
 use mathlib.Core.List.{List, [], _∷_, _++_}
-use mathlib.Core.Option.{Option, none, some}
+use mathlib.Core.Option.{none}
 use Prim.Native.Nat.{ℕ, zero, suc, _+_, _-_, _≤_, _<_}
 use native.Mathlib.Omega.{arith}
-use native.Mathlib.Decide.{ℕ-discrete, decLt}
+use native.Mathlib.Decide.{decLt}
 use lib.Dec.{eqb, leb}
 use lib.ListN.{length, getD, take, drop, length-drop, List·getD-eq-default}
 use lib.Seq.{take-suc, getD-drop}
 use borrow.Author.Tests.{leb-true, le-leb, eq-eqb, ne-eqb, eqb-true, not-true}
 use Rattle.rules.specs.Limits.{any}
-use Rattle.rules.specs.Sheet.{Sheet, Op, Board, op, board, no-op, no-board, P-of, N-of, rank-of, is-send, is-receive, is-wait, is-ready, is-buffered}
-use Rattle.rules.specs.Job.{Job, Stop, place-at}
+use Rattle.rules.specs.Sheet.{Sheet, Op, Board, op, board, no-op, no-board, P-of, N-of, rank-of, is-receive, is-wait, is-ready, is-buffered}
+use Rattle.rules.specs.Job.{Job, place-at}
 use Rattle.rules.specs.Step.{able, step, next-op, in-waiting-half, is-none, first-receive, fits-buffer, fits-with, charge-of}
 use Rattle.rules.specs.Claims.{calm, none-wild, is-any-source, all-charges, script, all-covered}
-use Rattle.laws.specs.Tests.{and-both, and-left, and-right, not-so, or-false-left, true-not-false}
+use Rattle.laws.specs.Tests.{and-both, and-left, and-right, or-false-left, true-not-false}
 use Rattle.promises.specs.Good.{Good}
 use Rattle.promises.specs.Kinds.{fit-source}
 use Rattle.promises.specs.Sums.{sum-below, sum-gap, sum-rest, sum-more, sum-zero}

@@ -2,21 +2,20 @@
 --   charge-none       an operation that is not buffered and pending has no charge
 --   charging-other    no operation's charge changed
 --   charging-enters   a send entered; charging-matches: a message was matched
-use mathlib.Core.Path.{_≡_, refl, sym, ap, subst, _∙_}
+use mathlib.Core.Path.{_≡_, refl, sym, ap, _∙_}
 use mathlib.Core.Logic.{_≢_}
 use mathlib.Core.Bool.{Bool, true, false, _&&_, cond}
-use Prim.Native.Nat.{ℕ, _+_, _-_, _≤_, _<_}
+use Prim.Native.Nat.{ℕ, _+_, _-_, _<_}
 use native.Mathlib.Omega.{arith}
 use native.Mathlib.Decide.{ℕ-discrete}
 use lib.Dec.{eqb}
 use borrow.Author.Tests.{eq-eqb, ne-eqb, eqb-true}
-use Rattle.rules.specs.Sheet.{Sheet, op, N-of, rank-of, is-send, is-receive, is-wait, is-buffered}
-use Rattle.rules.specs.Job.{Job, place-at}
+use Rattle.rules.specs.Sheet.{Sheet, op, N-of, rank-of, is-send, is-buffered}
+use Rattle.rules.specs.Job.{Job}
 use Rattle.rules.specs.Step.{charge-of}
-use Rattle.laws.specs.Tests.{not-so, true-not-false}
-use Rattle.promises.specs.Kinds.{send-no-wait, receive-no-buffered, receive-no-wait}
+use Rattle.laws.specs.Tests.{true-not-false}
 use Rattle.promises.specs.Sums.{sum-below, sum-same, sum-change}
-use Rattle.promises.specs.Invariant.{Entered, state-at, unmatched-state, charge-in, Shaped}
+use Rattle.promises.specs.Invariant.{state-at, unmatched-state, charge-in, Shaped}
 use Rattle.promises.specs.States.{unmatched-send, unmatched-receive}
 use Rattle.promises.specs.Changes.{Enters, Matches, state-same, state-name, enters-state, matches-message-state, matches-receive-state}
 use Rattle.promises.specs.Outcome.{use-charged, use-released}

@@ -7,7 +7,7 @@ use mathlib.Core.Logic.{_≢_}
 use mathlib.Core.Bool.{Bool, true, false, _||_, cond}
 use mathlib.Core.List.{List}
 use mathlib.Core.Option.{Option, none, some}
-use Prim.Native.Nat.{ℕ, zero, suc, _+_, _*_, _≤_, _<_}
+use Prim.Native.Nat.{ℕ, suc, _+_, _*_, _≤_, _<_}
 use native.Mathlib.Omega.{arith}
 use native.Mathlib.Decide.{ℕ-discrete, decLt}
 use lib.Dec.{ltb}
@@ -19,7 +19,7 @@ use Rattle.promises.specs.Good.{Good}
 use Rattle.promises.specs.Sums.{sum-below, sum-change, sum-gap, sum-most}
 use Rattle.promises.specs.Invariant.{state-at, Placed, Reached, reach, steps-of, steps-done}
 use Rattle.promises.specs.Moves.{Next, able-next}
-use Rattle.promises.specs.Placing.{Turn, here, waits, waits-most, next-other, reach-other, reach-mine, reach-mine-before, next-mine, next-mine-before}
+use Rattle.promises.specs.Placing.{Turn, waits, waits-most, next-other, reach-other, reach-mine, reach-mine-before, next-mine, next-mine-before}
 
 -- the steps of operation j, where its board has finished those below a and entered those below b
 unfoldable told : (j a b all : ℕ) → ℕ

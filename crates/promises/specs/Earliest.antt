@@ -1,13 +1,13 @@
 -- A new match took the earliest on both sides: the search found the earliest on one side, and stability of what was before
 -- gives the other. One law where a receive enters and one where a message does. Assumes nothing.
-use mathlib.Core.Path.{_≡_, refl, sym, ap, subst, _∙_}
-use mathlib.Core.Logic.{_⊎_, inl, inr, _≢_}
-use mathlib.Core.Bool.{Bool, true, false, cond}
-use Prim.Native.Nat.{ℕ, suc, _+_, _≤_, _<_}
+use mathlib.Core.Path.{_≡_, sym, ap, _∙_}
+use mathlib.Core.Logic.{_≢_}
+use mathlib.Core.Bool.{true}
+use Prim.Native.Nat.{ℕ, _≤_, _<_}
 use native.Mathlib.Omega.{arith}
 use native.Mathlib.Decide.{ℕ-discrete, decLt}
-use Rattle.rules.specs.Sheet.{Sheet, op, N-of, rank-of, is-send, is-receive}
-use Rattle.rules.specs.Job.{Job, place-at}
+use Rattle.rules.specs.Sheet.{Sheet, op, rank-of, is-send, is-receive}
+use Rattle.rules.specs.Job.{Job}
 use Rattle.rules.specs.Step.{next-op, fits-with}
 use Rattle.promises.specs.Kinds.{fit-one-board, send-receive-differ}
 use Rattle.promises.specs.Lists.{Holds, Found}

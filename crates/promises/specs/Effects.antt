@@ -1,27 +1,26 @@
 -- A step of an able board has one of the outcomes of Outcome.antt: each rule of `step`, read once. Assumes nothing.
 use mathlib.Core.Path.{_≡_, refl, sym, ap, subst, _∙_}
 use mathlib.Core.Logic.{_⊎_, inl, inr, _≢_}
-use mathlib.Core.Bool.{Bool, true, false, _&&_, _||_, not, cond}
-use mathlib.Core.List.{List, [], _∷_, _++_}
+use mathlib.Core.Bool.{Bool, true, false, _||_, cond}
+use mathlib.Core.List.{List}
 use mathlib.Core.Option.{Option, none, some}
-use Prim.Native.Nat.{ℕ, zero, suc, _+_, _-_, _≤_, _<_, max}
+use Prim.Native.Nat.{ℕ, suc, _<_}
 use native.Mathlib.Omega.{arith}
-use native.Mathlib.Decide.{ℕ-discrete}
-use lib.ListN.{length, getD, set, length-set}
+use lib.ListN.{length, set, length-set}
 use lib.Seq.{getD-set-same, getD-set-other}
 use Rattle.rules.specs.Limits.{absent}
-use Rattle.rules.specs.Sheet.{Sheet, op, board, P-of, N-of, rank-of, is-send, is-receive, is-wait, is-ready, is-buffered, is-nonblocking}
-use Rattle.rules.specs.Job.{Job, Entry, Place, Stop, job, entry, bare-entry, place, entry-at, place-at, with-entries, with-places, with-messages, with-receives, with-memory, with-stop, with-steps}
-use Rattle.rules.specs.Step.{able, step, next-op, in-waiting-half, half-complete, one-finished, now-waiting, first-by, first-message, first-receive, fits-with, is-cut, without, delivered, charge-of, charged, released, with-place, charge, release, matched, with-state, pend-message, pend-receive, stopped, initiated, fits-buffer, unmatched, sent, received, initiating, ended}
-use Rattle.laws.specs.Tests.{or-false-left, or-false-right, true-not-false}
+use Rattle.rules.specs.Sheet.{Sheet, op, N-of, rank-of, is-send, is-receive, is-wait, is-ready, is-buffered, is-nonblocking}
+use Rattle.rules.specs.Job.{Job, Entry, job, entry, bare-entry, entry-at, place-at, with-entries, with-places, with-messages, with-receives, with-steps}
+use Rattle.rules.specs.Step.{step, next-op, in-waiting-half, one-finished, first-message, first-receive, fits-with, is-cut, without, delivered, with-place, charge, matched, with-state, pend-message, pend-receive, stopped, initiated, fits-buffer, unmatched, sent, received, initiating, ended}
+use Rattle.laws.specs.Tests.{true-not-false}
 use Rattle.promises.specs.Good.{Good}
-use Rattle.promises.specs.Kinds.{kind-send, send-no-wait, receive-no-wait, send-receive-differ}
-use Rattle.promises.specs.Lists.{In, Holds, Found, first-by-none, first-by-some}
-use Rattle.promises.specs.Invariant.{Entered, state-at, partner-at, unmatched-state, Pending-message, Pending-receive, Placed, Posted-before, Came-before, Reached}
+use Rattle.promises.specs.Kinds.{kind-send, send-receive-differ}
+use Rattle.promises.specs.Lists.{Found, first-by-some}
+use Rattle.promises.specs.Invariant.{Entered, state-at, Posted-before, Came-before, Reached}
 use Rattle.promises.specs.States.{unmatched-send}
-use Rattle.promises.specs.Changes.{Enters, Matches, state-same, state-name}
-use Rattle.promises.specs.Moves.{Next, next-fresh, Moved}
-use Rattle.promises.specs.Outcome.{Outcome, ends-half, ends-wait, posts, pends, meets, stops, Quiet, Use, use-kept, use-charged, use-released, Used, used-kept, used-released, used-charged, used-uncharged, released-places, matched-is, place-in, stepped-places, stepped-moved, set-enters}
+use Rattle.promises.specs.Changes.{Enters, Matches}
+use Rattle.promises.specs.Moves.{Next, next-fresh}
+use Rattle.promises.specs.Outcome.{Outcome, ends-half, ends-wait, posts, pends, meets, stops, used-kept, used-released, used-charged, used-uncharged, released-places, matched-is, stepped-places, stepped-moved, set-enters}
 
 -- OUTCOMES of a step of board r, which is able, of a job that keeps the invariant
 module _ (s : Sheet) (g : Good s) (lent : List ℕ) (x : Job) (R : Reached s lent x) (r : ℕ) (n : Next s x r) where

@@ -8,10 +8,7 @@ use Rattle.rules.specs.Sheet.{Sheet, sheet-in}
 use Rattle.rules.specs.Job.{Job}
 use Rattle.rules.specs.Order.{run, none-able}
 use Rattle.rules.specs.Claims.{left-by, Alike, Given}
-use Rattle.promises.specs.Statements.{Lent, Ends, Run-ends, Ends-alike, Follows-alike, Run-alike}
-use Rattle.promises.specs.Good.{Good}
-use Rattle.promises.specs.Ground.{Ground}
-use Rattle.promises.specs.FromBytes.{good-from-bytes}
+use Rattle.promises.specs.Statements.{Lent, Run-ends, Ends-alike, Follows-alike, Run-alike}
 use Rattle.promises.specs.Delivering.{ground}
 use Rattle.promises.specs.Start.{left-reached}
 use Rattle.promises.specs.Lowest.{next-none}

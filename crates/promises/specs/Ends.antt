@@ -4,29 +4,24 @@
 --   step-behind       one step; left-behind: a whole order
 --   ends-like         two ends
 use mathlib.Core.Path.{_≡_, refl, sym, ap, subst, _∙_}
-use mathlib.Core.Logic.{_⊎_, inl, inr, _≢_}
-use mathlib.Core.Bool.{Bool, true, false, _&&_, _||_, not, cond}
-use mathlib.Core.List.{List, [], _∷_}
-use mathlib.Core.Option.{Option, none, some}
-use Prim.Native.Nat.{ℕ, zero, suc, _+_, _*_, _≤_, _<_}
+use mathlib.Core.Bool.{Bool, true, false, _||_, cond}
+use mathlib.Core.List.{List}
+use mathlib.Core.Option.{Option, none}
+use Prim.Native.Nat.{ℕ, _+_, _*_, _≤_, _<_}
 use native.Mathlib.Omega.{arith}
-use native.Mathlib.Decide.{ℕ-discrete, decLt}
-use lib.Dec.{ltb}
+use native.Mathlib.Decide.{ℕ-discrete}
 use lib.ListN.{length}
-use borrow.Author.Tests.{le-ltb}
 use Rattle.rules.specs.Sheet.{Sheet, op, board, P-of, N-of, rank-of, inbox-total, is-wait, is-nonblocking}
 use Rattle.rules.specs.Job.{Job, Stop, place-at, started, job}
-use Rattle.rules.specs.Step.{able, step, next-op, in-waiting-half, is-finished, is-none}
-use Rattle.rules.specs.Order.{lowest-able, next-rank, none-able}
+use Rattle.rules.specs.Step.{able, step, next-op, in-waiting-half, is-none}
 use Rattle.rules.specs.Claims.{calm, left-by}
-use Rattle.laws.specs.Tests.{not-so, true-not-false}
+use Rattle.laws.specs.Tests.{true-not-false}
 use Rattle.promises.specs.Good.{Good}
 use Rattle.promises.specs.Ground.{Ground}
 use Rattle.promises.specs.Sums.{sum-below, sum-same}
-use Rattle.promises.specs.Invariant.{reach, steps-done, steps-of, Placed, Reached}
-use Rattle.promises.specs.Keep.{Same-order}
+use Rattle.promises.specs.Invariant.{reach, steps-done, Reached}
 use Rattle.promises.specs.Moves.{Next, Moved, able-next}
-use Rattle.promises.specs.Sound.{Extended, step-sound}
+use Rattle.promises.specs.Sound.{step-sound}
 use Rattle.promises.specs.Start.{start-reached, start-finished, start-waiting, left-keeps}
 use Rattle.promises.specs.Behind.{stand, stand-finished, stand-waiting, Behind, still-able}
 use Rattle.promises.specs.After.{finishing, stand-on, moved-stand, moved-stand-other}

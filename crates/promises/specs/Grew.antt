@@ -2,11 +2,11 @@
 -- grew from jobs with one order of arrival have one order, unless they differ among what entered since. Assumes nothing.
 --   Grew             x grew to y; grew-step, grew-both (one step, and one after another)
 --   grew-order       the law
-use mathlib.Core.Path.{_≡_, refl, sym, ap, _∙_}
+use mathlib.Core.Path.{_≡_, ap, _∙_}
 use mathlib.Core.Logic.{_≢_}
 use mathlib.Core.Bool.{true}
 use mathlib.Core.List.{List}
-use Prim.Native.Nat.{ℕ, _≤_, _<_}
+use Prim.Native.Nat.{ℕ, _<_}
 use native.Mathlib.Omega.{arith}
 use native.Mathlib.Decide.{ℕ-discrete, decLe}
 use Rattle.rules.specs.Sheet.{Sheet, op, is-send, is-receive}

@@ -10,14 +10,14 @@
 --   Reached    all of it, and the waiting lists, charges, memory and steps
 use mathlib.Core.Path.{_≡_}
 use mathlib.Core.Logic.{_⊎_, _≢_}
-use mathlib.Core.Bool.{Bool, true, false, _&&_, _||_, cond}
+use mathlib.Core.Bool.{true, false, _&&_, _||_, cond}
 use mathlib.Core.List.{List}
-use mathlib.Core.Option.{Option, some}
+use mathlib.Core.Option.{some}
 use Prim.Native.Nat.{ℕ, zero, suc, _+_, _≤_, _<_}
 use lib.Dec.{eqb, ltb}
 use lib.ListN.{length}
 use Rattle.rules.specs.Limits.{absent}
-use Rattle.rules.specs.Sheet.{Sheet, Op, op, board, P-of, N-of, rank-of, inbox-total, is-send, is-receive, is-wait, is-buffered, is-nonblocking}
+use Rattle.rules.specs.Sheet.{Sheet, Op, op, board, P-of, N-of, rank-of, is-send, is-receive, is-wait, is-buffered, is-nonblocking}
 use Rattle.rules.specs.Job.{Job, Entry, Stop, entry, bare-entry, entry-at, place-at}
 use Rattle.rules.specs.Step.{next-op, half-complete, fits-with, is-cut, charge-of, delivered, is-none}
 use Rattle.promises.specs.Sums.{sum-below}

@@ -12,10 +12,10 @@ use native.Mathlib.Decide.{ℕ-discrete}
 use borrow.Author.Tests.{leb-true}
 use Rattle.rules.specs.Sheet.{Sheet, board, P-of}
 use Rattle.rules.specs.Job.{Job, Stop, place-at}
-use Rattle.rules.specs.Step.{able, is-finished, is-none}
-use Rattle.rules.specs.Order.{lowest-able, next-rank, none-able}
+use Rattle.rules.specs.Step.{able, is-finished}
+use Rattle.rules.specs.Order.{none-able}
 use Rattle.rules.specs.Report.{all-finished, verdict-of}
-use Rattle.laws.specs.Tests.{and-left, and-right, not-so, true-not-false}
+use Rattle.laws.specs.Tests.{and-left, and-right, true-not-false}
 use Rattle.promises.specs.Statements.{Verdict-exact}
 use Rattle.promises.specs.Good.{Good}
 use Rattle.promises.specs.Invariant.{Stopped}

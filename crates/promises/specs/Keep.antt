@@ -1,17 +1,17 @@
 -- A stable matching only grows. Let y have entered whatever x has, and let messages that one receive could take have come in
 -- the same order: then what is matched in x is matched alike in y. This is why a job is determined by where its boards stand.
 -- Assumes nothing.
-use mathlib.Core.Path.{_≡_, refl, sym, ap, subst, _∙_}
-use mathlib.Core.Logic.{_⊎_, inl, inr, _≢_}
-use mathlib.Core.Bool.{true, false}
-use Prim.Native.Nat.{ℕ, zero, suc, _≤_, _<_}
+use mathlib.Core.Path.{_≡_, sym, ap, subst, _∙_}
+use mathlib.Core.Logic.{_≢_}
+use mathlib.Core.Bool.{true}
+use Prim.Native.Nat.{ℕ, zero, suc, _<_}
 use native.Mathlib.Omega.{arith}
 use native.Mathlib.Decide.{ℕ-discrete, decLt}
 use Rattle.rules.specs.Sheet.{Sheet, op, rank-of, is-send, is-receive}
 use Rattle.rules.specs.Job.{Job}
 use Rattle.rules.specs.Step.{fits-with}
 use Rattle.promises.specs.Kinds.{fit-one-board}
-use Rattle.promises.specs.Invariant.{Entered, state-at, partner-at, Pending-message, Pending-receive, Met, Stable, Arrived}
+use Rattle.promises.specs.Invariant.{Entered, state-at, partner-at, Met, Stable, Arrived}
 
 -- of messages that one receive could take, what came before one of x's messages in y came before it in x
 abbrev pub Same-order : Sheet → (ℕ → ℕ) → Job → (ℕ → ℕ) → Job → Type 0

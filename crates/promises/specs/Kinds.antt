@@ -4,13 +4,13 @@
 --   fit-board ..                           what a fit says
 use mathlib.Core.Path.{_≡_, refl, sym, ap, _∙_}
 use mathlib.Core.Logic.{_⊎_, inl, inr, _≢_}
-use mathlib.Core.Bool.{Bool, true, false, _&&_, _||_, not, cond}
-use Prim.Native.Nat.{ℕ, _+_, _≤_, _<_}
+use mathlib.Core.Bool.{Bool, true, false, _&&_, _||_, cond}
+use Prim.Native.Nat.{ℕ, _≤_, _<_}
 use native.Mathlib.Omega.{arith}
 use lib.Dec.{ltb, leb, eqb}
-use borrow.Author.Tests.{leb-true, eqb-true, ne-eqb, eq-eqb, le-leb}
+use borrow.Author.Tests.{leb-true, eqb-true, ne-eqb}
 use Rattle.rules.specs.Limits.{any, slot-limit}
-use Rattle.rules.specs.Sheet.{Sheet, Op, op, P-of, N-of, rank-of, is-send, is-receive, is-wait, is-ready, is-buffered, is-nonblocking}
+use Rattle.rules.specs.Sheet.{Sheet, Op, op, P-of, N-of, rank-of, is-send, is-receive, is-wait, is-buffered, is-nonblocking}
 use Rattle.rules.specs.Refusal.{op-good, fields-good, envelope-good, extent-good, wait-good, room-for}
 use Rattle.rules.specs.Step.{fits-with}
 use Rattle.laws.specs.Tests.{true-not-false, and-left, and-right, or-cases, not-so}

@@ -4,33 +4,31 @@
 --   like-step        one step
 --   like-follow      a whole order: refused at the same index, and alike where it was left
 use mathlib.Core.Path.{_≡_, refl, sym, ap, subst, _∙_}
-use mathlib.Core.Logic.{_⊎_, inl, inr, _≢_}
-use mathlib.Core.Bool.{Bool, true, false, _||_, cond}
-use mathlib.Core.List.{List, [], _∷_}
+use mathlib.Core.Logic.{_≢_}
+use mathlib.Core.Bool.{Bool, true, false}
+use mathlib.Core.List.{List}
 use mathlib.Core.Option.{Option, none, some}
-use Prim.Native.Nat.{ℕ, zero, suc, _+_, _≤_, _<_}
+use Prim.Native.Nat.{ℕ, suc, _+_, _≤_, _<_}
 use native.Mathlib.Omega.{arith}
 use native.Mathlib.Decide.{ℕ-discrete}
 use lib.Dec.{leb}
 use lib.ListN.{length}
-use Rattle.rules.specs.Sheet.{Sheet, op, board, P-of, N-of, rank-of, inbox-total, is-send, is-receive, is-wait, is-ready, is-buffered, is-nonblocking}
+use Rattle.rules.specs.Sheet.{Sheet, op, board, P-of, N-of, inbox-total}
 use Rattle.rules.specs.Job.{Job, Stop, entry-at, place-at}
-use Rattle.rules.specs.Step.{able, step, next-op, in-waiting-half, is-none, first-by, first-receive, fits-with, fits-buffer, charge-of}
-use Rattle.rules.specs.Order.{Followed, followed, follow-from}
-use Rattle.laws.specs.Tests.{not-so, true-not-false}
+use Rattle.rules.specs.Step.{able, step, next-op, is-none, first-by, first-receive, fits-with, fits-buffer, charge-of}
+use Rattle.laws.specs.Tests.{true-not-false}
 use Rattle.promises.specs.Good.{Good}
 use Rattle.promises.specs.Ground.{Ground}
-use Rattle.promises.specs.Kinds.{is-true}
-use Rattle.promises.specs.Sums.{sum-below, sum-same}
-use Rattle.promises.specs.Lists.{Holds, first-by-none, first-by-some}
-use Rattle.promises.specs.Invariant.{Entered, state-at, charge-in, Posted-before, Pending-receive, Reached}
+use Rattle.promises.specs.Sums.{sum-same}
+use Rattle.promises.specs.Lists.{first-by-none, first-by-some}
+use Rattle.promises.specs.Invariant.{Entered, charge-in, Pending-receive, Reached}
 use Rattle.promises.specs.Keep.{Same-order}
-use Rattle.promises.specs.Changes.{state-same, state-name}
+use Rattle.promises.specs.Changes.{state-same}
 use Rattle.promises.specs.Charging.{charge-same}
 use Rattle.promises.specs.Queues.{pending-receive-same}
-use Rattle.promises.specs.Moves.{Next, Moved, able-next}
+use Rattle.promises.specs.Moves.{Moved, able-next}
 use Rattle.promises.specs.Sound.{Extended, step-sound}
-use Rattle.promises.specs.Grew.{Grew, grew-step, grew-order}
+use Rattle.promises.specs.Grew.{grew-step, grew-order}
 use Rattle.promises.specs.Behind.{stand, Behind, still-able, level-rows, places-entered, behind-entered}
 use Rattle.promises.specs.After.{stop-after, step-stop, After, goes-on, halts, step-after, step-counted, finishing, moved-stand-other, places-stand, stand-next, stand-half, stand-moved}
 

@@ -1,19 +1,16 @@
 -- What the matching of a job that an order left is known to be: demand 2's claims about messages and receives, read off the
 -- invariant. Assumes nothing.
 --   none-fit, no-overtaking, no-overtaking-receives, statuses
-use mathlib.Core.Path.{_≡_, refl, sym, ap, subst, _∙_}
-use mathlib.Core.Logic.{_≢_}
-use mathlib.Core.Bool.{Bool, true, false, cond}
+use mathlib.Core.Path.{_≡_, ap, subst, _∙_}
+use mathlib.Core.Bool.{true}
 use mathlib.Core.List.{List}
-use Prim.Native.Nat.{ℕ, _≤_, _<_}
+use Prim.Native.Nat.{ℕ, _<_}
 use native.Mathlib.Omega.{arith}
-use Rattle.rules.specs.Limits.{absent}
 use Rattle.rules.specs.Sheet.{Sheet, op, sheet-in, rank-of, is-send, is-receive}
-use Rattle.rules.specs.Job.{Job, Entry, entry, entry-at}
-use Rattle.rules.specs.Step.{fits-with, is-cut}
-use Rattle.rules.specs.Claims.{left-by}
+use Rattle.rules.specs.Job.{Job}
+use Rattle.rules.specs.Step.{fits-with}
 use Rattle.laws.specs.Tests.{not-so}
-use Rattle.promises.specs.Statements.{Lent, None-fit, No-overtaking, No-overtaking-receives, Status, Statuses}
+use Rattle.promises.specs.Statements.{None-fit, No-overtaking, No-overtaking-receives, Status, Statuses}
 use Rattle.promises.specs.Kinds.{send-no-receive}
 use Rattle.promises.specs.Invariant.{Entered, state-at, partner-at, row-of, Met, Reached}
 use Rattle.promises.specs.Placing.{prefix}

@@ -8,19 +8,19 @@ use mathlib.Core.Logic.{_⊎_, inl, inr, _≢_}
 use mathlib.Core.Bool.{Bool, true, false, _&&_, _||_, not, cond}
 use mathlib.Core.List.{List}
 use mathlib.Core.Option.{Option, none, some}
-use Prim.Native.Nat.{ℕ, zero, suc, _+_, _-_, _≤_, _<_, max}
+use Prim.Native.Nat.{ℕ, suc, _+_, _<_, max}
 use native.Mathlib.Omega.{arith}
 use native.Mathlib.Decide.{ℕ-discrete}
 use lib.Dec.{ltb, leb, eqb}
-use lib.ListN.{length, getD, set, length-set}
+use lib.ListN.{length, getD, set}
 use lib.Seq.{getD-set-same, getD-set-other}
 use borrow.Author.Tests.{ltb-true, leb-false, not-true, eq-eqb, ne-eqb}
-use Rattle.rules.specs.Sheet.{Sheet, op, board, P-of, N-of, rank-of, is-wait, is-nonblocking}
-use Rattle.rules.specs.Job.{Job, Place, Stop, place, place-at}
+use Rattle.rules.specs.Sheet.{Sheet, board, P-of, N-of, rank-of}
+use Rattle.rules.specs.Job.{Job, Place, place, place-at}
 use Rattle.rules.specs.Step.{able, next-op, is-finished, in-waiting-half, half-complete, is-none, one-finished, now-waiting}
 use Rattle.laws.specs.Tests.{and-left, and-right, or-cases, true-not-false}
 use Rattle.promises.specs.Good.{Good}
-use Rattle.promises.specs.Invariant.{Entered, state-at, Placed, reach}
+use Rattle.promises.specs.Invariant.{state-at, Placed, reach}
 
 -- NEXT: what able says
 pub none-is : {A : Type 0} (o : Option A) → is-none o ≡ true → o ≡ none

@@ -3,11 +3,11 @@
 --   like-follow       a whole order
 --   follow-join       an accepted beginning, and then the rest
 --   follow-two        two steps that are able
-use mathlib.Core.Path.{_≡_, refl, sym, ap, subst, _∙_}
+use mathlib.Core.Path.{_≡_, refl, sym, ap, _∙_}
 use mathlib.Core.Bool.{Bool, true, false, cond}
 use mathlib.Core.List.{List, [], _∷_, _++_}
-use mathlib.Core.Option.{Option, none, some}
-use Prim.Native.Nat.{ℕ, zero, suc, _+_, _≤_, _<_}
+use mathlib.Core.Option.{some}
+use Prim.Native.Nat.{ℕ, suc, _+_, _≤_}
 use native.Mathlib.Omega.{arith}
 use lib.ListN.{length}
 use Rattle.rules.specs.Sheet.{Sheet, inbox-total}
@@ -19,7 +19,6 @@ use Rattle.laws.specs.Tests.{true-not-false}
 use Rattle.promises.specs.Good.{Good}
 use Rattle.promises.specs.Ground.{Ground}
 use Rattle.promises.specs.Invariant.{Reached}
-use Rattle.promises.specs.Sound.{Extended, step-sound}
 use Rattle.promises.specs.Like.{Like, like-able, like-step}
 
 pub record Left-like (s : Sheet) (i j : List ℕ) (a b : Followed) : Type 0 where

@@ -1,29 +1,24 @@
 -- What a step of an able board does, in the six ways that it can go: an operation's waiting half ends, a wait ends, a receive is
 -- posted, a send is pending, a message and a receive are matched, the job stops. This file reads `step` once; the proofs go by
 -- `Outcome`. Assumes nothing.
-use mathlib.Core.Path.{_≡_, refl, sym, ap, subst, _∙_}
-use mathlib.Core.Logic.{_⊎_, inl, inr, _≢_}
-use mathlib.Core.Bool.{Bool, true, false, _&&_, _||_, not, cond}
+use mathlib.Core.Path.{_≡_, refl, sym, ap, _∙_}
+use mathlib.Core.Logic.{_⊎_, _≢_}
+use mathlib.Core.Bool.{Bool, true, false, _&&_, cond}
 use mathlib.Core.List.{List, [], _∷_, _++_}
-use mathlib.Core.Option.{Option, none, some}
-use Prim.Native.Nat.{ℕ, zero, suc, _+_, _-_, _≤_, _<_, max}
+use mathlib.Core.Option.{none, some}
+use Prim.Native.Nat.{ℕ, suc, _+_, _-_, _≤_, _<_, max}
 use native.Mathlib.Omega.{arith}
-use native.Mathlib.Decide.{ℕ-discrete}
-use lib.Dec.{ltb, leb, eqb}
+use lib.Dec.{eqb}
 use lib.ListN.{length, getD, set, length-set}
 use lib.Seq.{getD-set-same, getD-set-other}
-use borrow.Author.Tests.{ltb-true, leb-true, leb-false, not-true, eq-eqb, ne-eqb, eqb-true}
 use Rattle.rules.specs.Limits.{absent}
-use Rattle.rules.specs.Sheet.{Sheet, op, board, P-of, N-of, rank-of, is-send, is-receive, is-wait, is-ready, is-buffered, is-nonblocking}
-use Rattle.rules.specs.Job.{Job, Entry, Place, Stop, job, entry, bare-entry, place, entry-at, place-at, with-entries, with-places, with-messages, with-receives, with-memory, with-stop, with-steps}
-use Rattle.rules.specs.Step.{able, step, next-op, in-waiting-half, half-complete, one-finished, now-waiting, first-by, first-message, first-receive, fits-with, is-cut, without, delivered, charge-of, charged, released, with-place, charge, release, matched-rows, matched, with-state, pend-message, pend-receive, stopped, initiated, fits-buffer, unmatched, sent, received, initiating, ended}
-use Rattle.laws.specs.Tests.{or-false-left, or-false-right, true-not-false}
-use Rattle.promises.specs.Good.{Good}
-use Rattle.promises.specs.Kinds.{kind-send, send-no-wait, receive-no-wait, receive-no-buffered}
-use Rattle.promises.specs.Lists.{In, Holds, Found, first-by-none, first-by-some}
-use Rattle.promises.specs.Invariant.{Entered, state-at, partner-at, unmatched-state, Pending-message, Pending-receive, Placed, Posted-before, Came-before, Reached}
-use Rattle.promises.specs.Changes.{Enters, Matches, state-same, state-name}
-use Rattle.promises.specs.Moves.{Next, next-fresh, Moved, after, getD-update, moved-in-use}
+use Rattle.rules.specs.Sheet.{Sheet, op, rank-of, is-send, is-receive, is-wait, is-buffered, is-nonblocking}
+use Rattle.rules.specs.Job.{Job, Entry, Place, job, entry, bare-entry, place, entry-at, place-at, with-entries, with-places, with-messages, with-receives, with-memory, with-steps}
+use Rattle.rules.specs.Step.{one-finished, now-waiting, first-message, first-receive, is-cut, without, delivered, charge-of, charged, released, with-place, release, matched-rows, matched, stopped, fits-buffer}
+use Rattle.laws.specs.Tests.{true-not-false}
+use Rattle.promises.specs.Invariant.{state-at, unmatched-state}
+use Rattle.promises.specs.Changes.{Enters, Matches}
+use Rattle.promises.specs.Moves.{Moved, after, getD-update, moved-in-use}
 
 -- what does not change where no message moves
 pub record Quiet (x y : Job) : Type 0 where

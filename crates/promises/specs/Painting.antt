@@ -9,23 +9,22 @@ use mathlib.Core.Path.{_≡_, refl, sym, ap, subst, _∙_}
 use mathlib.Core.Logic.{_⊎_, inl, inr, _≢_}
 use mathlib.Core.Bool.{Bool, true, false, _&&_, cond}
 use mathlib.Core.List.{List}
-use mathlib.Core.Option.{Option, none, some}
+use mathlib.Core.Option.{Option, some}
 use Prim.Native.Nat.{ℕ, zero, suc, _+_, _≤_, _<_}
 use native.Mathlib.Omega.{arith}
-use native.Mathlib.Decide.{ℕ-discrete, decLt}
-use lib.Dec.{eqb, leb}
+use native.Mathlib.Decide.{ℕ-discrete}
+use lib.Dec.{eqb}
 use lib.ListN.{length}
-use borrow.Author.Tests.{eq-eqb, ne-eqb, eqb-true, leb-true}
-use Rattle.rules.specs.Sheet.{Sheet, op, N-of, rank-of, inbox-total, is-send, is-receive, is-wait, is-nonblocking}
-use Rattle.rules.specs.Refusal.{share}
+use borrow.Author.Tests.{eq-eqb, eqb-true, leb-true}
+use Rattle.rules.specs.Sheet.{Sheet, op, N-of, rank-of, inbox-total, is-receive, is-wait, is-nonblocking}
 use Rattle.rules.specs.Job.{Job, Entry, entry-at, place-at}
 use Rattle.rules.specs.Step.{next-op, delivered, half-complete, complete, complete-if, waited}
-use Rattle.laws.specs.Tests.{and-left, and-right, true-not-false}
+use Rattle.laws.specs.Tests.{true-not-false}
 use Rattle.promises.specs.Good.{Good}
 use Rattle.promises.specs.Ground.{Ground, Pair, Apart}
 use Rattle.promises.specs.Kinds.{receive-no-wait, send-no-receive, is-true, wait-blocking}
-use Rattle.promises.specs.Invariant.{Entered, state-at, partner-at, paint, painted, reach, Placed, Shaped, Stable, Met}
-use Rattle.promises.specs.Changes.{Enters, Matches, state-same, partner-same, state-name, enters-state, matches-met, matches-receive-state, matches-message-state}
+use Rattle.promises.specs.Invariant.{Entered, state-at, partner-at, paint, painted, reach, Placed, Shaped, Stable}
+use Rattle.promises.specs.Changes.{Enters, Matches, state-name, enters-state, matches-met, matches-receive-state}
 use Rattle.promises.specs.Placing.{prefix}
 use Rattle.promises.specs.States.{unmatched-receive}
 

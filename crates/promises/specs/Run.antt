@@ -1,19 +1,18 @@
 -- A run's order is accepted by follow and leads to the same job, within two steps an operation, where no board is able.
 -- Assumes nothing.
-use mathlib.Core.Path.{_≡_, refl, sym, ap, subst, _∙_}
-use mathlib.Core.Bool.{Bool, true, false, cond}
+use mathlib.Core.Path.{_≡_, refl, sym, ap, _∙_}
+use mathlib.Core.Bool.{Bool, true, cond}
 use mathlib.Core.List.{List, [], _∷_, _++_, append-assoc, append-nil}
 use mathlib.Core.Option.{Option, none, some}
-use Prim.Native.Nat.{ℕ, zero, suc, _+_, _*_, _≤_, _<_}
+use Prim.Native.Nat.{ℕ, zero, suc, _+_, _*_, _≤_}
 use native.Mathlib.Omega.{arith}
 use lib.ListN.{length}
 use Rattle.rules.specs.Limits.{order-room}
-use Rattle.rules.specs.Sheet.{Sheet, P-of, N-of, inbox-total}
+use Rattle.rules.specs.Sheet.{Sheet, N-of, inbox-total}
 use Rattle.rules.specs.Job.{Job, started, job}
 use Rattle.rules.specs.Step.{able, step, is-none}
-use Rattle.rules.specs.Order.{Followed, followed, follow-from, follow, lowest-able, next-rank, none-able, Ran, ran, run-next, run-from, run}
+use Rattle.rules.specs.Order.{Followed, followed, follow-from, follow, next-rank, none-able, Ran, ran, run-next, run-from, run}
 use Rattle.rules.specs.Claims.{accepts, left-by}
-use Rattle.laws.specs.Tests.{true-not-false}
 use Rattle.promises.specs.Statements.{Ends}
 use Rattle.promises.specs.Good.{Good}
 use Rattle.promises.specs.Ground.{Ground}

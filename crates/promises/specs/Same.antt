@@ -1,15 +1,14 @@
 -- Jobs with the same rows: what the rows alone decide holds of both. Used where a step ends a waiting half or stops the job.
 -- Assumes nothing.
-use mathlib.Core.Path.{_≡_, refl, sym, ap, subst, _∙_}
-use mathlib.Core.Logic.{_≢_}
+use mathlib.Core.Path.{_≡_, sym, ap, subst, _∙_}
 use mathlib.Core.List.{List}
-use Prim.Native.Nat.{ℕ, _≤_, _<_}
+use Prim.Native.Nat.{ℕ, _≤_}
 use native.Mathlib.Omega.{arith}
 use lib.ListN.{getD}
 use Rattle.rules.specs.Sheet.{Sheet}
 use Rattle.rules.specs.Job.{Job, Entry, bare-entry, entry-at}
 use Rattle.promises.specs.Lists.{Holds, holds-same}
-use Rattle.promises.specs.Invariant.{Entered, state-at, partner-at, Pending-message, Pending-receive, Met, Stable, Arrived, Posted-before, Came-before}
+use Rattle.promises.specs.Invariant.{Entered, Pending-message, Pending-receive, Met, Stable, Arrived, Posted-before, Came-before}
 use Rattle.promises.specs.Changes.{state-same, partner-same, met-same}
 use Rattle.promises.specs.Queues.{pending-message-same, pending-receive-same}
 

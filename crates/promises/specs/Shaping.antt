@@ -1,22 +1,21 @@
 -- A row is determined by its state and partner, after a step as before. Assumes nothing.
-use mathlib.Core.Path.{_≡_, refl, sym, ap, subst, _∙_}
+use mathlib.Core.Path.{_≡_, sym, ap, subst, _∙_}
 use mathlib.Core.Logic.{_≢_}
 use mathlib.Core.Bool.{Bool, true, false, cond}
-use Prim.Native.Nat.{ℕ, _≤_, _<_}
+use Prim.Native.Nat.{ℕ}
 use native.Mathlib.Omega.{arith}
 use native.Mathlib.Decide.{ℕ-discrete}
-use lib.Dec.{eqb}
 use lib.ListN.{getD}
 use mathlib.Core.List.{List}
-use borrow.Author.Tests.{eq-eqb, ne-eqb}
+use borrow.Author.Tests.{ne-eqb}
 use Rattle.rules.specs.Limits.{absent}
-use Rattle.rules.specs.Sheet.{Sheet, Op, op, rank-of, is-receive, is-wait, is-buffered}
+use Rattle.rules.specs.Sheet.{Sheet, op, rank-of, is-receive, is-wait}
 use Rattle.rules.specs.Job.{Job, Entry, entry, bare-entry, entry-at}
 use Rattle.rules.specs.Step.{is-cut}
 use Rattle.laws.specs.Tests.{true-not-false}
 use Rattle.promises.specs.Kinds.{send-no-receive, send-no-wait, receive-no-wait}
 use Rattle.promises.specs.Invariant.{Entered, state-at, partner-at, row-of, unmatched-state, Shaped}
-use Rattle.promises.specs.Changes.{Enters, Matches, state-same, partner-same, state-name, enters-state, matches-message-state, matches-receive-state, matches-met}
+use Rattle.promises.specs.Changes.{Enters, Matches, state-same, state-name, enters-state, matches-message-state, matches-receive-state}
 
 -- the three rows
 pub row-bare : (s : Sheet) (j v p : ℕ) → v ≢ 3 → row-of s j v p ≡ bare-entry v

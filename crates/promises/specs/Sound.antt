@@ -3,12 +3,12 @@
 --   step-sound      the law
 use mathlib.Core.Path.{_≡_, refl, sym, ap, subst, _∙_}
 use mathlib.Core.Logic.{_⊎_, inl, inr, _≢_}
-use mathlib.Core.Bool.{Bool, true, false, _&&_, _||_, not, cond}
+use mathlib.Core.Bool.{Bool, true, false, _&&_, cond}
 use mathlib.Core.List.{List, [], _∷_, _++_}
 use mathlib.Core.Option.{Option, none, some}
-use Prim.Native.Nat.{ℕ, zero, suc, _+_, _-_, _≤_, _<_, max}
+use Prim.Native.Nat.{ℕ, suc, _+_, _-_, _≤_, _<_}
 use native.Mathlib.Omega.{arith}
-use native.Mathlib.Decide.{ℕ-discrete, decLt}
+use native.Mathlib.Decide.{ℕ-discrete}
 use lib.Dec.{eqb}
 use lib.ListN.{length}
 use borrow.Author.Tests.{eqb-true, leb-true}
@@ -18,18 +18,18 @@ use Rattle.rules.specs.Step.{able, step, next-op, half-complete, complete, comp
 use Rattle.laws.specs.Tests.{not-so, true-not-false}
 use Rattle.promises.specs.Good.{Good}
 use Rattle.promises.specs.Ground.{Ground}
-use Rattle.promises.specs.Kinds.{send-no-wait, receive-no-wait, receive-no-send, send-no-receive, fit-one-board, wait-kind, send-kind, receive-kind}
+use Rattle.promises.specs.Kinds.{send-no-wait, receive-no-wait, receive-no-send, send-no-receive}
 use Rattle.promises.specs.Sums.{sum-below, sum-same}
-use Rattle.promises.specs.Lists.{In, Holds, Found, first-by-none, first-by-some}
-use Rattle.promises.specs.Invariant.{Entered, state-at, partner-at, unmatched-state, steps-done, charge-in, painted, paint, reach, Pending-message, Pending-receive, Met, Stable, Arrived, Placed, Shaped, Stopped, Posted-before, Came-before, Reached}
-use Rattle.promises.specs.Changes.{Grows, Enters, Matches, state-same, state-name, enters-grows, matches-grows, matches-met, matches-receive-state, matches-message-state}
+use Rattle.promises.specs.Lists.{Holds, first-by-none, first-by-some}
+use Rattle.promises.specs.Invariant.{Entered, state-at, unmatched-state, steps-done, charge-in, painted, reach, Pending-message, Pending-receive, Stable, Arrived, Placed, Shaped, Stopped, Posted-before, Came-before, Reached}
+use Rattle.promises.specs.Changes.{Grows, Enters, Matches, state-same, state-name, enters-grows, matches-grows}
 use Rattle.promises.specs.Stable.{Later, First, enter-stable, match-stable}
 use Rattle.promises.specs.Moves.{Next, Moved, moved-peak, next-fresh, able-next}
 use Rattle.promises.specs.Outcome.{Outcome, ends-half, ends-wait, posts, pends, meets, stops, Quiet, Use, use-kept, use-charged, use-released}
 use Rattle.promises.specs.Effects.{outcome}
 use Rattle.promises.specs.Placing.{Turn, placed-step, half-complete-on}
 use Rattle.promises.specs.Counting.{steps-step}
-use Rattle.promises.specs.Arrivals.{came-with, came-same, came-other, arrives-later, arrived-step}
+use Rattle.promises.specs.Arrivals.{came-with, came-other, arrives-later, arrived-step}
 use Rattle.promises.specs.Shaping.{shaped-same, shaped-enters, shaped-matches}
 use Rattle.promises.specs.Queues.{queue-message, queue-message-other, queue-receive, queue-receive-other, queue-message-match, queue-receive-match}
 use Rattle.promises.specs.Charging.{charge-same, charging-other, charging-enters, charging-matches}

@@ -4,14 +4,14 @@
 --   Later           the new operation came after all that were entered
 --   First           a pair took the earliest on both sides
 --   grow-stable     the law; enter-stable and match-stable are its two cases
-use mathlib.Core.Path.{_≡_, refl, sym, ap, subst, _∙_}
+use mathlib.Core.Path.{_≡_, sym, ap, subst, _∙_}
 use mathlib.Core.Logic.{_⊎_, inl, inr, _≢_}
-use mathlib.Core.Bool.{true, false}
-use Prim.Native.Nat.{ℕ, zero, suc, _≤_, _<_}
+use mathlib.Core.Bool.{true}
+use Prim.Native.Nat.{ℕ, _<_}
 use native.Mathlib.Omega.{arith}
 use native.Mathlib.Decide.{ℕ-discrete}
-use Rattle.rules.specs.Sheet.{Sheet, op, rank-of, is-send, is-receive}
-use Rattle.rules.specs.Job.{Job, entry-at}
+use Rattle.rules.specs.Sheet.{Sheet, op, is-send, is-receive}
+use Rattle.rules.specs.Job.{Job}
 use Rattle.rules.specs.Step.{fits-with}
 use Rattle.promises.specs.Kinds.{send-receive-differ}
 use Rattle.promises.specs.Invariant.{Entered, state-at, partner-at, Pending-message, Pending-receive, Met, Stable}

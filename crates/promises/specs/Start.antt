@@ -1,31 +1,29 @@
 -- The start has the invariant, and every order keeps it: a job that follow leaves is reached. Assumes nothing.
 --   start-reached     nothing entered, nothing in use, the lent inboxes
 --   left-reached      along an order, up to where it is refused
-use mathlib.Core.Path.{_≡_, refl, sym, ap, subst, _∙_}
-use mathlib.Core.Logic.{_⊎_, inl, inr, _≢_}
+use mathlib.Core.Path.{_≡_, refl, sym, ap, _∙_}
 use mathlib.Core.Bool.{Bool, true, false, cond}
 use mathlib.Core.List.{List, [], _∷_}
-use mathlib.Core.Option.{Option, none, some}
+use mathlib.Core.Option.{some}
 use Prim.Native.Nat.{ℕ, zero, suc, _+_, _≤_, _<_}
 use native.Mathlib.Omega.{arith}
 use lib.Dec.{ltb}
 use lib.ListN.{length, getD, replicate, length-replicate}
 use borrow.Author.Tests.{le-ltb}
-use Rattle.rules.specs.Sheet.{Sheet, op, board, P-of, N-of, rank-of, inbox-total, is-receive}
-use Rattle.rules.specs.Job.{Job, Entry, Place, Stop, job, started, entry, bare-entry, place, entry-at, place-at}
+use Rattle.rules.specs.Sheet.{Sheet, op, board, P-of, N-of, rank-of, inbox-total}
+use Rattle.rules.specs.Job.{Job, Entry, Place, job, started, entry, bare-entry, place, entry-at, place-at}
 use Rattle.rules.specs.Step.{able, step, next-op, is-none}
-use Rattle.rules.specs.Order.{Followed, followed, follow-from, follow}
+use Rattle.rules.specs.Order.{followed, follow-from, follow}
 use Rattle.rules.specs.Claims.{left-by}
 use Rattle.laws.specs.Tests.{true-not-false}
 use Rattle.promises.specs.Good.{Good}
 use Rattle.promises.specs.Ground.{Ground}
-use Rattle.promises.specs.Sums.{sum-below, sum-zero}
-use Rattle.promises.specs.Lists.{Holds, In}
-use Rattle.promises.specs.Invariant.{Entered, state-at, partner-at, reach, steps-done, steps-of, charge-in, paint, painted, row-of, Pending-message, Pending-receive, Stable, Arrived, Placed, Shaped, Came-before, Posted-before, Reached}
+use Rattle.promises.specs.Sums.{sum-zero}
+use Rattle.promises.specs.Invariant.{Entered, state-at, partner-at, reach, steps-done, steps-of, charge-in, row-of, Reached}
 use Rattle.promises.specs.Charging.{charge-none}
 use Rattle.promises.specs.Shaping.{row-bare}
 use Rattle.promises.specs.Painting.{painted-none}
-use Rattle.promises.specs.Sound.{Extended, step-sound}
+use Rattle.promises.specs.Sound.{step-sound}
 
 -- a list of one value, read anywhere
 getD-replicate-same : {A : Type 0} (n j : ℕ) (a : A) → getD (replicate n a) j a ≡ a

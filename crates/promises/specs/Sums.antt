@@ -5,7 +5,7 @@
 --   sum-change         where f and g differ at one place only, so do their sums
 --   sum-gap            where f is smaller by c at one place and nowhere larger, so is its sum
 --   sum-rest, sum-zero   terms that are 0 add nothing
-use mathlib.Core.Path.{_≡_, refl, ap, sym, _∙_}
+use mathlib.Core.Path.{_≡_, refl, ap, _∙_}
 use mathlib.Core.Logic.{_≢_}
 use Prim.Native.Nat.{ℕ, zero, suc, _+_, _*_, _≤_, _<_}
 use native.Mathlib.Omega.{arith}

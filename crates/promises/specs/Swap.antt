@@ -7,23 +7,23 @@ use mathlib.Core.Path.{_≡_, refl, sym, ap, subst, _∙_}
 use mathlib.Core.Logic.{_⊎_, inl, inr, _≢_}
 use mathlib.Core.Bool.{Bool, true, false, _||_, cond}
 use mathlib.Core.List.{List}
-use mathlib.Core.Option.{Option, none, some}
-use Prim.Native.Nat.{ℕ, zero, suc, _+_, _≤_, _<_}
+use mathlib.Core.Option.{none}
+use Prim.Native.Nat.{ℕ, suc, _+_, _≤_}
 use native.Mathlib.Omega.{arith}
 use native.Mathlib.Decide.{ℕ-discrete}
 use lib.ListN.{length}
 use borrow.Author.Tests.{eq-eqb}
 use Rattle.rules.specs.Limits.{any}
-use Rattle.rules.specs.Sheet.{Sheet, op, P-of, N-of, rank-of, inbox-total, is-send, is-receive, is-wait}
-use Rattle.rules.specs.Job.{Job, Stop, place-at}
+use Rattle.rules.specs.Sheet.{Sheet, op, rank-of, inbox-total, is-send, is-receive, is-wait}
+use Rattle.rules.specs.Job.{Job, place-at}
 use Rattle.rules.specs.Step.{able, step, next-op, in-waiting-half, fits-with}
 use Rattle.rules.specs.Claims.{is-any-source}
-use Rattle.laws.specs.Tests.{and-both, not-so, true-not-false}
+use Rattle.laws.specs.Tests.{and-both}
 use Rattle.promises.specs.Statements.{Harmless}
 use Rattle.promises.specs.Good.{Good}
 use Rattle.promises.specs.Ground.{Ground}
 use Rattle.promises.specs.Kinds.{send-no-wait, fit-source}
-use Rattle.promises.specs.Invariant.{Entered, state-at, reach, Placed, Reached}
+use Rattle.promises.specs.Invariant.{Entered, reach, Reached}
 use Rattle.promises.specs.Keep.{Same-order}
 use Rattle.promises.specs.Moves.{Next, Moved, able-next}
 use Rattle.promises.specs.Sound.{Extended, step-sound}

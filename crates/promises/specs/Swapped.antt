@@ -1,24 +1,23 @@
 -- Two neighbouring able steps exchanged, for whole orders: on any sheet where the exchange is harmless, so on a calm sheet, where
 -- it always is, and so of the calls of follow. Assumes nothing.
 --   swap-general, swap-same, calls-swap
-use mathlib.Core.Path.{_≡_, refl, sym, ap, subst, _∙_}
+use mathlib.Core.Path.{_≡_, sym, ap, subst, _∙_}
 use mathlib.Core.Logic.{_≢_}
-use mathlib.Core.Bool.{true, false}
+use mathlib.Core.Bool.{true}
 use mathlib.Core.List.{List, _∷_, _++_}
 use mathlib.Core.Option.{none}
 use Prim.Native.Nat.{ℕ, suc}
 use lib.ListN.{length}
-use Rattle.rules.specs.Sheet.{Sheet, op, sheet-in}
+use Rattle.rules.specs.Sheet.{Sheet, sheet-in}
 use Rattle.rules.specs.Job.{Job}
 use Rattle.rules.specs.Step.{able, step}
 use Rattle.rules.specs.Order.{Followed, follow, follow-from}
-use Rattle.rules.specs.Claims.{accepts, left-by, calm, Alike, Given}
+use Rattle.rules.specs.Claims.{accepts, left-by, calm, Alike}
 use Rattle.laws.specs.Tests.{true-not-false}
 use Rattle.promises.specs.Statements.{Lent, Harmless, Swap-general, Swap-same, Follow-swaps}
 use Rattle.promises.specs.Good.{Good}
 use Rattle.promises.specs.Ground.{Ground}
 use Rattle.promises.specs.Invariant.{Reached}
-use Rattle.promises.specs.Sound.{Extended}
 use Rattle.promises.specs.Delivering.{ground}
 use Rattle.promises.specs.Orders.{Left-like, like-follow, follow-join, follow-two}
 use Rattle.promises.specs.Swap.{E, swap-able, able-p, able-q, swap-like}

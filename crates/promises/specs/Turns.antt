@@ -1,15 +1,15 @@
 -- The three turns that a board can take without stopping the job: an initiating step, a wait, the end of a waiting half.
 -- Assumes nothing.
-use mathlib.Core.Path.{_≡_, refl, sym, ap, subst, _∙_}
-use mathlib.Core.Logic.{_⊎_, inl, inr, _≢_}
-use mathlib.Core.Bool.{Bool, true, false, _&&_, _||_, not, cond}
-use Prim.Native.Nat.{ℕ, _+_, _≤_, _<_}
+use mathlib.Core.Path.{_≡_, refl, sym, ap, _∙_}
+use mathlib.Core.Logic.{_⊎_, inl, inr}
+use mathlib.Core.Bool.{Bool, true, false, _||_, cond}
+use Prim.Native.Nat.{ℕ, _+_}
 use native.Mathlib.Omega.{arith}
 use Rattle.rules.specs.Sheet.{Sheet, op, is-wait, is-nonblocking}
 use Rattle.rules.specs.Job.{Job, place-at, entry-at}
 use Rattle.rules.specs.Step.{next-op, in-waiting-half}
 use Rattle.laws.specs.Tests.{true-not-false}
-use Rattle.promises.specs.Invariant.{Entered, state-at, steps-of, reach, Placed}
+use Rattle.promises.specs.Invariant.{Entered, steps-of, reach, Placed}
 use Rattle.promises.specs.Changes.{Grows, state-same}
 use Rattle.promises.specs.Moves.{Next, Moved}
 use Rattle.promises.specs.Placing.{Advances, Turn}
