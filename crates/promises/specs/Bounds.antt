@@ -30,7 +30,8 @@ attached-small {s} g r l =
     let first = eqb (board s r .first) (counts-before s r) in
     let attached = leb (board s r .attached) most-attached in
     let inbox = leb (inbox-start s (suc r)) most-inbox in
-    leb-true (board s r .attached) most-attached (and-left attached inbox (and-right first (attached && inbox) (g .boards-good r l)))
+    leb-true (board s r .attached) most-attached
+    (and-left attached inbox (and-right first (attached && inbox) (g .boards-good r l)))
 
 module _ {s : Sheet} (g : Good s) {lent : List ℕ} {x : Job} (R : Reached s lent x) where
   -- WAITING LISTS
@@ -46,11 +47,13 @@ module _ {s : Sheet} (g : Good s) {lent : List ℕ} {x : Job} (R : Reached s len
 
   pub messages-few : length (x .messages) ≤ N-of s
   messages-few =
-      sorted-length (Came-before (R .came)) (λ v l. omega arith) (N-of s) (x .messages) (R .messages-held .sorted) (λ m h. messages-inside m h .0)
+      sorted-length (Came-before (R .came)) (λ v l. omega arith) (N-of s) (x .messages) (R .messages-held .sorted)
+      (λ m h. messages-inside m h .0)
 
   pub receives-few : length (x .receives) ≤ N-of s
   receives-few =
-      sorted-length (Posted-before s) (λ v l. let less = l refl in omega arith) (N-of s) (x .receives) (R .receives-held .sorted) (λ r h. receives-inside r h .0)
+      sorted-length (Posted-before s) (λ v l. let less = l refl in omega arith) (N-of s) (x .receives) (R .receives-held .sorted)
+      (λ r h. receives-inside r h .0)
 
   -- NUMBERS
   pub finished-few : (r : ℕ) → r < P-of s → place-at x r .finished ≤ most-ops
@@ -70,7 +73,8 @@ module _ {s : Sheet} (g : Good s) {lent : List ℕ} {x : Job} (R : Reached s len
   next-inside r a = able-next s g x r a .inside
 
   pub partner-inside : (r : ℕ) → is-receive (op s r) ≡ true → state-at x r ≡ 3 → partner-at x r < N-of s
-  partner-inside r receives e = R .placed .entered-only (partner-at x r) (omega (arith, R .stable .receive-met r receives e .message-matched)) .0
+  partner-inside r receives e = R .placed .entered-only (partner-at x r)
+      (omega (arith, R .stable .receive-met r receives e .message-matched)) .0
 
   pub source-small : (r : ℕ) → is-receive (op s r) ≡ true → state-at x r ≡ 3 → rank-of s (partner-at x r) < P-of s
   source-small r receives e = g .rank-small (partner-at x r) (partner-inside r receives e)

@@ -61,7 +61,8 @@ pub state-name : (x : Job) {j i : ℕ} → j ≡ i → state-at x j ≡ state-at
 state-name x e = ap (λ (z : ℕ). state-at x z) e
 
 -- a pair is matched in y as in x where neither row changed
-pub met-same : {s : Sheet} {x y : Job} {m r : ℕ} → entry-at y m ≡ entry-at x m → entry-at y r ≡ entry-at x r → Met s x m r → Met s y m r
+pub met-same : {s : Sheet} {x y : Job} {m r : ℕ} → entry-at y m ≡ entry-at x m → entry-at y r ≡ entry-at x r → Met s x m r →
+    Met s y m r
 met-same a b h =
     record {
       sends = h .sends;
@@ -144,10 +145,12 @@ module _ {s : Sheet} {x y : Job} {m r i : ℕ} (M : Matches s x y m r i) where
 
   -- a row that was matched before is neither of the two
   matches-kept : (j : ℕ) → state-at x j ≡ 3 → entry-at y j ≡ entry-at x j
-  matches-kept j h = M .other j (λ e. M .message-free (state-name x (sym e) ∙ h)) (λ e. M .receive-free (state-name x (sym e) ∙ h))
+  matches-kept j h = M .other j (λ e. M .message-free (state-name x (sym e) ∙ h))
+      (λ e. M .receive-free (state-name x (sym e) ∙ h))
 
   matches-same : (j : ℕ) → state-at y j ≢ 3 → entry-at y j ≡ entry-at x j
-  matches-same j h = M .other j (λ e. h (state-name y e ∙ matches-message-state)) (λ e. h (state-name y e ∙ matches-receive-state))
+  matches-same j h = M .other j (λ e. h (state-name y e ∙ matches-message-state))
+      (λ e. h (state-name y e ∙ matches-receive-state))
 
   pub matches-grows : Grows x y i
   matches-grows =

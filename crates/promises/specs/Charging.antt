@@ -41,7 +41,8 @@ charging-other s {x} {y} {i} {v} E d r = sum-same (N-of s) (charge-in s x r) (ch
   where
     at : (j : ℕ) → Dec (j ≡ i) → charge-in s x r j ≡ charge-in s y r j
     at j (yes e) =
-        charge-none s x r j (λ c. omega (arith, E .fresh, state-name x e)) ∙ sym (charge-none s y r j (λ c. d (sym (enters-state E) ∙ state-name y (sym e) ∙ c)))
+        charge-none s x r j (λ c. omega (arith, E .fresh, state-name x e))
+        ∙ sym (charge-none s y r j (λ c. d (sym (enters-state E) ∙ state-name y (sym e) ∙ c)))
     at j (no c) = charge-same s x y r j (state-same (E .other j c))
 
 -- the charge of an operation by its two tests
@@ -49,7 +50,8 @@ charge-was : (s : Sheet) (x : Job) (q m : ℕ) (a b : Bool) → eqb (rank-of s m
     charge-in s x q m ≡ cond (a && b) (charge-of (op s m)) 0
 unfolding charge-in
 charge-was s x q m a b ea eb =
-    ap (λ (z : Bool). cond (z && eqb (state-at x m) 2) (charge-of (op s m)) 0) ea ∙ ap (λ (z : Bool). cond (a && z) (charge-of (op s m)) 0) eb
+    ap (λ (z : Bool). cond (z && eqb (state-at x m) 2) (charge-of (op s m)) 0) ea
+    ∙ ap (λ (z : Bool). cond (a && z) (charge-of (op s m)) 0) eb
 
 charge-told : (s : Sheet) (y : Job) (q i : ℕ) (a b : Bool) → eqb (rank-of s i) q ≡ a → state-at y i ≡ cond b 2 1 →
     charge-in s y q i ≡ cond (a && b) (charge-of (op s i)) 0
@@ -60,7 +62,8 @@ charge-told s y q i a b ea eb = charge-was s y q i a b ea (ap (λ (v : ℕ). eqb
     go false = refl
 
 -- a send of board r entered, buffered or not: n is in use before, q any board
-pub charging-enters : (s : Sheet) {x y : Job} {i : ℕ} (r q n : ℕ) → Enters x y i (unmatched-state (op s i)) → i < N-of s → rank-of s i ≡ r → is-send (op s i) ≡ true →
+pub charging-enters : (s : Sheet) {x y : Job} {i : ℕ} (r q n : ℕ) → Enters x y i (unmatched-state (op s i)) → i < N-of s →
+    rank-of s i ≡ r → is-send (op s i) ≡ true →
     n ≡ sum-below (N-of s) (charge-in s x q) → use-charged s r i q n ≡ sum-below (N-of s) (charge-in s y q)
 unfolding use-charged
 charging-enters s {x} {y} {i} r q n E l mine e told =
@@ -75,7 +78,8 @@ charging-enters s {x} {y} {i} r q n E l mine e told =
     rank-test true c = eq-eqb (rank-of s i) q (mine ∙ sym (eqb-true q r c))
     rank-test false c = ne-eqb (rank-of s i) q (λ k. true-not-false (eq-eqb q r (sym k ∙ mine)) c)
 
-    charge-now : (a : Bool) → eqb q r ≡ a → (b : Bool) → is-buffered (op s i) ≡ b → charge-in s y q i ≡ cond (a && b) (charge-of (op s i)) 0
+    charge-now : (a : Bool) → eqb q r ≡ a → (b : Bool) → is-buffered (op s i) ≡ b →
+        charge-in s y q i ≡ cond (a && b) (charge-of (op s i)) 0
     charge-now a ea b eb = charge-told s y q i a b (rank-test a ea) (state b eb)
 
     go : (a : Bool) → eqb q r ≡ a → (b : Bool) → is-buffered (op s i) ≡ b →

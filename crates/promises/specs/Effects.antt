@@ -39,10 +39,12 @@ module _ (s : Sheet) (g : Good s) (lent : List ℕ) (x : Job) (R : Reached s len
   outcome-half w = go (is-wait (op s here)) (R .placed .waiting-no-wait r (n .rank-small) w)
     where
       go : (b : Bool) → b ≡ false →
-          Outcome s x (with-steps (suc (x .steps)) (with-place r (one-finished (place-at x r)) (cond b (with-state here 5 x) x))) r here
+          Outcome s x (with-steps (suc (x .steps)) (with-place r (one-finished (place-at x r)) (cond b (with-state here 5 x) x)))
+          r here
       go true e = true-not-false refl e
       go false e =
-          let m = stepped-moved (with-steps (suc (x .steps)) (with-place r (one-finished (place-at x r)) x)) (used-kept s x (R .in-use-peak)) r true places-inside refl refl refl refl in
+          let m = stepped-moved (with-steps (suc (x .steps)) (with-place r (one-finished (place-at x r)) x))
+          (used-kept s x (R .in-use-peak)) r true places-inside refl refl refl refl in
           ends-half w (m .0)
           (record {
             messages = refl;
@@ -52,7 +54,8 @@ module _ (s : Sheet) (g : Good s) (lent : List ℕ) (x : Job) (R : Reached s len
           (m .1) refl
 
   -- a wait ends
-  outcome-wait : place-at x r .waiting ≡ false → is-wait (op s here) ≡ true → Outcome s x (with-steps (suc (x .steps)) (ended s r here x)) r here
+  outcome-wait : place-at x r .waiting ≡ false → is-wait (op s here) ≡ true →
+      Outcome s x (with-steps (suc (x .steps)) (ended s r here x)) r here
   unfolding ended with-place with-places with-steps with-state with-entries job place-at
   outcome-wait w e = go (is-wait (op s here)) e
     where
@@ -60,10 +63,12 @@ module _ (s : Sheet) (g : Good s) (lent : List ℕ) (x : Job) (R : Reached s len
       y = with-steps (suc (x .steps)) (with-place r (one-finished (place-at x r)) (with-state here 5 x))
 
       go : (b : Bool) → b ≡ true →
-          Outcome s x (with-steps (suc (x .steps)) (with-place r (one-finished (place-at x r)) (cond b (with-state here 5 x) x))) r here
+          Outcome s x (with-steps (suc (x .steps)) (with-place r (one-finished (place-at x r)) (cond b (with-state here 5 x) x)))
+          r here
       go false c = true-not-false c refl
       go true c =
-          let m = stepped-moved y (used-kept s x (R .in-use-peak)) r true places-inside refl (length-set (x .entries) here (bare-entry 5)) refl refl in
+          let m = stepped-moved y (used-kept s x (R .in-use-peak)) r true places-inside refl
+          (length-set (x .entries) here (bare-entry 5)) refl refl in
           ends-wait w e (m .0)
           (record {
             messages = refl;
@@ -78,42 +83,51 @@ module _ (s : Sheet) (g : Good s) (lent : List ℕ) (x : Job) (R : Reached s len
   unfolding initiated pend-receive with-receives with-place with-places with-steps with-state with-entries job place-at
   outcome-posts w e none-fits =
       let y = with-steps (suc (x .steps)) (initiated s r here (pend-receive here x)) in
-      let m = stepped-moved y (used-kept s x (R .in-use-peak)) r (is-nonblocking (op s here)) places-inside refl (length-set (x .entries) here (bare-entry 1)) refl refl in
-      posts w e (m .0) (m .1) (set-enters x y here 1 (next-fresh s x r (R .placed) n w) entries-inside (omega arith) (omega arith) refl) refl refl refl none-fits
+      let m = stepped-moved y (used-kept s x (R .in-use-peak)) r (is-nonblocking (op s here)) places-inside refl
+      (length-set (x .entries) here (bare-entry 1)) refl refl in
+      posts w e (m .0) (m .1) (set-enters x y here 1 (next-fresh s x r (R .placed) n w) entries-inside (omega arith)
+      (omega arith) refl) refl refl refl none-fits
 
   -- a send is pending, buffered or not
-  outcome-pends : place-at x r .waiting ≡ false → is-send (op s here) ≡ true → is-buffered (op s here) ≡ false → first-receive s here (x .receives) ≡ none →
+  outcome-pends : place-at x r .waiting ≡ false → is-send (op s here) ≡ true → is-buffered (op s here) ≡ false →
+      first-receive s here (x .receives) ≡ none →
       Outcome s x (with-steps (suc (x .steps)) (initiated s r here (pend-message here 1 x))) r here
   unfolding initiated pend-message with-messages with-place with-places with-steps with-state with-entries job place-at
   outcome-pends w e b none-fits =
       let y = with-steps (suc (x .steps)) (initiated s r here (pend-message here 1 x)) in
-      let m = stepped-moved y (used-uncharged s x (R .in-use-peak) r here b) r (is-nonblocking (op s here)) places-inside refl (length-set (x .entries) here (bare-entry 1)) refl refl in
+      let m = stepped-moved y (used-uncharged s x (R .in-use-peak) r here b) r (is-nonblocking (op s here)) places-inside refl
+      (length-set (x .entries) here (bare-entry 1)) refl refl in
       pends w e (m .0) (m .1)
       (subst (λ (v : ℕ). Enters x y here v) (sym (unmatched-send s here e ∙ ap (λ (c : Bool). cond c 2 1) b))
       (set-enters x y here 1 (next-fresh s x r (R .placed) n w) entries-inside (omega arith) (omega arith) refl))
       refl refl refl none-fits (λ c. true-not-false c b)
 
-  outcome-buffers : place-at x r .waiting ≡ false → is-send (op s here) ≡ true → is-buffered (op s here) ≡ true → first-receive s here (x .receives) ≡ none →
+  outcome-buffers : place-at x r .waiting ≡ false → is-send (op s here) ≡ true → is-buffered (op s here) ≡ true →
+      first-receive s here (x .receives) ≡ none →
       fits-buffer s r here x ≡ true →
       Outcome s x (with-steps (suc (x .steps)) (initiated s r here (charge s r here (pend-message here 2 x)))) r here
   unfolding initiated charge pend-message with-messages with-place with-places with-steps with-state with-entries job place-at
   outcome-buffers w e b none-fits room =
       let y = with-steps (suc (x .steps)) (initiated s r here (charge s r here (pend-message here 2 x))) in
-      let m = stepped-moved y (used-charged s x (R .in-use-peak) r here places-inside b) r (is-nonblocking (op s here)) places-inside refl (length-set (x .entries) here (bare-entry 2)) refl refl in
+      let m = stepped-moved y (used-charged s x (R .in-use-peak) r here places-inside b) r
+      (is-nonblocking (op s here)) places-inside refl (length-set (x .entries) here (bare-entry 2)) refl refl in
       pends w e (m .0) (m .1)
       (subst (λ (v : ℕ). Enters x y here v) (sym (unmatched-send s here e ∙ ap (λ (c : Bool). cond c 2 1) b))
       (set-enters x y here 2 (next-fresh s x r (R .placed) n w) entries-inside (omega arith) (omega arith) refl))
       refl refl refl none-fits (λ c. room)
 
   -- a message and a receive are matched
-  outcome-meets : (m q : ℕ) → place-at x r .waiting ≡ false → is-send (op s m) ≡ true → is-receive (op s q) ≡ true → fits-with s m q ≡ true →
+  outcome-meets : (m q : ℕ) → place-at x r .waiting ≡ false → is-send (op s m) ≡ true → is-receive (op s q) ≡ true →
+      fits-with s m q ≡ true →
       m < N-of s → q < N-of s → state-at x m ≢ 3 → state-at x q ≢ 3 → (m ≢ here → Entered x m) → (q ≢ here → Entered x q) →
-      ((q ≡ here) × (first-message s here (x .messages) ≡ some m)) ⊎ ((m ≡ here) × (first-receive s here (x .receives) ≡ some q)) →
+      ((q ≡ here) × (first-message s here (x .messages) ≡ some m)) ⊎ ((m ≡ here) × (first-receive s here (x .receives) ≡ some q))
+      →
       Outcome s x (with-steps (suc (x .steps)) (initiated s r here (matched s m q x))) r here
   unfolding initiated with-place with-places with-steps job place-at entry-at
   outcome-meets m q w sm rq fit lm lq free-m free-q there-m there-q found =
       subst (λ (z : Job). Outcome s x (with-steps (suc (x .steps)) (initiated s r here z)) r here) (sym (matched-is s m q x))
-      (let p = stepped-moved y (used-released s x (R .in-use-peak) m (omega (arith, g .rank-small m lm, R .placed .places-long))) r nb places-inside refl
+      (let p = stepped-moved y (used-released s x (R .in-use-peak) m (omega (arith, g .rank-small m lm, R .placed .places-long)))
+      r nb places-inside refl
       (length-set (set (x .entries) m A) q B ∙ length-set (x .entries) m A) refl refl in
       meets m q w (p .0) (p .1) rows refl refl refl found)
     where
@@ -131,13 +145,15 @@ module _ (s : Sheet) (g : Good s) (lent : List ℕ) (x : Job) (R : Reached s len
 
       y : Job
       y =
-          job (set (set (x .entries) m A) q B) (stepped-places (released-places s x m) r nb) (without m (x .messages)) (without q (x .receives))
+          job (set (set (x .entries) m A) q B) (stepped-places (released-places s x m) r nb) (without m (x .messages))
+          (without q (x .receives))
           (delivered s m q (x .memory)) (x .stop) (suc (x .steps))
 
       long : length (x .entries) ≡ N-of s
       long = R .placed .entries-long
 
-      one : ((q ≡ here) × (first-message s here (x .messages) ≡ some m)) ⊎ ((m ≡ here) × (first-receive s here (x .receives) ≡ some q)) →
+      one : ((q ≡ here) × (first-message s here (x .messages) ≡ some m)) ⊎ ((m ≡ here)
+          × (first-receive s here (x .receives) ≡ some q)) →
           (here ≡ m) ⊎ (here ≡ q)
       one (inl e) = inr (sym (e .0))
       one (inr e) = inl (sym (e .0))
@@ -148,7 +164,8 @@ module _ (s : Sheet) (g : Good s) (lent : List ℕ) (x : Job) (R : Reached s len
             sends = sm;
             receives = rq;
             fit = fit;
-            message-row = getD-set-other (set (x .entries) m A) q m B z (send-receive-differ s m q sm rq) ∙ getD-set-same (x .entries) m A z (omega (arith, long));
+            message-row = getD-set-other (set (x .entries) m A) q m B z (send-receive-differ s m q sm rq)
+                ∙ getD-set-same (x .entries) m A z (omega (arith, long));
             receive-row = getD-set-same (set (x .entries) m A) q B z (omega (arith, long, length-set (x .entries) m A));
             other = λ j a b. getD-set-other (set (x .entries) m A) q j B z b ∙ getD-set-other (x .entries) m j A z a;
             message-free = free-m;
@@ -160,16 +177,19 @@ module _ (s : Sheet) (g : Good s) (lent : List ℕ) (x : Job) (R : Reached s len
           }
 
   -- what the searches find is pending, and fits
-  found-message : (m : ℕ) → first-message s here (x .messages) ≡ some m → Found (Came-before (R .came)) (λ k. fits-with s k here) (x .messages) m
+  found-message : (m : ℕ) → first-message s here (x .messages) ≡ some m →
+      Found (Came-before (R .came)) (λ k. fits-with s k here) (x .messages) m
   unfolding first-message
   found-message m e = first-by-some (λ k. fits-with s k here) (x .messages) (R .messages-held .sorted) m e
 
-  found-receive : (q : ℕ) → first-receive s here (x .receives) ≡ some q → Found (Posted-before s) (λ k. fits-with s here k) (x .receives) q
+  found-receive : (q : ℕ) → first-receive s here (x .receives) ≡ some q →
+      Found (Posted-before s) (λ k. fits-with s here k) (x .receives) q
   unfolding first-receive
   found-receive q e = first-by-some (λ k. fits-with s here k) (x .receives) (R .receives-held .sorted) q e
 
   -- INITIATING
-  outcome-received : (o : Option ℕ) → first-message s here (x .messages) ≡ o → place-at x r .waiting ≡ false → is-receive (op s here) ≡ true →
+  outcome-received : (o : Option ℕ) → first-message s here (x .messages) ≡ o → place-at x r .waiting ≡ false →
+      is-receive (op s here) ≡ true →
       Outcome s x (with-steps (suc (x .steps)) (received s r here o x)) r here
   unfolding received
   outcome-received none e w k = outcome-posts w k e
@@ -188,14 +208,16 @@ module _ (s : Sheet) (g : Good s) (lent : List ℕ) (x : Job) (R : Reached s len
           Outcome s x
           (with-steps (suc (x .steps))
           (cond a (stopped 4 r here x)
-          (cond b (cond c (initiated s r here (charge s r here (pend-message here 2 x))) (stopped 3 r here x)) (initiated s r here (pend-message here 1 x)))))
+          (cond b (cond c (initiated s r here (charge s r here (pend-message here 2 x))) (stopped 3 r here x))
+          (initiated s r here (pend-message here 1 x)))))
           r here
       go true b h c f = stops 4 (inr refl) w k e refl
       go false true h true f = outcome-buffers w k h e f
       go false true h false f = stops 3 (inl refl) w k e refl
       go false false h c f = outcome-pends w k h e
 
-  outcome-sent : (o : Option ℕ) → first-receive s here (x .receives) ≡ o → place-at x r .waiting ≡ false → is-send (op s here) ≡ true →
+  outcome-sent : (o : Option ℕ) → first-receive s here (x .receives) ≡ o → place-at x r .waiting ≡ false →
+      is-send (op s here) ≡ true →
       Outcome s x (with-steps (suc (x .steps)) (sent s r here o x)) r here
   unfolding sent
   outcome-sent none e w k = outcome-unmatched w k e
@@ -203,17 +225,20 @@ module _ (s : Sheet) (g : Good s) (lent : List ℕ) (x : Job) (R : Reached s len
       let f = found-receive q e in
       let p = R .receives-held .sound q (f .member) in
       outcome-meets here q w k (p .receives) (f .passes) (n .inside) (R .placed .entered-only q (p .entered) .0)
-      (λ c. omega (arith, next-fresh s x r (R .placed) n w)) (p .unmatched) (λ d. absurd (d refl)) (λ d. p .entered) (inr (refl, e))
+      (λ c. omega (arith, next-fresh s x r (R .placed) n w)) (p .unmatched) (λ d. absurd (d refl)) (λ d. p .entered)
+      (inr (refl, e))
 
   pub outcome : Outcome s x (step s r x) r here
   unfolding step in-waiting-half initiating
   outcome = go (place-at x r .waiting) refl (is-wait (op s here)) refl (is-receive (op s here)) refl
     where
-      go : (w : Bool) → place-at x r .waiting ≡ w → (a : Bool) → is-wait (op s here) ≡ a → (b : Bool) → is-receive (op s here) ≡ b →
+      go : (w : Bool) → place-at x r .waiting ≡ w → (a : Bool) → is-wait (op s here) ≡ a → (b : Bool) →
+          is-receive (op s here) ≡ b →
           Outcome s x
           (with-steps (suc (x .steps))
           (cond (w || a) (ended s r here x)
-          (cond b (received s r here (first-message s here (x .messages)) x) (sent s r here (first-receive s here (x .receives)) x))))
+          (cond b (received s r here (first-message s here (x .messages)) x)
+          (sent s r here (first-receive s here (x .receives)) x))))
           r here
       go true e a f b h = outcome-half e
       go false e true f b h = outcome-wait e f

@@ -34,7 +34,8 @@ module _ {bs i : List ℕ} (h : Given bs i) where
       }
 
   -- two orders after which no board is able
-  full-alike : (a b : List ℕ) → none-able s (left-by s a i) ≡ true → none-able s (left-by s b i) ≡ true → Alike s (left-by s a i) (left-by s b i)
+  full-alike : (a b : List ℕ) → none-able s (left-by s a i) ≡ true → none-able s (left-by s b i) ≡ true →
+      Alike s (left-by s a i) (left-by s b i)
   full-alike a b full-a full-b =
       let g = lent-good lent in
       let A = ground s g in
@@ -47,7 +48,8 @@ unfolding Ends-alike Run-ends
 ends-alike bs i a b h accepted-a accepted-b full-a full-b =
     let E = run-ends bs i (lent h) in
     let order = run (sheet-in bs) i .order in
-    let full-run : none-able (sheet-in bs) (left-by (sheet-in bs) order i) ≡ true = ap (λ (x : Job). none-able (sheet-in bs) x) (E .same-job) ∙ E .none-left in (
+    let full-run : none-able (sheet-in bs) (left-by (sheet-in bs) order i) ≡ true =
+    ap (λ (x : Job). none-able (sheet-in bs) x) (E .same-job) ∙ E .none-left in (
       full-alike h a b full-a full-b,
       subst (λ (x : Job). Alike (sheet-in bs) (left-by (sheet-in bs) a i) x) (E .same-job) (full-alike h a order full-a full-run),
     )

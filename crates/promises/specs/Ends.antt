@@ -32,7 +32,8 @@ use Rattle.promises.specs.Calm.{calm-going, calm-order}
 start-stand : {s : Sheet} → Good s → (lent : List ℕ) (r : ℕ) → stand (started s lent) r ≡ 0
 unfolding stand
 start-stand {s} g lent r =
-    ap (λ (b : Bool). 2 * place-at (started s lent) r .finished + cond b 1 0) (start-waiting g lent r) ∙ omega (arith, start-finished g lent r)
+    ap (λ (b : Bool). 2 * place-at (started s lent) r .finished + cond b 1 0) (start-waiting g lent r)
+    ∙ omega (arith, start-finished g lent r)
 
 -- x is reached, and behind y
 record Catching (s : Sheet) (i : List ℕ) (y x : Job) : Type 0 where
@@ -70,7 +71,8 @@ module _ {s : Sheet} (g : Good s) (A : Ground s) (c : calm s ≡ true) (i : List
     not-between : in-waiting-half s x r || is-nonblocking (op s (next-op s x r)) ≡ true → place-at x r .waiting ≡ false →
         place-at y r .finished ≡ place-at x r .finished → place-at y r .waiting ≡ true → ⊥
     unfolding in-waiting-half next-op
-    not-between h w e v = go (is-wait (op s k)) refl (is-nonblocking (op s k)) refl (sym (ap (λ (b : Bool). (b || is-wait (op s k)) || is-nonblocking (op s k)) w) ∙ h)
+    not-between h w e v = go (is-wait (op s k)) refl (is-nonblocking (op s k)) refl
+        (sym (ap (λ (b : Bool). (b || is-wait (op s k)) || is-nonblocking (op s k)) w) ∙ h)
       where
         k : ℕ
         k = board s r .first + place-at x r .finished
@@ -79,8 +81,10 @@ module _ {s : Sheet} (g : Good s) (A : Ground s) (c : calm s ≡ true) (i : List
         same = ap (λ (z : ℕ). board s r .first + z) e
 
         go : (a : Bool) → is-wait (op s k) ≡ a → (b : Bool) → is-nonblocking (op s k) ≡ b → a || b ≡ true → ⊥
-        go true p b q o = true-not-false p (ap (λ (z : ℕ). is-wait (op s z)) (sym same) ∙ Y .placed .waiting-no-wait r (n .rank-small) v)
-        go false p true q o = true-not-false q (ap (λ (z : ℕ). is-nonblocking (op s z)) (sym same) ∙ Y .placed .waiting-blocking r (n .rank-small) v)
+        go true p b q o = true-not-false p (ap (λ (z : ℕ). is-wait (op s z)) (sym same)
+            ∙ Y .placed .waiting-no-wait r (n .rank-small) v)
+        go false p true q o = true-not-false q
+            (ap (λ (z : ℕ). is-nonblocking (op s z)) (sym same) ∙ Y .placed .waiting-blocking r (n .rank-small) v)
         go false p false q o = true-not-false o refl
 
     stepped-before : stand (step s r x) r ≤ stand y r
@@ -94,8 +98,10 @@ module _ {s : Sheet} (g : Good s) (A : Ground s) (c : calm s ≡ true) (i : List
         h : ℕ
         h = place-at y r .finished
 
-        go : (last : Bool) → finishing s x r ≡ last → (w : Bool) → place-at x r .waiting ≡ w → (v : Bool) → place-at y r .waiting ≡ v →
-            stand (step s r x) r ≡ stand-on last f → 2 * f + cond w 1 0 < 2 * h + cond v 1 0 → stand (step s r x) r ≤ 2 * h + cond v 1 0
+        go : (last : Bool) → finishing s x r ≡ last → (w : Bool) → place-at x r .waiting ≡ w → (v : Bool) →
+            place-at y r .waiting ≡ v →
+            stand (step s r x) r ≡ stand-on last f → 2 * f + cond w 1 0 < 2 * h + cond v 1 0 →
+            stand (step s r x) r ≤ 2 * h + cond v 1 0
         go false p w q v o e l = omega (arith, e)
         go true p true q v o e l = omega (arith, e)
         go true p false q false o e l = omega (arith, e)
@@ -132,10 +138,12 @@ pub calm-left : {s : Sheet} → Good s → Ground s → calm s ≡ true → (rs 
     Reached s lent (left-by s rs lent) × (left-by s rs lent .stop ≡ none)
 unfolding started job
 calm-left {s} g A c rs lent room =
-    left-keeps s (λ x. Reached s lent x × (x .stop ≡ none)) (λ x r h a. (step-sound g A room (h .0) r a .reached, calm-going g c (h .0) r a)) rs lent (start-reached g lent, refl)
+    left-keeps s (λ x. Reached s lent x × (x .stop ≡ none))
+    (λ x r h a. (step-sound g A room (h .0) r a .reached, calm-going g c (h .0) r a)) rs lent (start-reached g lent, refl)
 
 -- STEPS by where the boards stand
-steps-same : {s : Sheet} → Good s → (x y : Job) → ((r : ℕ) → r < P-of s → stand x r ≡ stand y r) → sum-below (N-of s) (steps-done s x) ≡ sum-below (N-of s) (steps-done s y)
+steps-same : {s : Sheet} → Good s → (x y : Job) → ((r : ℕ) → r < P-of s → stand x r ≡ stand y r) →
+    sum-below (N-of s) (steps-done s x) ≡ sum-below (N-of s) (steps-done s y)
 unfolding steps-done reach next-op
 steps-same {s} g x y same = sum-same (N-of s) (steps-done s x) (steps-done s y) at
   where
@@ -175,4 +183,9 @@ ends-like {s} g A c a b lent room end-a end-b X Y =
     going-y = calm-left g A c b lent room .1
 
     places : (r : ℕ) → r < P-of s → stand x r ≡ stand y r
-    places r l = omega (arith, left-behind g A c lent room Y going-y end-b a r l, left-behind g A c lent room X going-x end-a b r l)
+    places r l = omega (
+      arith,
+      left-behind g A c lent room Y going-y end-b a r l,
+      left-behind g A c lent room X going-x end-a b r
+          l,
+    )

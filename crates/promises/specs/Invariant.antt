@@ -71,7 +71,8 @@ pub record Stable (s : Sheet) (came : ℕ → ℕ) (x : Job) : Type 0 where
 pub record Arrived (s : Sheet) (came : ℕ → ℕ) (x : Job) : Type 0 where
   pub past : (m : ℕ) → Entered x m → came m < x .steps
   pub apart : (k m : ℕ) → is-send (op s k) ≡ true → is-send (op s m) ≡ true → Entered x k → Entered x m → came k ≡ came m → k ≡ m
-  pub in-script : (k m : ℕ) → is-send (op s k) ≡ true → is-send (op s m) ≡ true → Entered x k → Entered x m → rank-of s k ≡ rank-of s m →
+  pub in-script : (k m : ℕ) → is-send (op s k) ≡ true → is-send (op s m) ≡ true → Entered x k → Entered x m →
+      rank-of s k ≡ rank-of s m →
       k < m → came k < came m
 
 -- PLACED: a board has entered its operations up to here
@@ -92,13 +93,15 @@ pub record Placed (s : Sheet) (x : Job) : Type 0 where
   pub entered-if : (j : ℕ) → j < N-of s → j < reach s x (rank-of s j) → Entered x j
   pub entered-only : (j : ℕ) → Entered x j → (j < N-of s) × (j < reach s x (rank-of s j))
   -- a finished operation that is a wait or blocking had what it waited for complete (disjoint areas)
-  pub passed-complete : (j : ℕ) → j < N-of s → j < next-op s x (rank-of s j) → is-nonblocking (op s j) ≡ false → half-complete s x j ≡ true
+  pub passed-complete : (j : ℕ) → j < N-of s → j < next-op s x (rank-of s j) → is-nonblocking (op s j) ≡ false →
+      half-complete s x j ≡ true
 
 -- SHAPED: a row by its state and partner
 unfoldable pub row-of : Sheet → (j state partner : ℕ) → Entry
 row-of s j v p =
     cond (eqb v 3)
-    (cond (is-receive (op s j)) (entry 3 (cond (is-cut s p j) 1 0) p (rank-of s p) (op s p .tag) (op s p .long)) (entry 3 0 p absent absent 0))
+    (cond (is-receive (op s j)) (entry 3 (cond (is-cut s p j) 1 0) p (rank-of s p) (op s p .tag) (op s p .long))
+    (entry 3 0 p absent absent 0))
     (bare-entry v)
 
 -- the state of an entered operation that is not matched

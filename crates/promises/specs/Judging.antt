@@ -23,11 +23,13 @@ use Rattle.promises.specs.Moves.{able-next}
 use Rattle.promises.specs.Lowest.{next-able, next-none}
 
 -- ALL FINISHED
-all-finished-every : (k r : ℕ) (s : Sheet) (x : Job) → all-finished k r s x ≡ true → (q : ℕ) → r ≤ q → q < r + k → is-finished s x q ≡ true
+all-finished-every : (k r : ℕ) (s : Sheet) (x : Job) → all-finished k r s x ≡ true → (q : ℕ) → r ≤ q → q < r + k →
+    is-finished s x q ≡ true
 unfolding all-finished
 all-finished-every zero r s x h q a b = absurd (omega arith)
 all-finished-every (suc k) r s x h q a b =
-    go (ℕ-discrete r q) (λ c. all-finished-every k (suc r) s x (and-right (is-finished s x r) (all-finished k (suc r) s x) h) q c (omega arith))
+    go (ℕ-discrete r q) (λ c. all-finished-every k (suc r) s x (and-right (is-finished s x r) (all-finished k (suc r) s x) h) q c
+    (omega arith))
   where
     go : Dec (r ≡ q) → (suc r ≤ q → is-finished s x q ≡ true) → is-finished s x q ≡ true
     go (yes e) later = subst (λ (z : ℕ). is-finished s x z ≡ true) e (and-left (is-finished s x r) (all-finished k (suc r) s x) h)
@@ -42,7 +44,8 @@ unfolding all-finished
 all-finished-not zero r s x h = true-not-false refl h
 all-finished-not (suc k) r s x h = go (is-finished s x r) refl h (all-finished-not k (suc r) s x)
   where
-    go : (b : Bool) → is-finished s x r ≡ b → b && all-finished k (suc r) s x ≡ false → (all-finished k (suc r) s x ≡ false → Unfinished s x k (suc r)) → Unfinished s x (suc k) r
+    go : (b : Bool) → is-finished s x r ≡ b → b && all-finished k (suc r) s x ≡ false →
+        (all-finished k (suc r) s x ≡ false → Unfinished s x k (suc r)) → Unfinished s x (suc k) r
     go true e h later = let u = later h in (u .0, omega (arith, u .1), omega (arith, u .2), u .3)
     go false e h later = (r, omega arith, omega arith, e)
 
@@ -151,7 +154,8 @@ module _ (s : Sheet) (g : Good s) (x : Job) (stop-at : (t : Stop) → x .stop �
       unfinished : all-finished (P-of s) 0 s x ≡ false → (r : ℕ) × (r < P-of s) × (is-finished s x r ≡ false)
       unfinished h = let u = all-finished-not (P-of s) 0 s x h in (u .0, omega (arith, u .2), u .3)
 
-      going : x .stop ≡ none → (a : Bool) → all-finished (P-of s) 0 s x ≡ a → (b : Bool) → none-able s x ≡ b → Verdict-exact s x (cond a 1 (cond b 2 0))
+      going : x .stop ≡ none → (a : Bool) → all-finished (P-of s) 0 s x ≡ a → (b : Bool) → none-able s x ≡ b →
+          Verdict-exact s x (cond a 1 (cond b 2 0))
       going e true h b k = verdict-finished e (λ r l. all-finished-every (P-of s) 0 s x h r (omega arith) (omega arith))
       going e false h true k = verdict-deadlock e (unfinished h) (next-none s g x k)
       going e false h false k = verdict-able e (unfinished h) (next-able s x k)

@@ -16,7 +16,8 @@ use Rattle.promises.specs.Invariant.{Entered, state-at, partner-at, Met,
 -- of messages that one receive could take, what came before one of x's messages in y came before it in x
 abbrev pub Same-order : Sheet → (ℕ → ℕ) → Job → (ℕ → ℕ) → Job → Type 0
 Same-order s cx x cy y =
-    (k m r : ℕ) → is-send (op s k) ≡ true → is-send (op s m) ≡ true → is-receive (op s r) ≡ true → fits-with s k r ≡ true → fits-with s m r ≡ true →
+    (k m r : ℕ) → is-send (op s k) ≡ true → is-send (op s m) ≡ true → is-receive (op s r) ≡ true → fits-with s k r ≡ true →
+    fits-with s m r ≡ true →
     Entered x m → Entered y k → cy k < cy m → Entered x k × (cx k < cx m)
 
 -- x is within y: see above. `cx` and `cy` give the order of arrival in each
@@ -68,7 +69,8 @@ module _ (s : Sheet) (cx : ℕ → ℕ) (x : Job) (cy : ℕ → ℕ) (y : Job) (
       go (no n) (yes l) =
           let w = W .order k m r (b .sends) (a .sends) (a .receives) (b .fit) (a .fit) m-there k-there l in
           let t = X .first-sent m r k a (b .sends) (w .0) (w .1) (b .fit) in
-          let e : partner-at x k ≡ r = met-receive-same (below k (partner-at x k) (t .1) (X .message-met k (b .sends) (t .0))) b in
+          let e : partner-at x k ≡ r = met-receive-same
+          (below k (partner-at x k) (t .1) (X .message-met k (b .sends) (t .0))) b in
           omega (arith, t .1)
       go (no n) (no o) = d (A .apart k m (b .sends) (a .sends) k-there (W .entered m m-there) (omega arith))
 

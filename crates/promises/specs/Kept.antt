@@ -44,5 +44,9 @@ in-use bs i rs r h l = in-use-reached (lent-reached h rs) r l
 pub peaks : Peaks
 unfolding Peaks left-by follow
 peaks bs i rs r h =
-    omega
-    (arith, follow-peak (lent-good h) (ground (sheet-in bs) (lent-good h)) (h .room) r 0 rs (start-reached (lent-good h) i), start-peak (lent-good h) i r)
+    omega (
+      arith,
+      follow-peak (lent-good h) (ground (sheet-in bs) (lent-good h)) (h .room) r 0 rs
+          (start-reached (lent-good h) i),
+      start-peak (lent-good h) i r,
+    )

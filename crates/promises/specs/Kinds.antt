@@ -32,7 +32,11 @@ wait-kind o e = eqb-true (o .kind) 6 e
 
 pub send-kind : (o : Op) → is-send o ≡ true → (1 ≤ o .kind) × (o .kind ≤ 4)
 unfolding is-send
-send-kind o e = (leb-true 1 (o .kind) (and-left (leb 1 (o .kind)) (leb (o .kind) 4) e), leb-true (o .kind) 4 (and-right (leb 1 (o .kind)) (leb (o .kind) 4) e))
+send-kind o e = (
+  leb-true 1 (o .kind) (and-left (leb 1 (o .kind)) (leb (o .kind) 4) e),
+  leb-true (o .kind) 4
+      (and-right (leb 1 (o .kind)) (leb (o .kind) 4) e),
+)
 
 pub send-no-receive : (o : Op) → is-send o ≡ true → is-receive o ≡ false
 send-no-receive o e = not-so (is-receive o) (λ h. omega (arith, send-kind o e, receive-kind o h))
@@ -58,9 +62,11 @@ module _ (s : Sheet) (g : Good s) (i : ℕ) (l : i < N-of s) where
   -- what is neither a receive nor a wait is a send
   pub kind-send : is-wait (op s i) ≡ false → is-receive (op s i) ≡ false → is-send (op s i) ≡ true
   unfolding op-good fields-good
-  kind-send w r = go (is-wait (op s i)) w (is-receive (op s i)) r (is-send (op s i)) (envelope-good (P-of s) (s .comms) (op s i) && extent-good (room-for s i) (op s i)) (g .ops-good i l)
+  kind-send w r = go (is-wait (op s i)) w (is-receive (op s i)) r (is-send (op s i))
+      (envelope-good (P-of s) (s .comms) (op s i) && extent-good (room-for s i) (op s i)) (g .ops-good i l)
     where
-      go : (b : Bool) → b ≡ false → (c : Bool) → c ≡ false → (d e : Bool) → cond b (wait-good (op s i)) ((d || c) && e) ≡ true → d ≡ true
+      go : (b : Bool) → b ≡ false → (c : Bool) → c ≡ false → (d e : Bool) → cond b (wait-good (op s i)) ((d || c) && e) ≡ true →
+          d ≡ true
       go true p c q d e h = true-not-false refl p
       go false p true q d e h = true-not-false refl q
       go false p false q true e h = refl
@@ -81,7 +87,9 @@ module _ (s : Sheet) (g : Good s) (i : ℕ) (l : i < N-of s) where
           let c = (eqb (o .tag) 0 && eqb (o .offset) 0) && (eqb (o .long) 0 && ltb (o .slot) slot-limit) in
           and-left (eqb (o .flag) 0) (eqb (o .peer) 0) (and-left a b (and-left (a && b) c h))
 
-      go : (b : Bool) → b ≡ true → cond b (wait-good (op s i)) ((is-send (op s i) || is-receive (op s i)) && (envelope-good (P-of s) (s .comms) (op s i) && extent-good (room-for s i) (op s i))) ≡ true →
+      go : (b : Bool) → b ≡ true → cond b (wait-good (op s i))
+          ((is-send (op s i) || is-receive (op s i)) && (envelope-good (P-of s) (s .comms) (op s i) && extent-good (room-for s i)
+          (op s i))) ≡ true →
           eqb (op s i .flag) 1 ≡ false
       go true p h = ne-eqb (op s i .flag) 1 (λ e. omega (arith, eqb-true (op s i .flag) 0 (flag-zero h)))
       go false p h = true-not-false p refl
@@ -103,15 +111,18 @@ module _ (s : Sheet) (m r : ℕ) (f : fits-with s m r ≡ true) where
   -- the message is addressed to the receive's board
   pub fit-board : op s m .peer ≡ rank-of s r
   unfolding fits-with
-  fit-board = eqb-true (op s m .peer) (rank-of s r) (and-left addressed comms-equal (and-left (addressed && comms-equal) (source-fits && tag-fits) f))
+  fit-board = eqb-true (op s m .peer) (rank-of s r)
+      (and-left addressed comms-equal (and-left (addressed && comms-equal) (source-fits && tag-fits) f))
 
   -- the receive names any source, or the message's
   pub fit-source : (op s r .peer ≡ any) ⊎ (op s r .peer ≡ rank-of s m)
   unfolding fits-with
   fit-source =
-      go (or-cases (eqb (op s r .peer) any) (eqb (op s r .peer) (rank-of s m)) (and-left source-fits tag-fits (and-right (addressed && comms-equal) (source-fits && tag-fits) f)))
+      go (or-cases (eqb (op s r .peer) any) (eqb (op s r .peer) (rank-of s m))
+      (and-left source-fits tag-fits (and-right (addressed && comms-equal) (source-fits && tag-fits) f)))
     where
-      go : (eqb (op s r .peer) any ≡ true) ⊎ (eqb (op s r .peer) (rank-of s m) ≡ true) → (op s r .peer ≡ any) ⊎ (op s r .peer ≡ rank-of s m)
+      go : (eqb (op s r .peer) any ≡ true) ⊎ (eqb (op s r .peer) (rank-of s m) ≡ true) →
+          (op s r .peer ≡ any) ⊎ (op s r .peer ≡ rank-of s m)
       go (inl e) = inl (eqb-true (op s r .peer) any e)
       go (inr e) = inr (eqb-true (op s r .peer) (rank-of s m) e)
 

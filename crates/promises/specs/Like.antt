@@ -40,7 +40,8 @@ pub record Like {s : Sheet} {i j : List ℕ} {x y : Job} (X : Reached s i x) (Y 
   pub order-back : Same-order s (Y .came) y (X .came) x
 
 -- a search finds nothing in both lists, or something in both
-none-found : (f : ℕ → Bool) (a b : List ℕ) → ((v : ℕ) → first-by f b ≡ some v → first-by f a ≡ none → ⊥) → first-by f a ≡ none → first-by f b ≡ none
+none-found : (f : ℕ → Bool) (a b : List ℕ) → ((v : ℕ) → first-by f b ≡ some v → first-by f a ≡ none → ⊥) → first-by f a ≡ none →
+    first-by f b ≡ none
 none-found f a b h e = go (first-by f b) refl
   where
     go : (o : Option ℕ) → first-by f b ≡ o → o ≡ none
@@ -108,18 +109,24 @@ module _ {s : Sheet} (g : Good s) {i j : List ℕ} {x y : Job} {X : Reached s i 
   same-found m =
       is-none-same (first-by f (x .receives)) (first-by f (y .receives))
       (none-found f (x .receives) (y .receives)
-      (λ v e c. true-not-false (found-y v e .1) (first-by-none f (x .receives) c v (X .receives-held .whole v (pending-receive-same x (sym (state-same (like-rows v))) (found-y v e .0))))))
+      (λ v e c. true-not-false (found-y v e .1)
+      (first-by-none f (x .receives) c v (X .receives-held .whole v
+      (pending-receive-same x (sym (state-same (like-rows v))) (found-y v e .0))))))
       (none-found f (y .receives) (x .receives)
-      (λ v e c. true-not-false (found-x v e .1) (first-by-none f (y .receives) c v (Y .receives-held .whole v (pending-receive-same y (state-same (like-rows v)) (found-x v e .0))))))
+      (λ v e c. true-not-false (found-x v e .1)
+      (first-by-none f (y .receives) c v (Y .receives-held .whole v
+      (pending-receive-same y (state-same (like-rows v)) (found-x v e .0))))))
     where
       f : ℕ → Bool
       f = λ r. fits-with s m r
 
       found-x : (v : ℕ) → first-by f (x .receives) ≡ some v → Pending-receive s x v × (f v ≡ true)
-      found-x v e = let h = first-by-some f (x .receives) (X .receives-held .sorted) v e in (X .receives-held .sound v (h .member), h .passes)
+      found-x v e = let h = first-by-some f (x .receives) (X .receives-held .sorted) v e in
+          (X .receives-held .sound v (h .member), h .passes)
 
       found-y : (v : ℕ) → first-by f (y .receives) ≡ some v → Pending-receive s y v × (f v ≡ true)
-      found-y v e = let h = first-by-some f (y .receives) (Y .receives-held .sorted) v e in (Y .receives-held .sound v (h .member), h .passes)
+      found-y v e = let h = first-by-some f (y .receives) (Y .receives-held .sorted) v e in
+          (Y .receives-held .sound v (h .member), h .passes)
 
   pub like-stop : (r : ℕ) → r < P-of s → step s r x .stop ≡ step s r y .stop
   unfolding stop-after
@@ -129,7 +136,8 @@ module _ {s : Sheet} (g : Good s) {i j : List ℕ} {x y : Job} {X : Reached s i 
       ∙ sym (step-stop s r y)
 
   -- ONE STEP, where there is room for the inboxes of both
-  module _ (A : Ground s) (room-x : inbox-total s ≤ length i) (room-y : inbox-total s ≤ length j) (r : ℕ) (a : able s x r ≡ true) (b : able s y r ≡ true) where
+  module _ (A : Ground s) (room-x : inbox-total s ≤ length i) (room-y : inbox-total s ≤ length j) (r : ℕ) (a : able s x r ≡ true)
+      (b : able s y r ≡ true) where
     abbrev EX : Extended X (step s r x) (next-op s x r)
     EX = step-sound g A room-x X r a
 
@@ -142,7 +150,8 @@ module _ {s : Sheet} (g : Good s) {i j : List ℕ} {x y : Job} {X : Reached s i 
     step-places : (q : ℕ) → q < P-of s → stand (step s r x) q ≡ stand (step s r y) q
     step-places q l = go (step-after g X r a) (step-after g Y r b)
       where
-        moved : Moved x (step s r x) r (finishing s x r) → Moved y (step s r y) r (finishing s y r) → Dec (q ≡ r) → stand (step s r x) q ≡ stand (step s r y) q
+        moved : Moved x (step s r x) r (finishing s x r) → Moved y (step s r y) r (finishing s y r) → Dec (q ≡ r) →
+            stand (step s r x) q ≡ stand (step s r y) q
         moved m n (yes e) =
             subst (λ (z : ℕ). stand (step s r x) z ≡ stand (step s r y) z) (sym e) (stand-moved s x y r (K .places r small) m n)
         moved m n (no d) = moved-stand-other m q d ∙ K .places q l ∙ sym (moved-stand-other n q d)
@@ -155,7 +164,8 @@ module _ {s : Sheet} (g : Good s) {i j : List ℕ} {x y : Job} {X : Reached s i 
         go (goes-on p m) (goes-on o n) = moved m n (ℕ-discrete q r)
         go (goes-on p m) (halts t o e k) = absurd (apart p (like-stop r small ∙ o))
         go (halts t p e k) (goes-on o n) = absurd (apart o (sym (like-stop r small) ∙ p))
-        go (halts t p e k) (halts u o f n) = places-stand x (step s r x) e q ∙ K .places q l ∙ sym (places-stand y (step s r y) f q)
+        go (halts t p e k) (halts u o f n) = places-stand x (step s r x) e q ∙ K .places q l
+            ∙ sym (places-stand y (step s r y) f q)
 
     step-steps : step s r x .steps ≡ step s r y .steps
     step-steps = counted X r a ∙ ap suc (K .steps) ∙ sym (counted Y r b)
@@ -185,10 +195,13 @@ module _ {s : Sheet} (g : Good s) {i j : List ℕ} {x y : Job} {X : Reached s i 
           steps = step-steps;
           places = step-places;
           order =
-              grew-order (grew-step EX) (grew-step EY) (behind-entered g X Y like-behind) (behind-entered g Y X like-ahead) entered-back (K .order)
+              grew-order (grew-step EX) (grew-step EY) (behind-entered g X Y like-behind)
+              (behind-entered g Y X like-ahead) entered-back (K .order)
               (λ k m q sk sm rq fk fm hk hm out gone d. one-entered k m (entered-back k hk) hm out gone d);
           order-back =
-              grew-order (grew-step EY) (grew-step EX) (behind-entered g Y X like-ahead) (behind-entered g X Y like-behind) entered-on (K .order-back)
+              grew-order (grew-step EY) (grew-step EX) (behind-entered g Y X like-ahead)
+              (behind-entered g X Y like-behind) entered-on (K .order-back)
               (λ k m q sk sm rq fk fm hk hm out gone d.
-              one-entered k m hk (entered-back m hm) (λ h. out (behind-entered g X Y like-behind k h)) (λ h. gone (behind-entered g X Y like-behind m h)) d);
+              one-entered k m hk (entered-back m hm) (λ h. out (behind-entered g X Y like-behind k h))
+              (λ h. gone (behind-entered g X Y like-behind m h)) d);
         }

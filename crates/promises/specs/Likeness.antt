@@ -16,11 +16,13 @@ use Rattle.promises.specs.Behind.{stand-finished, stand-waiting}
 use Rattle.promises.specs.Like.{Like, like-rows, like-in-use}
 use Rattle.promises.specs.Level.{Level, level-alike}
 
-pub like-level : {s : Sheet} → Good s → {i j : List ℕ} {x y : Job} {X : Reached s i x} {Y : Reached s j y} → Like X Y → Level s x y
+pub like-level : {s : Sheet} → Good s → {i j : List ℕ} {x y : Job} {X : Reached s i x} {Y : Reached s j y} → Like X Y →
+    Level s x y
 unfolding entry-at
 like-level {s} g {i} {j} {x} {y} {X} {Y} K =
     record {
-      entries = ext-getD (bare-entry 0) (x .entries) (y .entries) (X .placed .entries-long ∙ sym (Y .placed .entries-long)) (λ k l. sym (like-rows g K k));
+      entries = ext-getD (bare-entry 0) (x .entries) (y .entries) (X .placed .entries-long ∙ sym (Y .placed .entries-long))
+          (λ k l. sym (like-rows g K k));
       stop = K .stop;
       steps = K .steps;
       finished = λ r l. stand-finished x y r (K .places r l);
@@ -28,8 +30,10 @@ like-level {s} g {i} {j} {x} {y} {X} {Y} K =
       in-use = like-in-use g K;
     }
 
-pub like-memory : {s : Sheet} → Good s → {i : List ℕ} {x y : Job} {X : Reached s i x} {Y : Reached s i y} → Like X Y → x .memory ≡ y .memory
-like-memory {s} g {i} {x} {y} {X} {Y} K = X .memory-painted ∙ sym (painted-rows s x y (N-of s) i (like-rows g K)) ∙ sym (Y .memory-painted)
+pub like-memory : {s : Sheet} → Good s → {i : List ℕ} {x y : Job} {X : Reached s i x} {Y : Reached s i y} → Like X Y →
+    x .memory ≡ y .memory
+like-memory {s} g {i} {x} {y} {X} {Y} K = X .memory-painted ∙ sym (painted-rows s x y (N-of s) i (like-rows g K))
+    ∙ sym (Y .memory-painted)
 
 pub like-alike : {s : Sheet} → Good s → {i : List ℕ} {x y : Job} {X : Reached s i x} {Y : Reached s i y} → Like X Y → Alike s x y
 like-alike {s} g {i} {x} {y} K = level-alike s x y (like-level g K) (like-memory g K)

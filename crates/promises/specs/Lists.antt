@@ -124,7 +124,8 @@ pub holds-less : {R : ℕ → ℕ → Type 0} {P Q : ℕ → Type 0} {l : List �
     ((v : ℕ) → P v → v ≢ u → Q v) → ((v : ℕ) → Q v → P v) → (Q u → ⊥) → Holds R Q (without u l)
 holds-less {R} {P} {Q} {l} u h irr keep only out =
     record {
-      sound = λ v k. keep v (h .sound v (in-without v u l k)) (λ e. without-same R irr u l (h .sorted) (subst (λ (z : ℕ). In z (without u l)) e k));
+      sound = λ v k. keep v (h .sound v (in-without v u l k))
+          (λ e. without-same R irr u l (h .sorted) (subst (λ (z : ℕ). In z (without u l)) e k));
       whole = λ v q. without-other v u l (h .whole v (only v q)) (λ e. out (subst Q e q));
       sorted = sorted-less R u l (h .sorted);
     }
@@ -139,11 +140,17 @@ without-length u (x ∷ xs) = go (eqb x u) (without-length u xs)
     go true before = omega arith
     go false before = omega arith
 
-pub sorted-length : (R : ℕ → ℕ → Type 0) → ((v : ℕ) → R v v → ⊥) → (n : ℕ) (l : List ℕ) → Sorted R l → ((v : ℕ) → In v l → v < n) → length l ≤ n
+pub sorted-length : (R : ℕ → ℕ → Type 0) → ((v : ℕ) → R v v → ⊥) → (n : ℕ) (l : List ℕ) → Sorted R l →
+    ((v : ℕ) → In v l → v < n) → length l ≤ n
 sorted-length R irr zero [] h small = omega arith
 sorted-length R irr zero (x ∷ xs) h small = absurd (let l = small x (inl refl) in omega arith)
 sorted-length R irr (suc n) l h small =
-    omega (arith, without-length n l, sorted-length R irr n (without n l) (sorted-less R n l h) (λ v k. below v (in-without v n l k) (λ e. without-same R irr n l h (subst (λ (z : ℕ). In z (without n l)) e k))))
+    omega (
+      arith,
+      without-length n l,
+      sorted-length R irr n (without n l) (sorted-less R n l h)
+          (λ v k. below v (in-without v n l k) (λ e. without-same R irr n l h (subst (λ (z : ℕ). In z (without n l)) e k))),
+    )
   where
     below : (v : ℕ) → In v l → v ≢ n → v < n
     below v k d = let s = small v k in omega arith
@@ -161,7 +168,11 @@ without-none u (x ∷ xs) h = go (eqb x u) refl (without-none u xs (λ k. h (inr
 -- THE SAME LIST under other words
 sorted-same : (R S : ℕ → ℕ → Type 0) (l : List ℕ) → ((v u : ℕ) → In v l → In u l → R v u → S v u) → Sorted R l → Sorted S l
 sorted-same R S [] f h = tt
-sorted-same R S (x ∷ xs) f h = (λ y k. f x y (inl refl) (inr k) (h .0 y k), sorted-same R S xs (λ v u a b. f v u (inr a) (inr b)) (h .1))
+sorted-same R S (x ∷ xs) f h = (
+  λ y k. f x y (inl refl) (inr k) (h .0 y k),
+  sorted-same R S xs (λ v u a b. f v u (inr a) (inr b))
+      (h .1),
+)
 
 pub holds-same : {R S : ℕ → ℕ → Type 0} {P Q : ℕ → Type 0} {l : List ℕ} → Holds R P l → ((v u : ℕ) → P v → P u → R v u → S v u) →
     ((v : ℕ) → P v → Q v) → ((v : ℕ) → Q v → P v) → Holds S Q l
@@ -189,12 +200,14 @@ pub record Found (R : ℕ → ℕ → Type 0) (f : ℕ → Bool) (l : List ℕ) 
   pub passes : f v ≡ true
   pub earliest : (u : ℕ) → In u l → f u ≡ true → u ≢ v → R v u
 
-pub first-by-some : {R : ℕ → ℕ → Type 0} (f : ℕ → Bool) (l : List ℕ) → Sorted R l → (v : ℕ) → first-by f l ≡ some v → Found R f l v
+pub first-by-some : {R : ℕ → ℕ → Type 0} (f : ℕ → Bool) (l : List ℕ) → Sorted R l → (v : ℕ) → first-by f l ≡ some v →
+    Found R f l v
 unfolding first-by
 first-by-some {R} f [] s v e = absurd (let z : _≡_ {A = ℕ} 0 1 = cc in omega arith)
 first-by-some {R} f (x ∷ xs) s v e = go (f x) refl (first-by-some f xs (s .1) v) e
   where
-    go : (b : Bool) → f x ≡ b → (first-by f xs ≡ some v → Found R f xs v) → cond b (some x) (first-by f xs) ≡ some v → Found R f (x ∷ xs) v
+    go : (b : Bool) → f x ≡ b → (first-by f xs ≡ some v → Found R f xs v) → cond b (some x) (first-by f xs) ≡ some v →
+        Found R f (x ∷ xs) v
     go true t before e =
         let q : x ≡ v = cc in
         record {
@@ -214,5 +227,6 @@ first-by-some {R} f (x ∷ xs) s v e = go (f x) refl (first-by-some f xs (s .1) 
         }
       where
         earliest-there : Found R f xs v → (u : ℕ) → In u (x ∷ xs) → f u ≡ true → u ≢ v → R v u
-        earliest-there b u (inl k) p d = absurd (let z : true ≡ false = sym p ∙ ap f k ∙ t in let y : _≡_ {A = ℕ} 0 1 = cc in omega arith)
+        earliest-there b u (inl k) p d = absurd
+            (let z : true ≡ false = sym p ∙ ap f k ∙ t in let y : _≡_ {A = ℕ} 0 1 = cc in omega arith)
         earliest-there b u (inr k) p d = b .earliest u k p d

@@ -22,7 +22,8 @@ unfolding lowest-able
 lowest-some zero r q s x h = absurd (let z : _≡_ {A = ℕ} 0 1 = cc in omega arith)
 lowest-some (suc k) r q s x h = go (able s x r) refl h (lowest-some k (suc r) q s x)
   where
-    go : (b : Bool) → able s x r ≡ b → cond b (some r) (lowest-able k (suc r) s x) ≡ some q → (lowest-able k (suc r) s x ≡ some q → able s x q ≡ true) → able s x q ≡ true
+    go : (b : Bool) → able s x r ≡ b → cond b (some r) (lowest-able k (suc r) s x) ≡ some q →
+        (lowest-able k (suc r) s x ≡ some q → able s x q ≡ true) → able s x q ≡ true
     go true e h later = let same : r ≡ q = cc in subst (λ (z : ℕ). able s x z ≡ true) same e
     go false e h later = later h
 
@@ -50,7 +51,8 @@ pub next-none : (s : Sheet) → Good s → (x : Job) → none-able s x ≡ true 
 unfolding none-able next-rank
 next-none s g x h r =
     not-so (able s x r)
-    (λ a. true-not-false a (lowest-none (P-of s) 0 s x (none-is (lowest-able (P-of s) 0 s x) h) r (omega arith) (omega (arith, able-next s g x r a .rank-small))))
+    (λ a. true-not-false a (lowest-none (P-of s) 0 s x (none-is (lowest-able (P-of s) 0 s x) h) r (omega arith)
+    (omega (arith, able-next s g x r a .rank-small))))
 
 pub next-some : (s : Sheet) (x : Job) (q : ℕ) → next-rank s x ≡ some q → able s x q ≡ true
 unfolding next-rank

@@ -37,7 +37,8 @@ none-fit bs i rs m r h sends receives low high pending =
 
 -- the pair of a matched message, and of a matched receive
 module _ {s : Sheet} {lent : List ℕ} {x : Job} (R : Reached s lent x) where
-  overtaking : (m k r : ℕ) → is-send (op s m) ≡ true → is-send (op s k) ≡ true → k < m → rank-of s k ≡ rank-of s m → state-at x m ≡ 3 → partner-at x m ≡ r →
+  overtaking : (m k r : ℕ) → is-send (op s m) ≡ true → is-send (op s k) ≡ true → k < m → rank-of s k ≡ rank-of s m →
+      state-at x m ≡ 3 → partner-at x m ≡ r →
       fits-with s k r ≡ true → (state-at x k ≡ 3) × (partner-at x k < r)
   overtaking m k r sm sk l same e to f =
       let met = subst (λ (z : ℕ). Met s x m z) to (R .stable .message-met m sm e) in
@@ -45,7 +46,8 @@ module _ {s : Sheet} {lent : List ℕ} {x : Job} (R : Reached s lent x) where
       let k-there = prefix s x (R .placed) k m m-there l same in
       R .stable .first-sent m r k met sk k-there (R .arrived .in-script k m sk sm k-there m-there same l) f
 
-  overtaking-receives : (m q r : ℕ) → is-receive (op s r) ≡ true → is-receive (op s q) ≡ true → q < r → state-at x r ≡ 3 → partner-at x r ≡ m →
+  overtaking-receives : (m q r : ℕ) → is-receive (op s r) ≡ true → is-receive (op s q) ≡ true → q < r → state-at x r ≡ 3 →
+      partner-at x r ≡ m →
       fits-with s m q ≡ true → state-at x q ≡ 3
   overtaking-receives m q r rr rq l e to f =
       R .stable .first-posted m r q (subst (λ (z : ℕ). Met s x z r) to (R .stable .receive-met r rr e)) rq l f
@@ -59,7 +61,8 @@ module _ {s : Sheet} {lent : List ℕ} {x : Job} (R : Reached s lent x) where
         sends = met .sends;
         fit = met .fit;
         message-row =
-            R .shaped .row m ∙ ap (λ (v : ℕ). row-of s m v (partner-at x m)) (met .message-matched) ∙ ap (λ (z : ℕ). row-of s m 3 z) (met .to-receive)
+            R .shaped .row m ∙ ap (λ (v : ℕ). row-of s m v (partner-at x m)) (met .message-matched)
+            ∙ ap (λ (z : ℕ). row-of s m 3 z) (met .to-receive)
             ∙ row-message s m r (send-no-receive (op s m) (met .sends));
         receive-row = R .shaped .row r ∙ ap (λ (v : ℕ). row-of s r v m) e ∙ row-receive s r m receives;
       }

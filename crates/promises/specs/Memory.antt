@@ -92,7 +92,8 @@ pend-receive-elsewhere i =
     }
 
 unmatched-elsewhere : (s : Sheet) (r i : ℕ) → Elsewhere (unmatched s r i)
-unfolding unmatched fits-buffer stopped initiated charge pend-message with-stop with-place with-places with-messages with-state with-entries with-memory place-at job
+unfolding unmatched fits-buffer stopped initiated charge pend-message with-stop with-place with-places with-messages with-state
+    with-entries with-memory place-at job
 unmatched-elsewhere s r i =
     record {
       kept = λ x. kept x (is-ready (op s i)) (is-buffered (op s i)) (fits-buffer s r i x);
@@ -102,7 +103,8 @@ unmatched-elsewhere s r i =
     chosen : (a b c : Bool) → Job → Job
     chosen a b c x =
         cond a (stopped 4 r i x)
-        (cond b (cond c (initiated s r i (charge s r i (pend-message i 2 x))) (stopped 3 r i x)) (initiated s r i (pend-message i 1 x)))
+        (cond b (cond c (initiated s r i (charge s r i (pend-message i 2 x))) (stopped 3 r i x))
+        (initiated s r i (pend-message i 1 x)))
 
     kept : (x : Job) (a b c : Bool) → chosen a b c x .memory ≡ x .memory
     kept x true b c = refl
@@ -118,7 +120,8 @@ unmatched-elsewhere s r i =
 
 -- a match delivers into either memory
 matched-twin : {n : ℕ} {x y : Job} (s : Sheet) (m q : ℕ) → Twin n x y → Twin n (matched s m q x) (matched s m q y)
-unfolding matched matched-rows release delivered with-place with-places with-receives with-messages with-entries with-memory entry-at place-at job
+unfolding matched matched-rows release delivered with-place with-places with-receives with-messages with-entries with-memory
+    entry-at place-at job
 matched-twin {n} {x} {y} s m q t =
     record {
       other = delivered s m q (t .other);
@@ -138,9 +141,11 @@ matched-twin {n} {x} {y} s m q t =
     go cs true = refl
     go cs false = refl
 
-received-twin : {n : ℕ} {x y : Job} (s : Sheet) (r i : ℕ) (o : Option ℕ) → Twin n x y → Twin n (received s r i o x) (received s r i o y)
+received-twin : {n : ℕ} {x y : Job} (s : Sheet) (r i : ℕ) (o : Option ℕ) → Twin n x y →
+    Twin n (received s r i o x) (received s r i o y)
 unfolding received
-received-twin s r i none t = twin-elsewhere (initiated s r i) (initiated-elsewhere s r i) (twin-elsewhere (pend-receive i) (pend-receive-elsewhere i) t)
+received-twin s r i none t = twin-elsewhere (initiated s r i) (initiated-elsewhere s r i)
+    (twin-elsewhere (pend-receive i) (pend-receive-elsewhere i) t)
 received-twin s r i (some m) t = twin-elsewhere (initiated s r i) (initiated-elsewhere s r i) (matched-twin s m i t)
 
 sent-twin : {n : ℕ} {x y : Job} (s : Sheet) (r i : ℕ) (o : Option ℕ) → Twin n x y → Twin n (sent s r i o x) (sent s r i o y)
@@ -157,7 +162,8 @@ twin-self cs h =
       near = h;
     }
 
-twin-lift : {n : ℕ} (f : Job → Job) {x y : Job} → ((cs : List ℕ) → Near n (x .memory) cs → Twin n (f x) (f (with-memory cs x))) → Twin n x y → Twin n (f x) (f y)
+twin-lift : {n : ℕ} (f : Job → Job) {x y : Job} → ((cs : List ℕ) → Near n (x .memory) cs → Twin n (f x) (f (with-memory cs x))) →
+    Twin n x y → Twin n (f x) (f y)
 twin-lift {n} f {x} h t = subst (λ (z : Job). Twin n (f x) (f z)) (sym (t .is-other)) (h (t .other) (t .near))
 
 initiating-twin : {n : ℕ} {x y : Job} (s : Sheet) (r i : ℕ) → Twin n x y → Twin n (initiating s r i x) (initiating s r i y)
@@ -166,7 +172,8 @@ initiating-twin {n} {x} s r i = twin-lift (initiating s r i) (λ cs h. go cs (tw
   where
     go : (cs : List ℕ) → Twin n x (with-memory cs x) → (b : Bool) →
         Twin n (cond b (received s r i (first-message s i (x .messages)) x) (sent s r i (first-receive s i (x .receives)) x))
-        (cond b (received s r i (first-message s i (x .messages)) (with-memory cs x)) (sent s r i (first-receive s i (x .receives)) (with-memory cs x)))
+        (cond b (received s r i (first-message s i (x .messages)) (with-memory cs x))
+        (sent s r i (first-receive s i (x .receives)) (with-memory cs x)))
     go cs t true = received-twin s r i (first-message s i (x .messages)) t
     go cs t false = sent-twin s r i (first-receive s i (x .receives)) t
 
@@ -180,13 +187,15 @@ with-steps-elsewhere k =
 
 pub twin-step : {n : ℕ} {x y : Job} (s : Sheet) (r : ℕ) → Twin n x y → Twin n (step s r x) (step s r y)
 unfolding step in-waiting-half next-op place-at with-memory job
-twin-step {n} {x} s r = twin-lift (step s r) (λ cs h. twin-elsewhere (with-steps (suc (x .steps))) (with-steps-elsewhere (suc (x .steps))) (go cs (twin-self cs h) (in-waiting-half s x r)))
+twin-step {n} {x} s r = twin-lift (step s r) (λ cs h. twin-elsewhere (with-steps (suc (x .steps)))
+    (with-steps-elsewhere (suc (x .steps))) (go cs (twin-self cs h) (in-waiting-half s x r)))
   where
     here : ℕ
     here = next-op s x r
 
     go : (cs : List ℕ) → Twin n x (with-memory cs x) → (b : Bool) →
-        Twin n (cond b (ended s r here x) (initiating s r here x)) (cond b (ended s r here (with-memory cs x)) (initiating s r here (with-memory cs x)))
+        Twin n (cond b (ended s r here x) (initiating s r here x))
+        (cond b (ended s r here (with-memory cs x)) (initiating s r here (with-memory cs x)))
     go cs t true = twin-elsewhere (ended s r here) (ended-elsewhere s r here) t
     go cs t false = initiating-twin s r here t
 
@@ -195,7 +204,8 @@ pub record Twin-followed (n : ℕ) (a b : Followed) : Type 0 where
   pub refused : b .refused-at ≡ a .refused-at
   pub left : Twin n (a .left) (b .left)
 
-pub twin-follow : {n : ℕ} {x y : Job} (s : Sheet) (k : ℕ) (rs : List ℕ) → Twin n x y → Twin-followed n (follow-from k s rs x) (follow-from k s rs y)
+pub twin-follow : {n : ℕ} {x y : Job} (s : Sheet) (k : ℕ) (rs : List ℕ) → Twin n x y →
+    Twin-followed n (follow-from k s rs x) (follow-from k s rs y)
 unfolding follow-from followed
 twin-follow s k [] t =
     record {
@@ -203,12 +213,14 @@ twin-follow s k [] t =
       left = t;
     }
 twin-follow {n} {x} {y} s k (r ∷ rs) t =
-    subst (λ (b : Bool). Twin-followed n (either (able s x r) x) (either b y)) (sym (twin-able s t r)) (go (able s x r) (twin-follow s (suc k) rs (twin-step s r t)))
+    subst (λ (b : Bool). Twin-followed n (either (able s x r) x) (either b y)) (sym (twin-able s t r))
+    (go (able s x r) (twin-follow s (suc k) rs (twin-step s r t)))
   where
     either : Bool → Job → Followed
     either b z = cond b (follow-from (suc k) s rs (step s r z)) (followed (some k) z)
 
-    go : (b : Bool) → Twin-followed n (follow-from (suc k) s rs (step s r x)) (follow-from (suc k) s rs (step s r y)) → Twin-followed n (either b x) (either b y)
+    go : (b : Bool) → Twin-followed n (follow-from (suc k) s rs (step s r x)) (follow-from (suc k) s rs (step s r y)) →
+        Twin-followed n (either b x) (either b y)
     go true on = on
     go false on =
         record {
@@ -230,7 +242,8 @@ pub record Twin-ran (n : ℕ) (a b : Ran) : Type 0 where
   pub order : b .order ≡ a .order
   pub end : Twin n (a .end) (b .end)
 
-pub twin-run : {n : ℕ} {x y : Job} (s : Sheet) (fuel : ℕ) (o : List ℕ) → Twin n x y → Twin-ran n (run-from fuel s o x) (run-from fuel s o y)
+pub twin-run : {n : ℕ} {x y : Job} (s : Sheet) (fuel : ℕ) (o : List ℕ) → Twin n x y →
+    Twin-ran n (run-from fuel s o x) (run-from fuel s o y)
 unfolding run-from run-next ran
 twin-run s zero o t =
     record {
@@ -238,10 +251,12 @@ twin-run s zero o t =
       end = t;
     }
 twin-run {n} {x} {y} s (suc k) o t =
-    subst (λ (q : Option ℕ). Twin-ran n (run-next (next-rank s x) s o x (λ p z. run-from k s p z)) (run-next q s o y (λ p z. run-from k s p z))) (sym (twin-next s t))
+    subst (λ (q : Option ℕ). Twin-ran n (run-next (next-rank s x) s o x (λ p z. run-from k s p z))
+    (run-next q s o y (λ p z. run-from k s p z))) (sym (twin-next s t))
     (go (next-rank s x) (λ r. twin-run s k (o ++ (r ∷ [])) (twin-step s r t)))
   where
-    go : (q : Option ℕ) → ((r : ℕ) → Twin-ran n (run-from k s (o ++ (r ∷ [])) (step s r x)) (run-from k s (o ++ (r ∷ [])) (step s r y))) →
+    go : (q : Option ℕ) → ((r : ℕ) → Twin-ran n (run-from k s (o ++ (r ∷ [])) (step s r x))
+        (run-from k s (o ++ (r ∷ [])) (step s r y))) →
         Twin-ran n (run-next q s o x (λ p z. run-from k s p z)) (run-next q s o y (λ p z. run-from k s p z))
     go none on =
         record {

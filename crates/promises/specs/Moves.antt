@@ -45,7 +45,8 @@ able-next s g x r a =
       unfinished = left;
       inside = omega (arith, left, g .script-inside r small);
       ranked = g .script-ranked r (board s r .first + place-at x r .finished) small (omega arith) (omega (arith, left));
-      complete = λ w. half w (or-cases (not (in-waiting-half s x r)) (half-complete s x (board s r .first + place-at x r .finished)) (and-right (going && small-unfinished) last-part a));
+      complete = λ w. half w (or-cases (not (in-waiting-half s x r))
+          (half-complete s x (board s r .first + place-at x r .finished)) (and-right (going && small-unfinished) last-part a));
     }
   where
     going : Bool
@@ -61,27 +62,32 @@ able-next s g x r a =
     first-part = and-left (going && small-unfinished) last-part a
 
     small : r < P-of s
-    small = ltb-true r (P-of s) (and-left (ltb r (P-of s)) (not (leb (board s r .count) (place-at x r .finished))) (and-right going small-unfinished first-part))
+    small = ltb-true r (P-of s) (and-left (ltb r (P-of s)) (not (leb (board s r .count) (place-at x r .finished)))
+        (and-right going small-unfinished first-part))
 
     left : place-at x r .finished < board s r .count
     left =
         leb-false (board s r .count) (place-at x r .finished)
         (not-true (leb (board s r .count) (place-at x r .finished))
-        (and-right (ltb r (P-of s)) (not (leb (board s r .count) (place-at x r .finished))) (and-right going small-unfinished first-part)))
+        (and-right (ltb r (P-of s)) (not (leb (board s r .count) (place-at x r .finished)))
+        (and-right going small-unfinished first-part)))
 
-    half : in-waiting-half s x r ≡ true → (not (in-waiting-half s x r) ≡ true) ⊎ (half-complete s x (board s r .first + place-at x r .finished) ≡ true) →
+    half : in-waiting-half s x r ≡ true → (not (in-waiting-half s x r) ≡ true) ⊎ (half-complete s x
+        (board s r .first + place-at x r .finished) ≡ true) →
         half-complete s x (board s r .first + place-at x r .finished) ≡ true
     half w (inl e) = true-not-false w (not-true (in-waiting-half s x r) e)
     half w (inr e) = e
 
 -- an operation whose board has not reached it is not entered
-pub next-fresh : (s : Sheet) (x : Job) (r : ℕ) → Placed s x → Next s x r → place-at x r .waiting ≡ false → state-at x (next-op s x r) ≡ 0
+pub next-fresh : (s : Sheet) (x : Job) (r : ℕ) → Placed s x → Next s x r → place-at x r .waiting ≡ false →
+    state-at x (next-op s x r) ≡ 0
 unfolding reach
 next-fresh s x r p n w = go (ℕ-discrete (state-at x (next-op s x r)) 0)
   where
     not-waiting : reach s x (rank-of s (next-op s x r)) ≡ next-op s x r
     not-waiting =
-        ap (λ (z : ℕ). reach s x z) (n .ranked) ∙ subst (λ (b : Bool). next-op s x r + cond b 1 0 ≡ next-op s x r) (sym w) (omega arith)
+        ap (λ (z : ℕ). reach s x z) (n .ranked)
+        ∙ subst (λ (b : Bool). next-op s x r + cond b 1 0 ≡ next-op s x r) (sym w) (omega arith)
 
     go : Dec (state-at x (next-op s x r) ≡ 0) → state-at x (next-op s x r) ≡ 0
     go (yes e) = e
@@ -137,7 +143,8 @@ module _ {x y : Job} {r : ℕ} {last : Bool} (M : Moved x y r last) where
       ∙ ap (λ (b : Bool). after b last (M .used r) .finished) (eq-eqb r r refl)
       ∙ go last
     where
-      go : (b : Bool) → cond b (one-finished (M .used r)) (now-waiting (M .used r)) .finished ≡ cond b (suc (place-at x r .finished)) (place-at x r .finished)
+      go : (b : Bool) → cond b (one-finished (M .used r)) (now-waiting (M .used r)) .finished ≡ cond b
+          (suc (place-at x r .finished)) (place-at x r .finished)
       go true = ap suc (M .used-finished r)
       go false = M .used-finished r
 

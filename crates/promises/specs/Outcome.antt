@@ -41,17 +41,26 @@ use-released s x m q n = cond (eqb q (rank-of s m) && eqb (state-at x m) 2) (n -
 
 -- `last` says that the step finishes its operation
 pub data Outcome (s : Sheet) (x y : Job) (r i : ℕ) : Type 0 where
-  ends-half : place-at x r .waiting ≡ true → Moved x y r true → Quiet x y → Use x y use-kept → y .entries ≡ x .entries → Outcome s x y r i
-  ends-wait : place-at x r .waiting ≡ false → is-wait (op s i) ≡ true → Moved x y r true → Quiet x y → Use x y use-kept → Enters x y i 5 → Outcome s x y r i
-  posts : place-at x r .waiting ≡ false → is-receive (op s i) ≡ true → Moved x y r (is-nonblocking (op s i)) → Use x y use-kept → Enters x y i 1 →
-      y .messages ≡ x .messages → y .receives ≡ x .receives ++ (i ∷ []) → y .memory ≡ x .memory → first-message s i (x .messages) ≡ none → Outcome s x y r i
-  pends : place-at x r .waiting ≡ false → is-send (op s i) ≡ true → Moved x y r (is-nonblocking (op s i)) → Use x y (use-charged s r i) →
-      Enters x y i (unmatched-state (op s i)) → y .messages ≡ x .messages ++ (i ∷ []) → y .receives ≡ x .receives → y .memory ≡ x .memory →
+  ends-half : place-at x r .waiting ≡ true → Moved x y r true → Quiet x y → Use x y use-kept → y .entries ≡ x .entries →
+      Outcome s x y r i
+  ends-wait : place-at x r .waiting ≡ false → is-wait (op s i) ≡ true → Moved x y r true → Quiet x y → Use x y use-kept →
+      Enters x y i 5 → Outcome s x y r i
+  posts : place-at x r .waiting ≡ false → is-receive (op s i) ≡ true → Moved x y r (is-nonblocking (op s i)) → Use x y use-kept →
+      Enters x y i 1 →
+      y .messages ≡ x .messages → y .receives ≡ x .receives ++ (i ∷ []) → y .memory ≡ x .memory →
+      first-message s i (x .messages) ≡ none → Outcome s x y r i
+  pends : place-at x r .waiting ≡ false → is-send (op s i) ≡ true → Moved x y r (is-nonblocking (op s i)) →
+      Use x y (use-charged s r i) →
+      Enters x y i (unmatched-state (op s i)) → y .messages ≡ x .messages ++ (i ∷ []) → y .receives ≡ x .receives →
+      y .memory ≡ x .memory →
       first-receive s i (x .receives) ≡ none → (is-buffered (op s i) ≡ true → fits-buffer s r i x ≡ true) → Outcome s x y r i
-  meets : (m q : ℕ) → place-at x r .waiting ≡ false → Moved x y r (is-nonblocking (op s i)) → Use x y (use-released s x m) → Matches s x y m q i →
+  meets : (m q : ℕ) → place-at x r .waiting ≡ false → Moved x y r (is-nonblocking (op s i)) → Use x y (use-released s x m) →
+      Matches s x y m q i →
       y .messages ≡ without m (x .messages) → y .receives ≡ without q (x .receives) → y .memory ≡ delivered s m q (x .memory) →
-      ((q ≡ i) × (first-message s i (x .messages) ≡ some m)) ⊎ ((m ≡ i) × (first-receive s i (x .receives) ≡ some q)) → Outcome s x y r i
-  stops : (v : ℕ) → (v ≡ 3) ⊎ (v ≡ 4) → place-at x r .waiting ≡ false → is-send (op s i) ≡ true → first-receive s i (x .receives) ≡ none →
+      ((q ≡ i) × (first-message s i (x .messages) ≡ some m)) ⊎ ((m ≡ i) × (first-receive s i (x .receives) ≡ some q)) →
+      Outcome s x y r i
+  stops : (v : ℕ) → (v ≡ 3) ⊎ (v ≡ 4) → place-at x r .waiting ≡ false → is-send (op s i) ≡ true →
+      first-receive s i (x .receives) ≡ none →
       y ≡ with-steps (suc (x .steps)) (stopped v r i x) → Outcome s x y r i
 
 -- CLOSED FORMS
@@ -74,7 +83,8 @@ release-is s m x = go (eqb (entry-at x m .state) 2)
 
 pub matched-is : (s : Sheet) (m r : ℕ) (x : Job) →
     matched s m r x ≡
-    job (set (set (x .entries) m (entry 3 0 r absent absent 0)) r (entry 3 (cond (is-cut s m r) 1 0) m (rank-of s m) (op s m .tag) (op s m .long)))
+    job (set (set (x .entries) m (entry 3 0 r absent absent 0)) r
+    (entry 3 (cond (is-cut s m r) 1 0) m (rank-of s m) (op s m .tag) (op s m .long)))
     (released-places s x m) (without m (x .messages)) (without r (x .receives)) (delivered s m r (x .memory)) (x .stop) (x .steps)
 unfolding matched matched-rows with-memory with-receives with-messages with-entries with-places job
 matched-is s m r x =
@@ -161,7 +171,8 @@ module _ (s : Sheet) (x : Job) (small : (q : ℕ) → place-at x q .in-use ≤ p
         finished = λ q. ap (λ (p : Place). p .finished) (at q) ∙ re q .finished;
         waiting = λ q. ap (λ (p : Place). p .waiting) (at q) ∙ re q .waiting;
         in-use = λ q. ap (λ (p : Place). p .in-use) (at q) ∙ uses q;
-        peak = λ q. ap (λ (p : Place). p .peak) (at q) ∙ re q .peak ∙ ap (λ (p : Place). max (place-at x q .peak) (p .in-use)) (sym (at q));
+        peak = λ q. ap (λ (p : Place). p .peak) (at q) ∙ re q .peak
+            ∙ ap (λ (p : Place). max (place-at x q .peak) (p .in-use)) (sym (at q));
       }
     where
       at : (q : ℕ) → place-in (set (x .places) r (f (place-at x r))) q ≡ cond (eqb q r) (f (place-at x q)) (place-at x q)
@@ -178,7 +189,8 @@ module _ (s : Sheet) (x : Job) (small : (q : ℕ) → place-at x q .in-use ≤ p
       re true q = released-same q (charge-of (op s m))
       re false q = kept-same q
 
-      uses : (b : Bool) (q : ℕ) → cond b (f (place-at x q)) (place-at x q) .in-use ≡ cond (b && true) (place-at x q .in-use - charge-of (op s m)) (place-at x q .in-use)
+      uses : (b : Bool) (q : ℕ) → cond b (f (place-at x q)) (place-at x q) .in-use ≡ cond (b && true)
+          (place-at x q .in-use - charge-of (op s m)) (place-at x q .in-use)
       uses true q = released-use (charge-of (op s m)) (place-at x q)
       uses false q = refl
 
@@ -195,14 +207,16 @@ module _ (s : Sheet) (x : Job) (small : (q : ℕ) → place-at x q .in-use ≤ p
             long = refl;
             finished = used-kept .finished;
             waiting = used-kept .waiting;
-            in-use = λ q. used-kept .in-use q ∙ none-use (eqb q (rank-of s m)) (place-at x q .in-use) (place-at x q .in-use - charge-of (op s m));
+            in-use = λ q. used-kept .in-use q
+                ∙ none-use (eqb q (rank-of s m)) (place-at x q .in-use) (place-at x q .in-use - charge-of (op s m));
             peak = used-kept .peak;
           }
 
   pub used-charged : (r i : ℕ) → r < length (x .places) → is-buffered (op s i) ≡ true →
       Used x (set (x .places) r (charged (charge-of (op s i)) (place-at x r))) (use-charged s r i)
   unfolding use-charged
-  used-charged r i l e = used-update r (charged (charge-of (op s i))) (use-charged s r i) l (λ q. re (eqb q r) q) (λ q. uses (eqb q r) (is-buffered (op s i)) e q)
+  used-charged r i l e = used-update r (charged (charge-of (op s i))) (use-charged s r i) l (λ q. re (eqb q r) q)
+      (λ q. uses (eqb q r) (is-buffered (op s i)) e q)
     where
       re : (b : Bool) (q : ℕ) → Recharged (place-at x q) (cond b (charged (charge-of (op s i)) (place-at x q)) (place-at x q))
       re true q = charged-same q (charge-of (op s i))
@@ -221,7 +235,8 @@ module _ (s : Sheet) (x : Job) (small : (q : ℕ) → place-at x q .in-use ≤ p
         long = refl;
         finished = used-kept .finished;
         waiting = used-kept .waiting;
-        in-use = λ q. used-kept .in-use q ∙ same (eqb q r) (is-buffered (op s i)) e (place-at x q .in-use) (place-at x q .in-use + charge-of (op s i));
+        in-use = λ q. used-kept .in-use q ∙ same (eqb q r) (is-buffered (op s i)) e (place-at x q .in-use)
+            (place-at x q .in-use + charge-of (op s i));
         peak = used-kept .peak;
       }
     where
@@ -234,8 +249,10 @@ module _ (s : Sheet) (x : Job) (small : (q : ℕ) → place-at x q .in-use ≤ p
 abbrev pub stepped-places : List Place → (r : ℕ) → (last : Bool) → List Place
 stepped-places ps r last = set ps r (cond last (one-finished (place-in ps r)) (now-waiting (place-in ps r)))
 
-pub stepped-moved : {x : Job} {ps : List Place} {change : ℕ → ℕ → ℕ} (y : Job) → Used x ps change → (r : ℕ) (last : Bool) → r < length (x .places) →
-    y .places ≡ stepped-places ps r last → length (y .entries) ≡ length (x .entries) → y .stop ≡ x .stop → y .steps ≡ suc (x .steps) →
+pub stepped-moved : {x : Job} {ps : List Place} {change : ℕ → ℕ → ℕ} (y : Job) → Used x ps change → (r : ℕ) (last : Bool) →
+    r < length (x .places) →
+    y .places ≡ stepped-places ps r last → length (y .entries) ≡ length (x .entries) → y .stop ≡ x .stop →
+    y .steps ≡ suc (x .steps) →
     Moved x y r last × Use x y change
 unfolding place-at after
 stepped-moved {x} {ps} {change} y U r last l are long stop steps = (M, λ q. moved-in-use M q ∙ U .in-use q)
@@ -247,7 +264,8 @@ stepped-moved {x} {ps} {change} y U r last l are long stop steps = (M, λ q. mov
     M =
         record {
           used = λ q. place-in ps q;
-          place-is = λ q. ap (λ (p : List Place). place-in p q) are ∙ getD-update ps r q f (place 0 false 0 0) (omega (arith, U .long));
+          place-is = λ q. ap (λ (p : List Place). place-in p q) are
+              ∙ getD-update ps r q f (place 0 false 0 0) (omega (arith, U .long));
           used-finished = U .finished;
           used-waiting = U .waiting;
           used-peak = U .peak;
@@ -258,13 +276,15 @@ stepped-moved {x} {ps} {change} y U r last l are long stop steps = (M, λ q. mov
         }
 
 -- ROWS
-pub set-enters : (x y : Job) (i v : ℕ) → state-at x i ≡ 0 → i < length (x .entries) → 1 ≤ v → v ≢ 3 → y .entries ≡ set (x .entries) i (bare-entry v) → Enters x y i v
+pub set-enters : (x y : Job) (i v : ℕ) → state-at x i ≡ 0 → i < length (x .entries) → 1 ≤ v → v ≢ 3 →
+    y .entries ≡ set (x .entries) i (bare-entry v) → Enters x y i v
 unfolding entry-at
 set-enters x y i v fresh l some-v no-match are =
     record {
       fresh = fresh;
       row = ap (λ (e : List Entry). getD e i (bare-entry 0)) are ∙ getD-set-same (x .entries) i (bare-entry v) (bare-entry 0) l;
-      other = λ j d. ap (λ (e : List Entry). getD e j (bare-entry 0)) are ∙ getD-set-other (x .entries) i j (bare-entry v) (bare-entry 0) d;
+      other = λ j d. ap (λ (e : List Entry). getD e j (bare-entry 0)) are
+          ∙ getD-set-other (x .entries) i j (bare-entry v) (bare-entry 0) d;
       some-state = some-v;
       no-match = no-match;
     }

@@ -21,7 +21,8 @@ use Rattle.promises.specs.Stable.{Later}
 use Rattle.promises.specs.Placing.{prefix}
 
 -- a pending operation whose row did not change
-pub pending-message-same : {s : Sheet} {x : Job} (y : Job) {m : ℕ} → state-at y m ≡ state-at x m → Pending-message s x m → Pending-message s y m
+pub pending-message-same : {s : Sheet} {x : Job} (y : Job) {m : ℕ} → state-at y m ≡ state-at x m → Pending-message s x m →
+    Pending-message s y m
 pending-message-same y e h =
     record {
       sends = h .sends;
@@ -29,7 +30,8 @@ pending-message-same y e h =
       unmatched = λ c. h .unmatched (sym e ∙ c);
     }
 
-pub pending-receive-same : {s : Sheet} {x : Job} (y : Job) {r : ℕ} → state-at y r ≡ state-at x r → Pending-receive s x r → Pending-receive s y r
+pub pending-receive-same : {s : Sheet} {x : Job} (y : Job) {r : ℕ} → state-at y r ≡ state-at x r → Pending-receive s x r →
+    Pending-receive s y r
 pending-receive-same y e h =
     record {
       receives = h .receives;
@@ -41,7 +43,8 @@ pending-receive-same y e h =
 later-order : {s : Sheet} {x y : Job} {i : ℕ} {came now : ℕ → ℕ} {l : List ℕ} → Later came now x i → Grows x y i →
     Holds (Came-before came) (Pending-message s x) l → Holds (Came-before now) (Pending-message s x) l
 later-order {s} {x} {y} {i} {came} {now} L G h =
-    holds-same h (λ v u p q c. omega (arith, c, L .old v (differ v (p .entered)), L .old u (differ u (q .entered)))) (λ v p. p) (λ v p. p)
+    holds-same h (λ v u p q c. omega (arith, c, L .old v (differ v (p .entered)), L .old u (differ u (q .entered)))) (λ v p. p)
+    (λ v p. p)
   where
     differ : (j : ℕ) → Entered x j → j ≢ i
     differ j a e = omega (arith, G .fresh, state-name x e)
@@ -76,7 +79,8 @@ module _ {s : Sheet} {x y : Job} {i v : ℕ} (E : Enters x y i v) where
   pub queue-message-other : {came now : ℕ → ℕ} {l : List ℕ} → Later came now x i → is-send (op s i) ≡ false →
       Holds (Came-before came) (Pending-message s x) l → Holds (Came-before now) (Pending-message s y) l
   queue-message-other {came} {now} {l} L e h =
-      holds-same (later-order L (enters-grows E) h) (λ a b p q c. c) message-on (λ k p. only k p (message-back k p (ℕ-discrete k i)))
+      holds-same (later-order L (enters-grows E) h) (λ a b p q c. c) message-on
+      (λ k p. only k p (message-back k p (ℕ-discrete k i)))
     where
       only : (k : ℕ) → Pending-message s y k → Pending-message s x k ⊎ (k ≡ i) → Pending-message s x k
       only k p (inl h) = h
@@ -126,6 +130,7 @@ module _ {s : Sheet} {x y : Job} {m r i : ℕ} (M : Matches s x y m r i) where
       Holds (Posted-before s) (Pending-receive s x) l → Holds (Posted-before s) (Pending-receive s y) (without r l)
   queue-receive-match {l} h =
       holds-less r h (λ q c. let l = c refl in omega arith)
-      (λ q p d. pending-receive-same y (state-same (M .other q (λ e. send-receive-differ s m q (M .sends) (p .receives) (sym e)) d)) p)
+      (λ q p d. pending-receive-same y (state-same
+      (M .other q (λ e. send-receive-differ s m q (M .sends) (p .receives) (sym e)) d)) p)
       (λ q p. grows-receive (matches-grows M) q (not-new q (p .unmatched) (M .one)) p)
       (λ p. p .unmatched (matches-receive-state M))

@@ -42,19 +42,22 @@ run-stays s fuel o x e =
       ended = ap is-none e;
     }
 
-run-goes : (s : Sheet) (fuel : ℕ) (o : List ℕ) (x : Job) (r : ℕ) (e : Ran) → able s x r ≡ true → Runs s fuel (o ++ (r ∷ [])) (step s r x) e → Runs s (suc fuel) o x e
+run-goes : (s : Sheet) (fuel : ℕ) (o : List ℕ) (x : Job) (r : ℕ) (e : Ran) → able s x r ≡ true →
+    Runs s fuel (o ++ (r ∷ [])) (step s r x) e → Runs s (suc fuel) o x e
 unfolding follow-from
 run-goes s fuel o x r e a h =
     record {
       rest = r ∷ h .rest;
       order-is = h .order-is ∙ append-assoc o (r ∷ []) (h .rest);
       followed-is = λ k.
-          ap (λ (b : Bool). cond b (follow-from (suc k) s (h .rest) (step s r x)) (followed (some k) x)) a ∙ h .followed-is (suc k);
+          ap (λ (b : Bool). cond b (follow-from (suc k) s (h .rest) (step s r x)) (followed (some k) x)) a
+          ∙ h .followed-is (suc k);
       short = omega (arith, h .short);
       ended = h .ended;
     }
 
-run-runs : {s : Sheet} → Good s → Ground s → {lent : List ℕ} → inbox-total s ≤ length lent → (fuel : ℕ) (o : List ℕ) {x : Job} → Reached s lent x →
+run-runs : {s : Sheet} → Good s → Ground s → {lent : List ℕ} → inbox-total s ≤ length lent → (fuel : ℕ) (o : List ℕ) {x : Job} →
+    Reached s lent x →
     2 * N-of s ≤ fuel + x .steps → Runs s fuel o x (run-from fuel s o x)
 unfolding run-from run-next
 run-runs {s} g A room zero o {x} R l = go (next-rank s x) refl
@@ -63,12 +66,15 @@ run-runs {s} g A room zero o {x} R l = go (next-rank s x) refl
     go none e = run-stays s 0 o x e
     go (some r) e = absurd (omega (arith, able-room R g r (next-some s x r e)))
 run-runs {s} g A room (suc fuel) o {x} R l =
-    go (next-rank s x) refl (λ r a. run-runs g A room fuel (o ++ (r ∷ [])) (step-sound g A room R r a .reached) (omega (arith, step-counted g R r a)))
+    go (next-rank s x) refl (λ r a. run-runs g A room fuel (o ++ (r ∷ [])) (step-sound g A room R r a .reached)
+    (omega (arith, step-counted g R r a)))
   where
-    go : (n : Option ℕ) → next-rank s x ≡ n → ((r : ℕ) → able s x r ≡ true → Runs s fuel (o ++ (r ∷ [])) (step s r x) (run-from fuel s (o ++ (r ∷ [])) (step s r x))) →
+    go : (n : Option ℕ) → next-rank s x ≡ n →
+        ((r : ℕ) → able s x r ≡ true → Runs s fuel (o ++ (r ∷ [])) (step s r x) (run-from fuel s (o ++ (r ∷ [])) (step s r x))) →
         Runs s (suc fuel) o x (run-next n s o x (λ p y. run-from fuel s p y))
     go none e rest = run-stays s (suc fuel) o x e
-    go (some r) e rest = let a = next-some s x r e in run-goes s fuel o x r (run-from fuel s (o ++ (r ∷ [])) (step s r x)) a (rest r a)
+    go (some r) e rest = let a = next-some s x r e in run-goes s fuel o x r (run-from fuel s (o ++ (r ∷ [])) (step s r x)) a
+        (rest r a)
 
 pub run-ended : {s : Sheet} → Good s → Ground s → (lent : List ℕ) → inbox-total s ≤ length lent → Ends s lent
 unfolding run accepts left-by follow followed is-none started job

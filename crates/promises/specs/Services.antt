@@ -60,7 +60,8 @@ record Shows (s : Sheet) (x : Job) (i r : List ℕ) : Type 0 where
   memory : i ≡ x .memory
   reported : take (report-size (P-of s) (N-of s)) r ≡ report s x
 
-shows : (s : Sheet) (x : Job) {i r : List ℕ} (old : List ℕ) → length (x .entries) ≡ N-of s → i ≡ x .memory → r ≡ in-front (report s x) old → Shows s x i r
+shows : (s : Sheet) (x : Job) {i r : List ℕ} (old : List ℕ) → length (x .entries) ≡ N-of s → i ≡ x .memory →
+    r ≡ in-front (report s x) old → Shows s x i r
 shows s x old long m h =
     record {
       memory = m;
@@ -69,12 +70,15 @@ shows s x old long m h =
           ∙ front-report (report s x) old (report-size (P-of s) (N-of s)) (report-length s x long);
     }
 
-shown-alike : (bs : List ℕ) {i r j q : List ℕ} {x y : Job} → Shows (sheet-in bs) x i r → Shows (sheet-in bs) y j q → Alike-front (sheet-in bs) x y → Left-alike bs i r j q
+shown-alike : (bs : List ℕ) {i r j q : List ℕ} {x y : Job} → Shows (sheet-in bs) x i r → Shows (sheet-in bs) y j q →
+    Alike-front (sheet-in bs) x y → Left-alike bs i r j q
 unfolding Left-alike
 shown-alike bs a b h =
     let s = sheet-in bs in (
-      ap (λ (z : List ℕ). take (inbox-total s) z) (a .memory) ∙ h .memory ∙ ap (λ (z : List ℕ). take (inbox-total s) z) (sym (b .memory)),
-      ap (λ (z : List ℕ). without-peaks (P-of s) z) (a .reported) ∙ h .reports ∙ ap (λ (z : List ℕ). without-peaks (P-of s) z) (sym (b .reported)),
+      ap (λ (z : List ℕ). take (inbox-total s) z) (a .memory) ∙ h .memory
+          ∙ ap (λ (z : List ℕ). take (inbox-total s) z) (sym (b .memory)),
+      ap (λ (z : List ℕ). without-peaks (P-of s) z) (a .reported) ∙ h .reports
+          ∙ ap (λ (z : List ℕ). without-peaks (P-of s) z) (sym (b .reported)),
     )
 
 -- CALLS
@@ -94,9 +98,11 @@ module _ (long : Entries-long) {bs : List ℕ} (p : passes bs ≡ true) where
         room = follow-answer p f .inbox-room;
       }
 
-  follow-shows : {o : List ℕ} (f : Follow-call bs o) → f .number ≡ 0 → Shows (sheet-in bs) (left-by (sheet-in bs) o (f .inbox)) (f .inbox-now) (f .report-now)
+  follow-shows : {o : List ℕ} (f : Follow-call bs o) → f .number ≡ 0 →
+      Shows (sheet-in bs) (left-by (sheet-in bs) o (f .inbox)) (f .inbox-now) (f .report-now)
   follow-shows {o} f h =
-      shows (sheet-in bs) (left-by (sheet-in bs) o (f .inbox)) (f .report) (long bs (f .inbox) o (follow-lent f)) (follow-inbox p f h) (follow-report p f h)
+      shows (sheet-in bs) (left-by (sheet-in bs) o (f .inbox)) (f .report) (long bs (f .inbox) o (follow-lent f))
+      (follow-inbox p f h) (follow-report p f h)
 
   run-lent : (g : Run-call bs) → Lent bs (g .inbox)
   run-lent g =
@@ -105,14 +111,17 @@ module _ (long : Entries-long) {bs : List ℕ} (p : passes bs ≡ true) where
         room = run-answer p g .inbox-room;
       }
 
-  run-shows : (g : Run-call bs) → Ends (sheet-in bs) (g .inbox) → Shows (sheet-in bs) (run (sheet-in bs) (g .inbox) .end) (g .inbox-now) (g .report-now)
+  run-shows : (g : Run-call bs) → Ends (sheet-in bs) (g .inbox) →
+      Shows (sheet-in bs) (run (sheet-in bs) (g .inbox) .end) (g .inbox-now) (g .report-now)
   run-shows g E =
       shows (sheet-in bs) (run (sheet-in bs) (g .inbox) .end) (g .report)
-      (ap (λ (z : Job). length (z .entries)) (sym (E .same-job)) ∙ long bs (g .inbox) (run (sheet-in bs) (g .inbox) .order) (run-lent g)) (run-answer p g .inbox-is)
+      (ap (λ (z : Job). length (z .entries)) (sym (E .same-job))
+      ∙ long bs (g .inbox) (run (sheet-in bs) (g .inbox) .order) (run-lent g)) (run-answer p g .inbox-is)
       (run-answer p g .report-is)
 
 -- calls on rooms that start with the same bytes
-near-start : (bs : List ℕ) {i j : List ℕ} → inbox-total (sheet-in bs) ≤ length i → inbox-total (sheet-in bs) ≤ length j → Same-start bs i j → Near (inbox-total (sheet-in bs)) i j
+near-start : (bs : List ℕ) {i j : List ℕ} → inbox-total (sheet-in bs) ≤ length i → inbox-total (sheet-in bs) ≤ length j →
+    Same-start bs i j → Near (inbox-total (sheet-in bs)) i j
 unfolding Same-start
 near-start bs a b h =
     record {
@@ -130,8 +139,10 @@ module _ (bs : List ℕ) {i j : List ℕ} (h : Near (inbox-total (sheet-in bs)) 
   unfolding accepts
   accepts-twin a = ap (λ (o : Option ℕ). is-none o) (sym (follow-twin (sheet-in bs) h rs .refused)) ∙ a
 
-  none-able-twin : none-able (sheet-in bs) (left-by (sheet-in bs) rs j) ≡ true → none-able (sheet-in bs) (left-by (sheet-in bs) rs i) ≡ true
-  none-able-twin a = level-none-able (sheet-in bs) (left-by (sheet-in bs) rs i) (left-by (sheet-in bs) rs j) (twin-level (sheet-in bs) left-twin) ∙ a
+  none-able-twin : none-able (sheet-in bs) (left-by (sheet-in bs) rs j) ≡ true →
+      none-able (sheet-in bs) (left-by (sheet-in bs) rs i) ≡ true
+  none-able-twin a = level-none-able (sheet-in bs) (left-by (sheet-in bs) rs i) (left-by (sheet-in bs) rs j)
+      (twin-level (sheet-in bs) left-twin) ∙ a
 
 -- THE LAWS
 pub follows-alike : Ends-alike → Entries-long → Follows-alike
@@ -139,7 +150,8 @@ unfolding Ends-alike Follows-alike
 follows-alike ends long bs a b f g p c same zero-f zero-g full-a full-b =
     let near = near-start bs (follow-answer p f .inbox-room) (follow-answer p g .inbox-room) same in
     shown-alike bs (follow-shows long p f zero-f) (follow-shows long p g zero-g)
-    (front-next (front-alike (ends bs (f .inbox) a b (follow-given long p f c) (follow-accepted p f zero-f) (accepts-twin bs near b (follow-accepted p g zero-g)) full-a (none-able-twin bs near b full-b) .0))
+    (front-next (front-alike (ends bs (f .inbox) a b (follow-given long p f c) (follow-accepted p f zero-f)
+    (accepts-twin bs near b (follow-accepted p g zero-g)) full-a (none-able-twin bs near b full-b) .0))
     (front-twin (left-twin bs near b)))
 
 pub run-alike : Ends-alike → Run-ends → Entries-long → Run-alike
@@ -149,7 +161,8 @@ run-alike ends runs long bs a f g p c same zero-f full =
     let accepted = follow-accepted p f zero-f in (
       run-answer p g .number-zero,
       shown-alike bs (follow-shows long p f zero-f) (run-shows long p g (runs bs (g .inbox) (run-lent long p g)))
-          (front-next (front-alike (ends bs (f .inbox) a a (follow-given long p f c) accepted accepted full full .1)) (front-twin (run-twin (sheet-in bs) near .end))),
+          (front-next (front-alike (ends bs (f .inbox) a a (follow-given long p f c) accepted accepted full full .1))
+          (front-twin (run-twin (sheet-in bs) near .end))),
     )
 
 pub follow-swaps : Swap-same → Entries-long → Follow-swaps
@@ -160,9 +173,11 @@ follow-swaps swap long bs before after p q f g pass c same accepted differ able-
     let twin = follow-twin (sheet-in bs) near (before ++ (q ∷ p ∷ after)) in
     let refused = swapped .0 ∙ sym (twin .refused) in
     let number-same : f .number ≡ g .number =
-    follow-answer pass f .number-is ∙ ap (λ (o : Option ℕ). order-refusal o .number) refused ∙ sym (follow-answer pass g .number-is) in (
+    follow-answer pass f .number-is ∙ ap (λ (o : Option ℕ). order-refusal o .number) refused
+    ∙ sym (follow-answer pass g .number-is) in (
       number-same,
-      follow-answer pass f .place-is ∙ ap (λ (o : Option ℕ). order-refusal o .place) refused ∙ sym (follow-answer pass g .place-is),
+      follow-answer pass f .place-is ∙ ap (λ (o : Option ℕ). order-refusal o .place) refused
+          ∙ sym (follow-answer pass g .place-is),
       λ zero-f.
           shown-alike bs (follow-shows long pass f zero-f) (follow-shows long pass g (sym number-same ∙ zero-f))
           (front-next (front-alike (swapped .1)) (front-twin (left-twin bs near (before ++ (q ∷ p ∷ after))))),

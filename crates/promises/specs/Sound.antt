@@ -48,13 +48,17 @@ pub record Extended {s : Sheet} {lent : List ℕ} {x : Job} (R : Reached s lent 
   pub old : (j : ℕ) → Entered x j → reached .came j ≡ R .came j
   pub new : Entered y i → (Entered x i → ⊥) → (j : ℕ) → Entered x j → reached .came j < reached .came i
 
-module _ {s : Sheet} (g : Good s) (A : Ground s) {lent : List ℕ} (room : inbox-total s ≤ length lent) {x : Job} (R : Reached s lent x) where
+module _ {s : Sheet} (g : Good s) (A : Ground s) {lent : List ℕ} (room : inbox-total s ≤ length lent) {x : Job}
+    (R : Reached s lent x) where
   -- the parts of the invariant that places alone decide; the others are told
-  extended-turn : {y : Job} {r : ℕ} {last : Bool} → Turn s x y r last → (came : ℕ → ℕ) → ((j : ℕ) → Entered x j → came j ≡ R .came j) →
-      (Entered y (next-op s x r) → (Entered x (next-op s x r) → ⊥) → (j : ℕ) → Entered x j → came j < came (next-op s x r)) → Stable s came y → Arrived s came y → Shaped s y →
+  extended-turn : {y : Job} {r : ℕ} {last : Bool} → Turn s x y r last → (came : ℕ → ℕ) →
+      ((j : ℕ) → Entered x j → came j ≡ R .came j) →
+      (Entered y (next-op s x r) → (Entered x (next-op s x r) → ⊥) → (j : ℕ) → Entered x j → came j < came (next-op s x r)) →
+      Stable s came y → Arrived s came y → Shaped s y →
       Holds (Came-before came) (Pending-message s y) (y .messages) → Holds (Posted-before s) (Pending-receive s y) (y .receives) →
       ((q : ℕ) → q < P-of s → place-at y q .in-use ≡ sum-below (N-of s) (charge-in s y q)) →
-      ((q : ℕ) → q < P-of s → place-at y q .in-use ≤ board s q .attached) → y .memory ≡ painted s y (N-of s) lent → Extended R y (next-op s x r)
+      ((q : ℕ) → q < P-of s → place-at y q .in-use ≤ board s q .attached) → y .memory ≡ painted s y (N-of s) lent →
+      Extended R y (next-op s x r)
   extended-turn {y} {r} {last} T came old new stable arrived shaped messages receives uses covered memory =
       record {
         reached =
@@ -97,7 +101,8 @@ module _ {s : Sheet} (g : Good s) (A : Ground s) {lent : List ℕ} (room : inbox
       ∙ sum-same (N-of s) (charge-in s x q) (charge-in s y q) (λ j k. charge-same s x y q j (state-same (same j)))
 
   -- where no more is in use than was, the attached buffer covers it
-  covered-less : (y : Job) → ((q : ℕ) → place-at y q .in-use ≤ place-at x q .in-use) → (q : ℕ) → q < P-of s → place-at y q .in-use ≤ board s q .attached
+  covered-less : (y : Job) → ((q : ℕ) → place-at y q .in-use ≤ place-at x q .in-use) → (q : ℕ) → q < P-of s →
+      place-at y q .in-use ≤ board s q .attached
   covered-less y less q l = omega (arith, less q, R .in-use-peak q, R .peak-attached q l)
 
   module _ (y : Job) (r : ℕ) (n : Next s x r) where
@@ -108,13 +113,18 @@ module _ {s : Sheet} (g : Good s) (A : Ground s) {lent : List ℕ} (room : inbox
     now = came-with (R .came) i (x .steps)
 
     -- a waiting half ended: nothing entered
-    sound-half : place-at x r .waiting ≡ true → Moved x y r true → Quiet x y → Use x y use-kept → y .entries ≡ x .entries → Extended R y i
+    sound-half : place-at x r .waiting ≡ true → Moved x y r true → Quiet x y → Use x y use-kept → y .entries ≡ x .entries →
+        Extended R y i
     sound-half w m k uses e =
-        extended-turn T (R .came) (λ j h. refl) (λ inn out j h. absurd (out (omega (arith, state-same (same i))))) (stable-same same (R .stable))
+        extended-turn T (R .came) (λ j h. refl) (λ inn out j h. absurd (out (omega (arith, state-same (same i)))))
+        (stable-same same (R .stable))
         (arrived-same same (omega (arith, m .steps-more)) (R .arrived)) (shaped-same y (R .shaped) e)
-        (subst (λ (l : List ℕ). Holds (Came-before (R .came)) (Pending-message s y) l) (sym (k .messages)) (messages-same same (R .messages-held)))
-        (subst (λ (l : List ℕ). Holds (Posted-before s) (Pending-receive s y) l) (sym (k .receives)) (receives-same same (R .receives-held)))
-        (uses-same y same uses) (covered-less y (λ q. omega (arith, uses q))) (k .memory ∙ R .memory-painted ∙ sym (painted-rows s x y (N-of s) lent same))
+        (subst (λ (l : List ℕ). Holds (Came-before (R .came)) (Pending-message s y) l) (sym (k .messages))
+        (messages-same same (R .messages-held)))
+        (subst (λ (l : List ℕ). Holds (Posted-before s) (Pending-receive s y) l) (sym (k .receives))
+        (receives-same same (R .receives-held)))
+        (uses-same y same uses) (covered-less y (λ q. omega (arith, uses q)))
+        (k .memory ∙ R .memory-painted ∙ sym (painted-rows s x y (N-of s) lent same))
       where
         same : Same-rows x y
         same = rows-same x y e
@@ -129,33 +139,41 @@ module _ {s : Sheet} (g : Good s) (A : Ground s) {lent : List ℕ} (room : inbox
     sound-enters : {v : ℕ} {last : Bool} → Turn s x y r last → Enters x y i v → v ≡ unmatched-state (op s i) →
         (is-send (op s i) ≡ true → (q : ℕ) → Pending-receive s x q → fits-with s i q ≡ true → ⊥) →
         (is-receive (op s i) ≡ true → (m : ℕ) → Pending-message s x m → fits-with s m i ≡ true → ⊥) →
-        Holds (Came-before now) (Pending-message s y) (y .messages) → Holds (Posted-before s) (Pending-receive s y) (y .receives) →
+        Holds (Came-before now) (Pending-message s y) (y .messages) →
+        Holds (Posted-before s) (Pending-receive s y) (y .receives) →
         ((q : ℕ) → q < P-of s → place-at y q .in-use ≡ sum-below (N-of s) (charge-in s y q)) →
         ((q : ℕ) → q < P-of s → place-at y q .in-use ≤ board s q .attached) → y .memory ≡ x .memory → Extended R y i
     sound-enters T E state no-receive no-message messages receives uses covered memory =
         extended-turn T now (came-old (enters-grows E)) (λ inn out. arrives-later (R .arrived) (enters-grows E) .new)
         (enter-stable (R .stable) (arrives-later (R .arrived) (enters-grows E)) E no-receive no-message)
-        (arrived-step (R .arrived) (enters-grows E) (R .placed) (T .moved .steps-more)) (shaped-enters (R .shaped) E state) messages receives uses covered
+        (arrived-step (R .arrived) (enters-grows E) (R .placed) (T .moved .steps-more))
+        (shaped-enters (R .shaped) E state) messages receives uses covered
         (memory ∙ R .memory-painted ∙ sym (painted-enters s (N-of s) lent E))
 
     later : {v : ℕ} → Enters x y i v → Later (R .came) now x i
     later E = arrives-later (R .arrived) (enters-grows E)
 
     -- an operation that is not charged
-    uses-other : {v : ℕ} → Enters x y i v → v ≢ 2 → Use x y use-kept → (q : ℕ) → q < P-of s → place-at y q .in-use ≡ sum-below (N-of s) (charge-in s y q)
+    uses-other : {v : ℕ} → Enters x y i v → v ≢ 2 → Use x y use-kept → (q : ℕ) → q < P-of s →
+        place-at y q .in-use ≡ sum-below (N-of s) (charge-in s y q)
     uses-other E d uses q l = uses q ∙ R .in-use-sum q l ∙ charging-other s E d q
 
-    messages-are : {l : List ℕ} → y .messages ≡ l → Holds (Came-before now) (Pending-message s y) l → Holds (Came-before now) (Pending-message s y) (y .messages)
+    messages-are : {l : List ℕ} → y .messages ≡ l → Holds (Came-before now) (Pending-message s y) l →
+        Holds (Came-before now) (Pending-message s y) (y .messages)
     messages-are e h = subst (λ (l : List ℕ). Holds (Came-before now) (Pending-message s y) l) (sym e) h
 
-    receives-are : {l : List ℕ} → y .receives ≡ l → Holds (Posted-before s) (Pending-receive s y) l → Holds (Posted-before s) (Pending-receive s y) (y .receives)
+    receives-are : {l : List ℕ} → y .receives ≡ l → Holds (Posted-before s) (Pending-receive s y) l →
+        Holds (Posted-before s) (Pending-receive s y) (y .receives)
     receives-are e h = subst (λ (l : List ℕ). Holds (Posted-before s) (Pending-receive s y) l) (sym e) h
 
-    sound-wait : place-at x r .waiting ≡ false → is-wait (op s i) ≡ true → Moved x y r true → Quiet x y → Use x y use-kept → Enters x y i 5 → Extended R y i
+    sound-wait : place-at x r .waiting ≡ false → is-wait (op s i) ≡ true → Moved x y r true → Quiet x y → Use x y use-kept →
+        Enters x y i 5 → Extended R y i
     sound-wait w e m k uses E =
-        sound-enters (turn-wait n m (enters-grows E) w e) E (sym (unmatched-wait s i e)) (λ a. true-not-false a no-send) (λ a. true-not-false a no-receive)
+        sound-enters (turn-wait n m (enters-grows E) w e) E (sym (unmatched-wait s i e)) (λ a. true-not-false a no-send)
+        (λ a. true-not-false a no-receive)
         (messages-are (k .messages) (queue-message-other E (later E) no-send (R .messages-held)))
-        (receives-are (k .receives) (queue-receive-other E no-receive (R .receives-held))) (uses-other E (omega arith) uses) (covered-less y (λ q. omega (arith, uses q)))
+        (receives-are (k .receives) (queue-receive-other E no-receive (R .receives-held))) (uses-other E (omega arith) uses)
+        (covered-less y (λ q. omega (arith, uses q)))
         (k .memory)
       where
         no-send : is-send (op s i) ≡ false
@@ -164,29 +182,36 @@ module _ {s : Sheet} (g : Good s) (A : Ground s) {lent : List ℕ} (room : inbox
         no-receive : is-receive (op s i) ≡ false
         no-receive = not-so (is-receive (op s i)) (λ a. true-not-false e (receive-no-wait (op s i) a))
 
-    sound-posts : place-at x r .waiting ≡ false → is-receive (op s i) ≡ true → Moved x y r (is-nonblocking (op s i)) → Use x y use-kept → Enters x y i 1 →
-        y .messages ≡ x .messages → y .receives ≡ x .receives ++ (i ∷ []) → y .memory ≡ x .memory → first-message s i (x .messages) ≡ none → Extended R y i
+    sound-posts : place-at x r .waiting ≡ false → is-receive (op s i) ≡ true → Moved x y r (is-nonblocking (op s i)) →
+        Use x y use-kept → Enters x y i 1 →
+        y .messages ≡ x .messages → y .receives ≡ x .receives ++ (i ∷ []) → y .memory ≡ x .memory →
+        first-message s i (x .messages) ≡ none → Extended R y i
     unfolding first-message
     sound-posts w e m uses E messages receives memory none-fits =
         sound-enters (turn-initiating n m (enters-grows E) w (receive-no-wait (op s i) e)) E (sym (unmatched-receive s i e))
         (λ a. true-not-false a (receive-no-send (op s i) e))
-        (λ a k p f. true-not-false f (first-by-none (λ k. fits-with s k i) (x .messages) none-fits k (R .messages-held .whole k p)))
+        (λ a k p f. true-not-false f (first-by-none (λ k. fits-with s k i) (x .messages) none-fits k
+        (R .messages-held .whole k p)))
         (messages-are messages (queue-message-other E (later E) (receive-no-send (op s i) e) (R .messages-held)))
         (receives-are receives (queue-receive E (R .placed) e (R .receives-held))) (uses-other E (omega arith) uses)
         (covered-less y (λ q. omega (arith, uses q))) memory
 
-    sound-pends : place-at x r .waiting ≡ false → is-send (op s i) ≡ true → Moved x y r (is-nonblocking (op s i)) → Use x y (use-charged s r i) →
-        Enters x y i (unmatched-state (op s i)) → y .messages ≡ x .messages ++ (i ∷ []) → y .receives ≡ x .receives → y .memory ≡ x .memory →
+    sound-pends : place-at x r .waiting ≡ false → is-send (op s i) ≡ true → Moved x y r (is-nonblocking (op s i)) →
+        Use x y (use-charged s r i) →
+        Enters x y i (unmatched-state (op s i)) → y .messages ≡ x .messages ++ (i ∷ []) → y .receives ≡ x .receives →
+        y .memory ≡ x .memory →
         first-receive s i (x .receives) ≡ none → (is-buffered (op s i) ≡ true → fits-buffer s r i x ≡ true) → Extended R y i
     unfolding first-receive use-charged fits-buffer
     sound-pends w e m uses E messages receives memory none-fits fits =
         sound-enters (turn-initiating n m (enters-grows E) w (send-no-wait (op s i) e)) E refl
-        (λ a q p f. true-not-false f (first-by-none (λ q. fits-with s i q) (x .receives) none-fits q (R .receives-held .whole q p)))
+        (λ a q p f. true-not-false f (first-by-none (λ q. fits-with s i q) (x .receives) none-fits q
+        (R .receives-held .whole q p)))
         (λ a. true-not-false a (send-no-receive (op s i) e))
         (messages-are messages (queue-message E (later E) e (R .messages-held)))
         (receives-are receives (queue-receive-other E (send-no-receive (op s i) e) (R .receives-held)))
         (λ q l. uses q ∙ charging-enters s r q (place-at x q .in-use) E (n .inside) (n .ranked) e (R .in-use-sum q l))
-        (λ q l. subst (λ (k : ℕ). k ≤ board s q .attached) (sym (uses q)) (covered q l (eqb q r) refl (is-buffered (op s i)) refl)) memory
+        (λ q l. subst (λ (k : ℕ). k ≤ board s q .attached) (sym (uses q))
+        (covered q l (eqb q r) refl (is-buffered (op s i)) refl)) memory
       where
         -- the charge of this send had room
         covered : (q : ℕ) → q < P-of s → (a : Bool) → eqb q r ≡ a → (b : Bool) → is-buffered (op s i) ≡ b →
@@ -197,16 +222,21 @@ module _ {s : Sheet} (g : Good s) (A : Ground s) {lent : List ℕ} (room : inbox
         covered q l true p false o = omega (arith, R .in-use-peak q, R .peak-attached q l)
         covered q l false p b o = omega (arith, R .in-use-peak q, R .peak-attached q l)
 
-    sound-meets : (m q : ℕ) → place-at x r .waiting ≡ false → Moved x y r (is-nonblocking (op s i)) → Use x y (use-released s x m) → Matches s x y m q i →
+    sound-meets : (m q : ℕ) → place-at x r .waiting ≡ false → Moved x y r (is-nonblocking (op s i)) →
+        Use x y (use-released s x m) → Matches s x y m q i →
         y .messages ≡ without m (x .messages) → y .receives ≡ without q (x .receives) → y .memory ≡ delivered s m q (x .memory) →
-        ((q ≡ i) × (first-message s i (x .messages) ≡ some m)) ⊎ ((m ≡ i) × (first-receive s i (x .receives) ≡ some q)) → Extended R y i
+        ((q ≡ i) × (first-message s i (x .messages) ≡ some m)) ⊎ ((m ≡ i) × (first-receive s i (x .receives) ≡ some q)) →
+        Extended R y i
     unfolding first-message first-receive use-released
     sound-meets m q w v uses M messages receives memory found =
-        extended-turn (turn-initiating n v G w (not-wait (M .one))) now (came-old G) (λ inn out. L .new) (match-stable (R .stable) L M (first found))
+        extended-turn (turn-initiating n v G w (not-wait (M .one))) now (came-old G) (λ inn out. L .new)
+        (match-stable (R .stable) L M (first found))
         (arrived-step (R .arrived) G (R .placed) (v .steps-more)) (shaped-matches (R .shaped) M)
-        (messages-are messages (queue-message-match M L (R .messages-held))) (receives-are receives (queue-receive-match M (R .receives-held)))
+        (messages-are messages (queue-message-match M L (R .messages-held)))
+        (receives-are receives (queue-receive-match M (R .receives-held)))
         (λ o l. uses o ∙ charging-matches o (place-at x o .in-use) M (R .shaped) inside-m (R .in-use-sum o l))
-        (covered-less y (λ o. released-less (eqb o (rank-of s m) && eqb (state-at x m) 2) (place-at x o .in-use) (charge-of (op s m)) (uses o)))
+        (covered-less y (λ o. released-less (eqb o (rank-of s m) && eqb (state-at x m) 2) (place-at x o .in-use)
+        (charge-of (op s m)) (uses o)))
         (memory ∙ ap (λ (z : List ℕ). delivered s m q z) (R .memory-painted)
         ∙ sym (painted-matches g A (R .stable) (R .placed) (R .shaped) M inside-m inside-q (N-of s) lent inside-q room))
       where
@@ -234,7 +264,8 @@ module _ {s : Sheet} (g : Good s) (A : Ground s) {lent : List ℕ} (room : inbox
         inside-q : q < N-of s
         inside-q = inside q (M .receive-there) (ℕ-discrete q i)
 
-        first : ((q ≡ i) × (first-message s i (x .messages) ≡ some m)) ⊎ ((m ≡ i) × (first-receive s i (x .receives) ≡ some q)) → First s now y m q
+        first : ((q ≡ i) × (first-message s i (x .messages) ≡ some m)) ⊎ ((m ≡ i) × (first-receive s i (x .receives) ≡ some q)) →
+            First s now y m q
         first (inl e) =
             first-for-receive (R .stable) (R .placed) L M (e .0) r n refl (R .messages-held)
             (first-by-some (λ k. fits-with s k i) (x .messages) (R .messages-held .sorted) m (e .1))
@@ -245,7 +276,8 @@ module _ {s : Sheet} (g : Good s) (A : Ground s) {lent : List ℕ} (room : inbox
   -- a stopping step: only the stop and the count of steps change
   sound-stops : (v r : ℕ) → Next s x r → (v ≡ 3) ⊎ (v ≡ 4) → place-at x r .waiting ≡ false →
       Extended R (with-steps (suc (x .steps)) (stopped v r (next-op s x r) x)) (next-op s x r)
-  unfolding stopped with-stop with-steps job place-at entry-at next-op reach half-complete complete complete-if is-none charge-in steps-done
+  unfolding stopped with-stop with-steps job place-at entry-at next-op reach half-complete complete complete-if is-none charge-in
+      steps-done
   sound-stops v r n reason w =
       record {
         reached =
@@ -273,7 +305,9 @@ module _ {s : Sheet} (g : Good s) (A : Ground s) {lent : List ℕ} (room : inbox
               peak-attached = R .peak-attached;
               memory-painted = R .memory-painted ∙ sym (painted-rows s x y (N-of s) lent same);
               memory-long = R .memory-long;
-              steps-sum = ap suc (R .steps-sum) ∙ ap (λ (o : Option Stop). suc (sum-below (N-of s) (steps-done s x) + cond (is-none o) 0 1)) (n .going) ∙ omega arith;
+              steps-sum = ap suc (R .steps-sum)
+                  ∙ ap (λ (o : Option Stop). suc (sum-below (N-of s) (steps-done s x) + cond (is-none o) 0 1)) (n .going)
+                  ∙ omega arith;
               stop-at = λ t e. at t e;
             };
         on = λ j h. h;

@@ -79,7 +79,8 @@ module _ {s : Sheet} (g : Good s) (lent : List ℕ) where
   start-steps j l =
       ap (λ (b : Bool). cond b (steps-of (op s j)) (cond (ltb j (reach s x₀ (rank-of s j))) 1 0))
       (le-ltb j (next-op s x₀ (rank-of s j)) (omega (arith, start-next (rank-of s j), g .rank-low j l)))
-      ∙ ap (λ (b : Bool). cond b 1 0) (le-ltb j (reach s x₀ (rank-of s j)) (omega (arith, start-reach (rank-of s j), g .rank-low j l)))
+      ∙ ap (λ (b : Bool). cond b 1 0) (le-ltb j (reach s x₀ (rank-of s j))
+      (omega (arith, start-reach (rank-of s j), g .rank-low j l)))
 
   pub start-reached : Reached s lent x₀
   unfolding started job is-none
@@ -115,7 +116,8 @@ module _ {s : Sheet} (g : Good s) (lent : List ℕ) where
         shaped =
             record {
               row = λ j.
-                  start-entry j ∙ sym (row-bare s j 0 (partner-at x₀ j) (omega arith)) ∙ ap (λ (v : ℕ). row-of s j v (partner-at x₀ j)) (sym (start-state j));
+                  start-entry j ∙ sym (row-bare s j 0 (partner-at x₀ j) (omega arith))
+                  ∙ ap (λ (v : ℕ). row-of s j v (partner-at x₀ j)) (sym (start-state j));
               unmatched = λ j h. none-entered j h;
               wait-unmatched = λ j w c. omega (arith, start-state j);
             };
@@ -131,7 +133,8 @@ module _ {s : Sheet} (g : Good s) (lent : List ℕ) where
               whole = λ v p. none-entered v (p .entered);
               sorted = tt;
             };
-        in-use-sum = λ r l. start-in-use r ∙ sym (sum-zero (N-of s) (charge-in s x₀ r) (λ j k. charge-none s x₀ r j (λ c. omega (arith, start-state j))));
+        in-use-sum = λ r l. start-in-use r ∙ sym
+            (sum-zero (N-of s) (charge-in s x₀ r) (λ j k. charge-none s x₀ r j (λ c. omega (arith, start-state j))));
         in-use-peak = λ r. omega (arith, start-in-use r);
         peak-attached = λ r l. omega (arith, start-peak r);
         memory-painted = sym (painted-none s x₀ (N-of s) lent (λ j c. omega (arith, start-state j)));
@@ -146,7 +149,8 @@ pub follow-from-keeps : (s : Sheet) (P : Job → Type 0) → ((x : Job) (r : ℕ
     (k : ℕ) (rs : List ℕ) (x : Job) → P x → P (follow-from k s rs x .left)
 unfolding follow-from followed
 follow-from-keeps s P keeps k [] x h = h
-follow-from-keeps s P keeps k (r ∷ rs) x h = go (able s x r) refl (λ a. follow-from-keeps s P keeps (suc k) rs (step s r x) (keeps x r h a))
+follow-from-keeps s P keeps k (r ∷ rs) x h = go (able s x r) refl
+    (λ a. follow-from-keeps s P keeps (suc k) rs (step s r x) (keeps x r h a))
   where
     go : (b : Bool) → able s x r ≡ b → (able s x r ≡ true → P (follow-from (suc k) s rs (step s r x) .left)) →
         P (cond b (follow-from (suc k) s rs (step s r x)) (followed (some k) x) .left)
@@ -158,6 +162,7 @@ pub left-keeps : (s : Sheet) (P : Job → Type 0) → ((x : Job) (r : ℕ) → P
 unfolding left-by follow
 left-keeps s P keeps rs lent h = follow-from-keeps s P keeps 0 rs (started s lent) h
 
-pub left-reached : {s : Sheet} → Good s → Ground s → {lent : List ℕ} → inbox-total s ≤ length lent → (rs : List ℕ) → Reached s lent (left-by s rs lent)
+pub left-reached : {s : Sheet} → Good s → Ground s → {lent : List ℕ} → inbox-total s ≤ length lent → (rs : List ℕ) →
+    Reached s lent (left-by s rs lent)
 left-reached {s} g A {lent} room rs =
     left-keeps s (Reached s lent) (λ x r R a. step-sound g A room R r a .reached) rs lent (start-reached g lent)

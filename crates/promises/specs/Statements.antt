@@ -252,7 +252,8 @@ Run-alike =
 -- With number 0, follow ends alike for both.
 unfoldable pub Follow-swaps : Type 0
 Follow-swaps =
-    (bs before after : List ℕ) (p q : ℕ) (f : Follow-call bs (before ++ (p ∷ q ∷ after))) (g : Follow-call bs (before ++ (q ∷ p ∷ after))) →
+    (bs before after : List ℕ) (p q : ℕ) (f : Follow-call bs (before ++ (p ∷ q ∷ after)))
+    (g : Follow-call bs (before ++ (q ∷ p ∷ after))) →
     passes bs ≡ true → calm (sheet-in bs) ≡ true → Same-start bs (f .inbox) (g .inbox) →
     let s = sheet-in bs in
     let x = left-by s before (f .inbox) in

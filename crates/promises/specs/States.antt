@@ -19,4 +19,5 @@ unmatched-wait s i e = ap (λ (c : Bool). cond c 5 (cond (is-buffered (op s i)) 
 pub unmatched-receive : (s : Sheet) (r : ℕ) → is-receive (op s r) ≡ true → unmatched-state (op s r) ≡ 1
 unfolding unmatched-state
 unmatched-receive s r e =
-    ap (λ (c : Bool). cond c 5 (cond (is-buffered (op s r)) 2 1)) (receive-no-wait (op s r) e) ∙ ap (λ (c : Bool). cond c 2 1) (receive-no-buffered (op s r) e)
+    ap (λ (c : Bool). cond c 5 (cond (is-buffered (op s r)) 2 1)) (receive-no-wait (op s r) e)
+    ∙ ap (λ (c : Bool). cond c 2 1) (receive-no-buffered (op s r) e)

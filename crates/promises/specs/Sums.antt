@@ -52,7 +52,8 @@ sum-term (suc n) i f l = go (ℕ-discrete n i) (λ k. sum-term n i f k)
     go (yes e) before = omega (arith, ap f e)
     go (no d) before = omega (arith, before (omega arith))
 
-pub sum-gap : (n i c : ℕ) (f g : ℕ → ℕ) → i < n → ((j : ℕ) → j < n → f j ≤ g j) → f i + c ≤ g i → sum-below n f + c ≤ sum-below n g
+pub sum-gap : (n i c : ℕ) (f g : ℕ → ℕ) → i < n → ((j : ℕ) → j < n → f j ≤ g j) → f i + c ≤ g i →
+    sum-below n f + c ≤ sum-below n g
 unfolding sum-below
 sum-gap zero i c f g l h e = absurd (omega arith)
 sum-gap (suc n) i c f g l h e = go (ℕ-discrete n i) (λ k. sum-gap n i c f g k (λ j m. h j (omega arith)) e)

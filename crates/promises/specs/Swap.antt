@@ -33,7 +33,8 @@ use Rattle.promises.specs.After.{After, goes-on, halts, step-after, step
 use Rattle.promises.specs.Like.{Like}
 
 -- A STEP of p, after which the job goes on
-module _ {s : Sheet} (g : Good s) (A : Ground s) {lent : List ℕ} (room : inbox-total s ≤ length lent) {x : Job} (X : Reached s lent x)
+module _ {s : Sheet} (g : Good s) (A : Ground s) {lent : List ℕ} (room : inbox-total s ≤ length lent) {x : Job}
+    (X : Reached s lent x)
     (p : ℕ) (a : able s x p ≡ true) (going : step s p x .stop ≡ none) where
   abbrev pub E : Extended X (step s p x) (next-op s x p)
   E = step-sound g A room X p a
@@ -62,7 +63,8 @@ module _ {s : Sheet} (g : Good s) (A : Ground s) {lent : List ℕ} (room : inbox
   swap-able q d b = still-able g X (E .reached) step-ahead q (sym (moved-stand-other step-moved q d)) b going
 
 -- BOTH STEPS, in both orders
-module _ {s : Sheet} (g : Good s) (A : Ground s) {lent : List ℕ} (room : inbox-total s ≤ length lent) {x : Job} (X : Reached s lent x)
+module _ {s : Sheet} (g : Good s) (A : Ground s) {lent : List ℕ} (room : inbox-total s ≤ length lent) {x : Job}
+    (X : Reached s lent x)
     (p q : ℕ) (d : p ≢ q) (a : able s x p ≡ true) (b : able s x q ≡ true) (H : Harmless s x p q) where
   -- a step after which the next one does not stop the job did not stop it
   went-on : (r k : ℕ) → able s x r ≡ true → step s k (step s r x) .stop ≡ none → step s r x .stop ≡ none
@@ -125,7 +127,8 @@ module _ {s : Sheet} (g : Good s) (A : Ground s) {lent : List ℕ} (room : inbox
       go (no c) (yes e) =
           subst (λ (z : ℕ). stand (step s q (step s p x)) z ≡ stand (step s p (step s q x)) z) (sym e)
           (sym (moved-stand-other MQP q (λ h. d (sym h)) ∙ stand-moved s x (step s p x) q second-q MQ MPQ))
-      go (no c) (no h) = moved-stand-other MPQ r h ∙ moved-stand-other MP r c ∙ sym (moved-stand-other MQP r c ∙ moved-stand-other MQ r h)
+      go (no c) (no h) = moved-stand-other MPQ r h ∙ moved-stand-other MP r c
+          ∙ sym (moved-stand-other MQP r c ∙ moved-stand-other MQ r h)
 
   -- what entered is the one operation or the other
   entered-since : (k : ℕ) → Entered (step s q (step s p x)) k → (Entered x k → ⊥) → (k ≡ next-op s x p) ⊎ (k ≡ next-op s x q)
@@ -137,7 +140,8 @@ module _ {s : Sheet} (g : Good s) (A : Ground s) {lent : List ℕ} (room : inbox
       go (no c) (no e) = absurd (out (EP .back k c (EPQ .back k (λ f. e (f ∙ sym (stand-next s x (step s p x) q second-q))) h)))
 
   -- a board whose next operation is a send that is not entered is in no waiting half
-  in-no-half : (r k : ℕ) → able s x r ≡ true → k ≡ next-op s x r → is-send (op s k) ≡ true → (Entered x k → ⊥) → in-waiting-half s x r ≡ false
+  in-no-half : (r k : ℕ) → able s x r ≡ true → k ≡ next-op s x r → is-send (op s k) ≡ true → (Entered x k → ⊥) →
+      in-waiting-half s x r ≡ false
   unfolding in-waiting-half reach
   in-no-half r k c e sends out = go (place-at x r .waiting) refl
     where
@@ -154,7 +158,8 @@ module _ {s : Sheet} (g : Good s) (A : Ground s) {lent : List ℕ} (room : inbox
           (omega (arith, ap (λ (z : ℕ). reach s x z) (n .ranked), ap (λ (w : Bool). next-op s x r + cond w 1 0) h)))))
 
   -- the two messages do not meet in one receive
-  no-meeting : (k m r : ℕ) → k ≡ next-op s x p → m ≡ next-op s x q → is-send (op s k) ≡ true → is-send (op s m) ≡ true → is-receive (op s r) ≡ true →
+  no-meeting : (k m r : ℕ) → k ≡ next-op s x p → m ≡ next-op s x q → is-send (op s k) ≡ true → is-send (op s m) ≡ true →
+      is-receive (op s r) ≡ true →
       fits-with s k r ≡ true → fits-with s m r ≡ true → (Entered x k → ⊥) → (Entered x m → ⊥) → ⊥
   unfolding is-any-source
   no-meeting k m r ek em sk sm rr fk fm out gone = go (fit-source s k r fk) (fit-source s m r fm)
@@ -176,7 +181,8 @@ module _ {s : Sheet} (g : Good s) (A : Ground s) {lent : List ℕ} (room : inbox
       go (inr e) (inl f) = race f
       go (inr e) (inr f) = d (sym rank-k ∙ sym e ∙ f ∙ rank-m)
 
-  no-meetings : (k m r : ℕ) → is-send (op s k) ≡ true → is-send (op s m) ≡ true → is-receive (op s r) ≡ true → fits-with s k r ≡ true → fits-with s m r ≡ true →
+  no-meetings : (k m r : ℕ) → is-send (op s k) ≡ true → is-send (op s m) ≡ true → is-receive (op s r) ≡ true →
+      fits-with s k r ≡ true → fits-with s m r ≡ true →
       Entered (step s q (step s p x)) k → Entered (step s q (step s p x)) m → (Entered x k → ⊥) → (Entered x m → ⊥) → k ≢ m → ⊥
   no-meetings k m r sk sm rr fk fm hk hm out gone c = go (entered-since k hk out) (entered-since m hm gone)
     where
@@ -194,8 +200,10 @@ module _ {s : Sheet} (g : Good s) (A : Ground s) {lent : List ℕ} (room : inbox
             step-counted g (EP .reached) q able-q ∙ ap suc (step-counted g X p a)
             ∙ sym (step-counted g (EQ .reached) p able-p ∙ ap suc (step-counted g X q b));
         places = λ r l. swap-places r;
-        order = grew-order grew-pq grew-qp (λ k h. h) (λ k h. h) back same (λ k m r sk sm rr fk fm hk hm. no-meetings k m r sk sm rr fk fm (back k hk) hm);
-        order-back = grew-order grew-qp grew-pq (λ k h. h) (λ k h. h) on same (λ k m r sk sm rr fk fm hk hm. no-meetings k m r sk sm rr fk fm hk (back m hm));
+        order = grew-order grew-pq grew-qp (λ k h. h) (λ k h. h) back same
+            (λ k m r sk sm rr fk fm hk hm. no-meetings k m r sk sm rr fk fm (back k hk) hm);
+        order-back = grew-order grew-qp grew-pq (λ k h. h) (λ k h. h) on same
+            (λ k m r sk sm rr fk fm hk hm. no-meetings k m r sk sm rr fk fm hk (back m hm));
       }
     where
       grew-pq : Grew X (EPQ .reached)

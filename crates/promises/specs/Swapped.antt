@@ -43,7 +43,8 @@ module _ {bs i : List ℕ} (h : Lent bs i) (before : List ℕ) (p q : ℕ) (d : 
   X = lent-reached h before
 
   -- what follows two able steps after the beginning
-  two-more : (accepted : accepts s before i ≡ true) (j k : ℕ) (after : List ℕ) → able s x j ≡ true → able s (step s j x) k ≡ true →
+  two-more : (accepted : accepts s before i ≡ true) (j k : ℕ) (after : List ℕ) → able s x j ≡ true →
+      able s (step s j x) k ≡ true →
       follow s (before ++ (j ∷ k ∷ after)) i ≡ follow-from (suc (suc (length before))) s after (step s k (step s j x))
   two-more accepted j k after a b = follow-join s before (j ∷ k ∷ after) i accepted ∙ follow-two s (length before) j k after x a b
 
@@ -54,7 +55,8 @@ module _ {bs i : List ℕ} (h : Lent bs i) (before : List ℕ) (p q : ℕ) (d : 
   exchanged after accepted a b H = (
     ap (λ (f : Followed). f .refused-at) one ∙ L .refused ∙ sym (ap (λ (f : Followed). f .refused-at) other),
     subst (λ (f : Followed). Alike s (f .left) (follow s (before ++ (q ∷ p ∷ after)) i .left)) (sym one)
-        (subst (λ (f : Followed). Alike s (follow-from n s after (step s q (step s p x)) .left) (f .left)) (sym other) (like-alike g (L .like))),
+        (subst (λ (f : Followed). Alike s (follow-from n s after (step s q (step s p x)) .left) (f .left)) (sym other)
+        (like-alike g (L .like))),
   )
     where
       n : ℕ
@@ -89,7 +91,8 @@ swap-general bs i before after p q h accepted d a b H = exchanged h before p q d
 
 pub swap-same : Swap-same
 unfolding Swap-same
-swap-same bs i before after p q h accepted d a b = exchanged lent before p q d after accepted a b (calm-harmless lent before p q d (h .calm-sheet) a b)
+swap-same bs i before after p q h accepted d a b =
+    exchanged lent before p q d after accepted a b (calm-harmless lent before p q d (h .calm-sheet) a b)
   where
     lent : Lent bs i
     lent =

@@ -40,7 +40,8 @@ unfolding steps-of
 steps-two s i a b = ap (λ (c : Bool). cond (c || is-wait (op s i)) 1 2) a ∙ ap (λ (c : Bool). cond c 1 2) b
 
 -- TURNS: an initiating step
-pub turn-initiating : {s : Sheet} {x y : Job} {r : ℕ} → Next s x r → Moved x y r (is-nonblocking (op s (next-op s x r))) → Grows x y (next-op s x r) →
+pub turn-initiating : {s : Sheet} {x y : Job} {r : ℕ} → Next s x r → Moved x y r (is-nonblocking (op s (next-op s x r))) →
+    Grows x y (next-op s x r) →
     place-at x r .waiting ≡ false → is-wait (op s (next-op s x r)) ≡ false → Turn s x y r (is-nonblocking (op s (next-op s x r)))
 turn-initiating {s} {x} {y} {r} n m G w e =
     record {
@@ -67,7 +68,8 @@ turn-wait {s} {x} {y} {r} n m G w e =
     }
 
 -- a waiting half
-pub turn-half : {s : Sheet} {x y : Job} {r : ℕ} → Placed s x → Next s x r → Moved x y r true → ((j : ℕ) → entry-at y j ≡ entry-at x j) →
+pub turn-half : {s : Sheet} {x y : Job} {r : ℕ} → Placed s x → Next s x r → Moved x y r true →
+    ((j : ℕ) → entry-at y j ≡ entry-at x j) →
     place-at x r .waiting ≡ true → Turn s x y r true
 unfolding in-waiting-half reach
 turn-half {s} {x} {y} {r} p n m same w =
