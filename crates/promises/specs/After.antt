@@ -1,6 +1,7 @@
--- What a step does to the stop and to where the boards stand, by what was known before it. Assumes nothing.
+-- What a step does to the stop and to where the boards stand, by what was known before it.
 --   stop-after, step-stop    whether and how a step stops the job
 --   After, step-after        the boards' places after a step that goes on, and after one that stops
+-- Assumes nothing.
 use mathlib.Core.Path.{_≡_, refl, sym, ap, subst, _∙_}
 use mathlib.Core.Logic.{_⊎_, inl, inr, _≢_}
 use mathlib.Core.Bool.{Bool, true, false, _||_, not, cond}

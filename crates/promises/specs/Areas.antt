@@ -1,10 +1,11 @@
--- A receive that still holds its slot has its area to itself. Let r < q be receives of one board, r nonblocking, and let no wait
--- between them wait for r. Then no wait between them names r's slot at all: the first that did would wait for r, since rule 7
--- lets nobody retake a slot that is held. So r holds its slot at q, and rule 7 keeps their areas apart. Assumes nothing.
+-- A receive that still holds its slot has its area to itself. Let r < q be receives of one board, r nonblocking, and let no
+-- wait between them wait for r. Then no wait between them names r's slot at all: the first that did would wait for r, since
+-- rule 7 lets nobody retake a slot that is held. So r holds its slot at q, and rule 7 keeps their areas apart.
 --   waited-some     what a wait waits for
 --   freed-none      a slot that no wait names is not freed
 --   rule-slot ..    rule 7, read at an operation that is no wait
 --   held-apart      the law
+-- Assumes nothing.
 use mathlib.Core.Path.{_≡_, refl, sym, ap, subst, _∙_}
 use mathlib.Core.Bool.{Bool, true, false, _&&_, _||_, not, cond}
 use mathlib.Core.Option.{some}

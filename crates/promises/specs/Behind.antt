@@ -1,11 +1,12 @@
--- A job that is behind another can only catch up. Let every board of x stand at or before its place in y, and let messages that
--- one receive could take have come in the same order: then what is matched in x is matched alike in y, what is complete in x is
--- complete in y, and a board that stands where it stood and was able is able still. Behind both ways, the rows are the same.
--- Assumes nothing.
+-- A job that is behind another can only catch up. Let every board of x stand at or before its place in y, and let messages
+-- that one receive could take have come in the same order: then what is matched in x is matched alike in y, what is complete
+-- in x is complete in y, and a board that stands where it stood and was able is able still. Behind both ways, the rows are
+-- the same.
 --   stand            where a board stands, as one number
 --   Behind           x is behind y
 --   behind-met, behind-complete, still-able
 --   level-rows       behind both ways: the same rows
+-- Assumes nothing.
 use mathlib.Core.Path.{_≡_, refl, sym, ap, _∙_}
 use mathlib.Core.Logic.{_≢_}
 use mathlib.Core.Bool.{Bool, true, false, _&&_, _||_, not, cond}

@@ -1,8 +1,9 @@
--- What a stepping engine needs of a reached job, as short laws: members of the waiting lists are operations and there is room for
--- them, numbers fit their bytes, and what is read lies inside its table. Assumes nothing.
+-- What a stepping engine needs of a reached job, as short laws: members of the waiting lists are operations and there is
+-- room for them, numbers fit their bytes, and what is read lies inside its table.
 --   messages-inside, receives-inside, messages-few, receives-few
 --   finished-few, steps-few, in-use-few, peak-few
 --   next-inside, partner-inside, source-small
+-- Assumes nothing.
 use mathlib.Core.Path.{_≡_, refl}
 use mathlib.Core.Bool.{true, _&&_}
 use mathlib.Core.List.{List}

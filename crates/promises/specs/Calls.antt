@@ -1,9 +1,10 @@
 -- What a call of follow or run on a sheet that passes has said, once number 8 does not refuse it: the rooms suffice, the
--- answer is the order's, and on success inbox and report hold what the job left. Assumes nothing.
+-- answer is the order's, and on success inbox and report hold what the job left.
 --   Follow-answer, follow-answer     of a call of follow
 --   follow-accepted ..               and of one that answered 0
 --   Run-answer, run-answer           of a call of run
 --   front-report                     the report at the front of its room
+-- Assumes nothing.
 use mathlib.Core.Path.{_≡_, refl, sym, ap, _∙_}
 use mathlib.Core.Logic.{_≢_}
 use mathlib.Core.Bool.{Bool, true, false, cond}

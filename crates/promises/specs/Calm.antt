@@ -1,10 +1,11 @@
--- Calm sheets never stop, and messages that one receive could take come in script order. The charges in use on a board are of
--- its buffered sends that are entered, so together with the one that enters they come to at most the charges of all of them,
--- which the attached buffer covers. Assumes nothing.
+-- Calm sheets never stop, and messages that one receive could take come in script order. The charges in use on a board are
+-- of its buffered sends that are entered, so together with the one that enters they come to at most the charges of all of
+-- them, which the attached buffer covers.
 --   calm-tame        no any-source receive, no ready send
 --   calm-covered     the attached buffer covers the charges of a board's script
 --   calm-going       an able step goes on
 --   calm-order       one order of arrival
+-- Assumes nothing.
 use mathlib.Core.Path.{_≡_, refl, sym, ap, _∙_}
 use mathlib.Core.Logic.{_⊎_, inl, inr, _≢_}
 use mathlib.Core.Bool.{Bool, true, false, _&&_, not, cond}

@@ -1,9 +1,9 @@
 -- What a step does to the rows, said relationally. Every initiating step and every wait enters its operation i: unmatched
 -- (`Enters`), or matched with a pending one (`Matches`). Either way the rows grow (`Grows`), which is what most proofs ask.
--- Assumes nothing.
 --   Grows           matched rows stay, i enters, nothing else does
 --   Enters          operation i enters unmatched
 --   Matches         message m and receive r are matched; one of them is i, which enters
+-- Assumes nothing.
 use mathlib.Core.Path.{_≡_, sym, ap, _∙_}
 use mathlib.Core.Logic.{_⊎_, inl, inr, _≢_}
 use mathlib.Core.Bool.{true, cond}

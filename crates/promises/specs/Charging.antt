@@ -1,7 +1,8 @@
--- In use is the sum of the pending charges, after a step as before. Assumes nothing.
+-- In use is the sum of the pending charges, after a step as before.
 --   charge-none       an operation that is not buffered and pending has no charge
 --   charging-other    no operation's charge changed
 --   charging-enters   a send entered; charging-matches: a message was matched
+-- Assumes nothing.
 use mathlib.Core.Path.{_≡_, refl, sym, ap, _∙_}
 use mathlib.Core.Logic.{_≢_}
 use mathlib.Core.Bool.{Bool, true, false, _&&_, cond}

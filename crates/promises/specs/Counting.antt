@@ -1,7 +1,8 @@
 -- Steps are counted by where the boards stand: a step that goes on adds one to the sum of the steps that each operation has
--- taken, and no operation takes more than two. Assumes nothing.
+-- taken, and no operation takes more than two.
 --   steps-step      one more
 --   steps-most      at most two an operation; able-room, steps-bound: so a job takes at most 2N
+-- Assumes nothing.
 use mathlib.Core.Path.{_≡_, refl, sym, ap, subst, _∙_}
 use mathlib.Core.Logic.{_≢_}
 use mathlib.Core.Bool.{Bool, true, false, _||_, cond}

@@ -1,10 +1,11 @@
 -- A delivery puts the message's bytes at the start of the receive's area and nothing elsewhere: it keeps the length of the
--- inboxes, and deliveries to areas that share no byte may be exchanged. Assumes nothing.
+-- inboxes, and deliveries to areas that share no byte may be exchanged.
 --   copied-length       a match copies as many bytes as it says
 --   delivered-length    a delivery keeps the length
 --   delivered-at        each byte after a delivery
 --   delivered-swap      two deliveries commute
 --   ground              all that the proofs about steps use of bytes and areas
+-- Assumes nothing.
 use mathlib.Core.Path.{_≡_, refl, sym, ap, _∙_}
 use mathlib.Core.Logic.{inl, inr}
 use mathlib.Core.Bool.{Bool, true, false, cond}

@@ -1,5 +1,6 @@
--- Two full orders on a calm sheet end alike, and run ends alike with both; so do the calls of the services. Assumes nothing.
+-- Two full orders on a calm sheet end alike, and run ends alike with both; so do the calls of the services.
 --   run-ends, ends-alike, calls-follow-alike, calls-run-alike
+-- Assumes nothing.
 use mathlib.Core.Path.{_≡_, ap, subst, _∙_}
 use mathlib.Core.Bool.{true}
 use mathlib.Core.List.{List}

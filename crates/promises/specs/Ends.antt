@@ -1,8 +1,8 @@
--- On a calm sheet every order stays behind every end: let no board of y be able; a board that is able in x, which is behind y,
--- stands before its place in y, so that x stepped is behind y still. Two ends are therefore behind each other, and alike.
--- Assumes nothing.
+-- On a calm sheet every order stays behind every end: let no board of y be able; a board that is able in x, which is behind
+-- y, stands before its place in y, so that x stepped is behind y still. Two ends are therefore behind each other, and alike.
 --   step-behind       one step; left-behind: a whole order
 --   ends-like         two ends
+-- Assumes nothing.
 use mathlib.Core.Path.{_≡_, refl, sym, ap, subst, _∙_}
 use mathlib.Core.Bool.{Bool, true, false, _||_, cond}
 use mathlib.Core.List.{List}

@@ -1,10 +1,10 @@
 -- Where the bytes of an operation lie: a message inside the payload, an area inside its board's inbox (rule 6). Areas of
 -- different boards are disjoint, since inboxes lie one after another; areas of one board where they share no byte (rule 7).
--- Assumes nothing.
 --   send-inside, receive-inside     a send or a receive is an operation of the sheet
 --   send-extent, receive-extent     offset plus length stays inside payload or inbox
 --   area-inside                     an area lies inside the inbox memory
 --   areas-disjoint                  areas that share no byte, or of different boards
+-- Assumes nothing.
 use mathlib.Core.Path.{_≡_, ap, subst}
 use mathlib.Core.Bool.{true, false}
 use Prim.Native.Nat.{ℕ, _+_, _≤_, _<_}

@@ -1,7 +1,7 @@
 -- Bytes that pass check decode to a good sheet: each number of the refusal table settles its part of `Good`.
--- Assumes nothing.
 --   Accepted          the tests that bytes with no refusal have passed
 --   good-from-bytes   passes bs gives Good (sheet-in bs)
+-- Assumes nothing.
 use mathlib.Core.Path.{_≡_, refl, sym, subst}
 use mathlib.Core.Bool.{Bool, true, false, _&&_, not, cond}
 use mathlib.Core.List.{List}

@@ -1,7 +1,8 @@
--- The order of arrival along several steps: what was entered keeps its place, and what enters comes after it. So two jobs that
--- grew from jobs with one order of arrival have one order, unless they differ among what entered since. Assumes nothing.
+-- The order of arrival along several steps: what was entered keeps its place, and what enters comes after it. So two jobs
+-- that grew from jobs with one order of arrival have one order, unless they differ among what entered since.
 --   Grew             x grew to y; grew-step, grew-both (one step, and one after another)
 --   grew-order       the law
+-- Assumes nothing.
 use mathlib.Core.Path.{_≡_, ap, _∙_}
 use mathlib.Core.Logic.{_≢_}
 use mathlib.Core.Bool.{true}

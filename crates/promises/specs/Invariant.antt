@@ -1,13 +1,14 @@
--- The invariant of reachable jobs. A job is determined by where its boards stand: the matching that it holds is stable
--- (no fitting pair is pending, and each match took the earliest on both sides), a stable matching over given entered
--- operations is unique, and rows, memory and buffer use follow from it. `Reached` collects what every job that an order
--- leads to keeps; each field says who needs it. Assumes nothing: these are definitions.
+-- The invariant of reachable jobs. A job is determined by where its boards stand: the matching that it holds is stable (no
+-- fitting pair is pending, and each match took the earliest on both sides), a stable matching over given entered operations
+-- is unique, and rows, memory and buffer use follow from it. `Reached` collects what every job that an order leads to keeps;
+-- each field says who needs it.
 --   Met        a message and a receive that are matched with each other
 --   Stable     the matching is stable
 --   Arrived    in which order the entered sends came
 --   Placed     which operations are entered and complete, by where the boards stand
 --   Shaped     a row is determined by its state and partner
 --   Reached    all of it, and the waiting lists, charges, memory and steps
+-- Assumes nothing: these are definitions.
 use mathlib.Core.Path.{_≡_}
 use mathlib.Core.Logic.{_⊎_, _≢_}
 use mathlib.Core.Bool.{true, false, _&&_, _||_, cond}

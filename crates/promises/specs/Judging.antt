@@ -1,7 +1,8 @@
 -- The verdict says what it should: 3 and 4 where the job stopped for that reason, else 1 where every board is finished, else
--- 2 where none is able, else 0 where one is. Assumes nothing.
+-- 2 where none is able, else 0 where one is.
 --   all-finished-every, all-finished-not   what the test over all boards says
 --   verdict-reached                        the statement Verdicts, of one job that keeps the invariant
+-- Assumes nothing.
 use mathlib.Core.Path.{_≡_, refl, sym, ap, subst, _∙_}
 use mathlib.Core.Logic.{_⊎_, inl, inr, _≢_, _↔_}
 use mathlib.Core.Bool.{Bool, true, false, _&&_, cond}

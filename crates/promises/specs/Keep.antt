@@ -1,6 +1,6 @@
 -- A stable matching only grows. Let y have entered whatever x has, and let messages that one receive could take have come in
--- the same order: then what is matched in x is matched alike in y. This is why a job is determined by where its boards stand.
--- Assumes nothing.
+-- the same order: then what is matched in x is matched alike in y. This is why a job is determined by where its boards
+-- stand. Assumes nothing.
 use mathlib.Core.Path.{_≡_, sym, ap, subst, _∙_}
 use mathlib.Core.Logic.{_≢_}
 use mathlib.Core.Bool.{true}

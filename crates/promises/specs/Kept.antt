@@ -1,8 +1,9 @@
--- What every order keeps, said of a sheet's bytes and the lent inboxes: bytes that pass give a good sheet, an order keeps the
--- invariant, and so the statements about one job hold of whatever an order leaves. Assumes nothing.
+-- What every order keeps, said of a sheet's bytes and the lent inboxes: bytes that pass give a good sheet, an order keeps
+-- the invariant, and so the statements about one job hold of whatever an order leaves.
 --   lent-good, lent-reached     a good sheet; the invariant of the job that an order leaves
 --   entries-long                a row an operation
 --   deliveries, verdicts, in-use, peaks
+-- Assumes nothing.
 use mathlib.Core.List.{List}
 use Prim.Native.Nat.{ℕ}
 use native.Mathlib.Omega.{arith}

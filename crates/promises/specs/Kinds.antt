@@ -1,7 +1,8 @@
--- Kinds of operations and parts of a fit. Assumes nothing.
+-- Kinds of operations and parts of a fit.
 --   true-not-false, and-left, and-right, and-both   Boolean tests
 --   send-no-receive ..                     an operation has one kind
 --   fit-board ..                           what a fit says
+-- Assumes nothing.
 use mathlib.Core.Path.{_≡_, refl, sym, ap, _∙_}
 use mathlib.Core.Logic.{_⊎_, inl, inr, _≢_}
 use mathlib.Core.Bool.{Bool, true, false, _&&_, _||_, cond}

@@ -1,10 +1,11 @@
 -- Two jobs that differ in peaks, waiting lists and memory at most: the same boards are able, and the reports without peaks
--- are equal. Assumes nothing.
+-- are equal.
 --   Level             the same rows, stop, steps and places, peaks aside
 --   level-able        the same boards are able
 --   level-none-able   and none is in both
 --   level-report      the reports without peaks are equal
 --   level-alike       with equal memory the jobs are alike
+-- Assumes nothing.
 use mathlib.Core.Path.{_≡_, refl, sym, ap, _∙_}
 use mathlib.Core.Bool.{Bool, true, false, _&&_, _||_, not, cond}
 use mathlib.Core.List.{List}

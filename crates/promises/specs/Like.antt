@@ -1,8 +1,9 @@
--- Jobs whose boards stand alike, and in which messages that one receive could take came in the same order, are alike: the same
--- rows, use and ables; a step of one board keeps them so, and so does the rest of an order. Assumes nothing.
+-- Jobs whose boards stand alike, and in which messages that one receive could take came in the same order, are alike: the
+-- same rows, use and ables; a step of one board keeps them so, and so does the rest of an order.
 --   Like             the relation; like-rows, like-in-use, like-able
 --   like-step        one step
 --   like-follow      a whole order: refused at the same index, and alike where it was left
+-- Assumes nothing.
 use mathlib.Core.Path.{_≡_, refl, sym, ap, subst, _∙_}
 use mathlib.Core.Logic.{_≢_}
 use mathlib.Core.Bool.{Bool, true, false}

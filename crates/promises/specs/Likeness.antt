@@ -1,7 +1,8 @@
--- Jobs whose boards stand alike are level, and where they started from the same inboxes they are alike. Assumes nothing.
+-- Jobs whose boards stand alike are level, and where they started from the same inboxes they are alike.
 --   like-level     rows, stop, steps and places are equal, peaks aside
 --   like-memory    and so is memory
 --   like-alike     so the jobs are alike
+-- Assumes nothing.
 use mathlib.Core.Path.{_≡_, sym, _∙_}
 use mathlib.Core.List.{List}
 use Prim.Native.Nat.{ℕ}

@@ -1,5 +1,5 @@
 -- Waiting lists: members, order, the first that passes a test, removal. A waiting list is described by one record, `Holds`:
--- which numbers are in it, and in which order. Assumes nothing.
+-- which numbers are in it, and in which order.
 --   In v l             v is a member of l
 --   Sorted R l         R holds between each member and every later one
 --   Holds R P l        l holds exactly the numbers with P, sorted by R
@@ -8,6 +8,7 @@
 --   holds-same         the same list under other words
 --   sorted-length      how long a list can be
 --   first-by-none, first-by-some   what a search found
+-- Assumes nothing.
 use mathlib.Core.Path.{_≡_, refl, sym, ap, subst, _∙_}
 use mathlib.Core.Logic.{_⊎_, inl, inr, _≢_}
 use mathlib.Core.Bool.{Bool, true, false, cond}

@@ -1,6 +1,7 @@
 -- What the matching of a job that an order left is known to be: demand 2's claims about messages and receives, read off the
--- invariant. Assumes nothing.
+-- invariant.
 --   none-fit, no-overtaking, no-overtaking-receives, statuses
+-- Assumes nothing.
 use mathlib.Core.Path.{_≡_, ap, subst, _∙_}
 use mathlib.Core.Bool.{true}
 use mathlib.Core.List.{List}

@@ -1,12 +1,13 @@
 -- Nothing in the inboxes influences a step. Two jobs that are equal but for memory take the same steps, and where their
 -- memories agree on the first n bytes, they still do afterwards: so an order, or a run, leads to the same rows and report
--- whatever room is lent. Assumes nothing.
+-- whatever room is lent.
 --   Twin            a job, and the same job with another memory that agrees on the first n bytes
 --   twin-able       the same boards are able
 --   twin-step       a step keeps twins
 --   twin-follow     so does an order, which is refused at the same index
 --   twin-run        so does a run, which takes the same order
 --   twin-level      twins have equal reports
+-- Assumes nothing.
 use mathlib.Core.Path.{_≡_, refl, sym, ap, subst, _∙_}
 use mathlib.Core.Bool.{Bool, true, false, _&&_, _||_, not, cond}
 use mathlib.Core.List.{List, [], _∷_, _++_}

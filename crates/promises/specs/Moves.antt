@@ -1,8 +1,9 @@
 -- Where the boards stand after a step. The board that steps finishes its operation or goes into its waiting half; the others
--- stand where they stood; bytes in use may change, and the peak is the most of them. Assumes nothing.
+-- stand where they stood; bytes in use may change, and the peak is the most of them.
 --   Next            what is known of an able board and its next operation
 --   after           a place after a step
 --   Moved           the places of a job after a step; its laws
+-- Assumes nothing.
 use mathlib.Core.Path.{_≡_, refl, sym, ap, subst, _∙_}
 use mathlib.Core.Logic.{_⊎_, inl, inr, _≢_}
 use mathlib.Core.Bool.{Bool, true, false, _&&_, _||_, not, cond}

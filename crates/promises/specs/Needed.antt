@@ -1,11 +1,12 @@
 -- Why demand 3 asks for calm sheets and sets the peaks aside. Each of the three conditions of calm is needed: with the other
 -- two alone there is a sheet with two orders that follow accepts, after which no board is able, and whose reports differ in
--- more than peaks. And on a calm sheet the peaks may differ. Each sheet is written as a bench job and computed. Assumes nothing.
+-- more than peaks. And on a calm sheet the peaks may differ. Each sheet is written as a bench job and computed.
 --   calm-parts          calm is these three conditions
 --   Ends-alike-on       two full orders end alike, on the sheets that pass a test
 --   Pair-of-orders      a sheet, and two orders
 --   apart-refutes       a pair that ends apart refutes Ends-alike-on
 --   any-source-matters, ready-matters, cover-matters, peaks-matter
+-- Assumes nothing.
 use mathlib.Core.Path.{_≡_, refl, ap, subst, _∙_}
 use mathlib.Core.Bool.{Bool, true, false, _&&_, not}
 use mathlib.Core.List.{List, [], _∷_}

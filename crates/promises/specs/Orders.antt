@@ -1,8 +1,9 @@
--- Like jobs are followed alike: refused at the same index, and like where they were left. And how follow goes over an order that
--- is joined of two. Assumes nothing.
+-- Like jobs are followed alike: refused at the same index, and like where they were left. And how follow goes over an order
+-- that is joined of two.
 --   like-follow       a whole order
 --   follow-join       an accepted beginning, and then the rest
 --   follow-two        two steps that are able
+-- Assumes nothing.
 use mathlib.Core.Path.{_≡_, refl, sym, ap, _∙_}
 use mathlib.Core.Bool.{Bool, true, false, cond}
 use mathlib.Core.List.{List, [], _∷_, _++_}

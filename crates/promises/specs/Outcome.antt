@@ -1,6 +1,6 @@
--- What a step of an able board does, in the six ways that it can go: an operation's waiting half ends, a wait ends, a receive is
--- posted, a send is pending, a message and a receive are matched, the job stops. This file reads `step` once; the proofs go by
--- `Outcome`. Assumes nothing.
+-- What a step of an able board does, in the six ways that it can go: an operation's waiting half ends, a wait ends, a
+-- receive is posted, a send is pending, a message and a receive are matched, the job stops. This file reads `step` once; the
+-- proofs go by `Outcome`. Assumes nothing.
 use mathlib.Core.Path.{_≡_, refl, sym, ap, _∙_}
 use mathlib.Core.Logic.{_⊎_, _≢_}
 use mathlib.Core.Bool.{Bool, true, false, _&&_, cond}

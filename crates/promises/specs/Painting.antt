@@ -1,10 +1,11 @@
 -- Memory holds the deliveries in script order, after a step as before: a new match's delivery may be moved before those of
 -- later receives, since a receive that is pending while later ones of its board are entered still holds its request, so that
--- their areas are others. Assumes nothing.
+-- their areas are others.
 --   painted-same      the same rows paint the same
 --   painted-length    painting keeps the length
 --   pending-apart     the areas are disjoint
 --   painted-matches   a match paints one delivery more
+-- Assumes nothing.
 use mathlib.Core.Path.{_≡_, refl, sym, ap, subst, _∙_}
 use mathlib.Core.Logic.{_⊎_, inl, inr, _≢_}
 use mathlib.Core.Bool.{Bool, true, false, _&&_, cond}

@@ -1,8 +1,9 @@
--- A step moves its board on by one, and keeps `Placed`. Assumes nothing.
+-- A step moves its board on by one, and keeps `Placed`.
 --   Advances        what becomes entered by a step of operation i
 --   Turn            a step that goes on: where its board goes, and why it may
 --   placed-step     the places stay right
 --   prefix          on one board everything before an entered operation is entered
+-- Assumes nothing.
 use mathlib.Core.Path.{_≡_, refl, sym, ap, subst, _∙_}
 use mathlib.Core.Logic.{_≢_}
 use mathlib.Core.Bool.{Bool, true, false, not, cond}

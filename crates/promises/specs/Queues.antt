@@ -1,7 +1,8 @@
--- The waiting lists hold exactly what is pending, after a step as before. Assumes nothing.
+-- The waiting lists hold exactly what is pending, after a step as before.
 --   queue-message, queue-receive    the list after its operation entered unmatched
 --   queue-..-other                  a list that the operation is not for
 --   queue-..-match                  the lists after a match
+-- Assumes nothing.
 use mathlib.Core.Path.{_≡_, refl, sym, ap, _∙_}
 use mathlib.Core.Logic.{_⊎_, inl, inr, _≢_}
 use mathlib.Core.Bool.{true, false}

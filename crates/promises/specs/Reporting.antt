@@ -1,8 +1,9 @@
 -- The report, byte by byte: its length, and what is left of it when the peaks are set aside: the same report with two zero
--- bytes for the peak in each board row. Assumes nothing.
+-- bytes for the peak in each board row.
 --   report-length     the report's length
 --   bare-report       the report with zero for every peak
 --   report-bare       which is what without-peaks leaves
+-- Assumes nothing.
 use mathlib.Core.Path.{_≡_, refl, sym, ap, _∙_}
 use mathlib.Core.List.{List, [], _∷_, _++_, append-assoc}
 use mathlib.Core.Option.{Option, none, some}

@@ -1,8 +1,8 @@
--- Demand 3 of the services, from demand 3 of the orders: calls whose inboxes start with the same bytes end alike, whatever the
--- rooms' lengths and what stands beyond, since nothing in the inboxes influences a step. Assumes nothing: what it takes from
--- the orders (Ends-alike, Swap-same, Run-ends) is an argument of each law.
+-- Demand 3 of the services, from demand 3 of the orders: calls whose inboxes start with the same bytes end alike, whatever
+-- the rooms' lengths and what stands beyond, since nothing in the inboxes influences a step.
 --   Entries-long          every job that an order leaves has a row an operation
 --   follows-alike, run-alike, follow-swaps
+-- Assumes nothing: what it takes from the orders (Ends-alike, Swap-same, Run-ends) is an argument of each law.
 use mathlib.Core.Path.{_≡_, sym, ap, _∙_}
 use mathlib.Core.Bool.{true}
 use mathlib.Core.List.{List, _∷_, _++_}

@@ -1,6 +1,7 @@
--- An able step keeps the whole invariant. Assumes nothing.
+-- An able step keeps the whole invariant.
 --   extended-turn   the invariant of a step that goes on, from its parts
 --   step-sound      the law
+-- Assumes nothing.
 use mathlib.Core.Path.{_≡_, refl, sym, ap, subst, _∙_}
 use mathlib.Core.Logic.{_⊎_, inl, inr, _≢_}
 use mathlib.Core.Bool.{Bool, true, false, _&&_, cond}

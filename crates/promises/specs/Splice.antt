@@ -1,11 +1,11 @@
 -- Bytes put into a list at a place: what stands where afterwards, and splices over ranges that share no index commute.
--- Assumes nothing.
 --   within          index i lies among n indices from `at` on
 --   splice-length   a splice inside keeps the length
 --   splice-at       each byte of a splice
 --   splice-swap     two splices commute
 --   Near            two lists, long enough, that agree on their first n bytes
 --   splice-near     and do so after the same splice
+-- Assumes nothing.
 use mathlib.Core.Path.{_≡_, refl, sym, ap, subst, _∙_}
 use mathlib.Core.Bool.{Bool, true, false, _&&_, cond}
 use mathlib.Core.List.{List, _++_}

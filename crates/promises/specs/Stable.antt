@@ -1,9 +1,9 @@
--- A step keeps the matching stable. What was first stays first, since the operation that enters came last; so all there is to
--- show is that no fitting pair is left pending, and that a new pair took the earliest on both sides (`First`).
--- Assumes nothing.
+-- A step keeps the matching stable. What was first stays first, since the operation that enters came last; so all there is
+-- to show is that no fitting pair is left pending, and that a new pair took the earliest on both sides (`First`).
 --   Later           the new operation came after all that were entered
 --   First           a pair took the earliest on both sides
 --   grow-stable     the law; enter-stable and match-stable are its two cases
+-- Assumes nothing.
 use mathlib.Core.Path.{_≡_, sym, ap, subst, _∙_}
 use mathlib.Core.Logic.{_⊎_, inl, inr, _≢_}
 use mathlib.Core.Bool.{true}

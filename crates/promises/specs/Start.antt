@@ -1,6 +1,7 @@
--- The start has the invariant, and every order keeps it: a job that follow leaves is reached. Assumes nothing.
+-- The start has the invariant, and every order keeps it: a job that follow leaves is reached.
 --   start-reached     nothing entered, nothing in use, the lent inboxes
 --   left-reached      along an order, up to where it is refused
+-- Assumes nothing.
 use mathlib.Core.Path.{_≡_, refl, sym, ap, _∙_}
 use mathlib.Core.Bool.{Bool, true, false, cond}
 use mathlib.Core.List.{List, [], _∷_}

@@ -1,6 +1,6 @@
--- What is promised of job sheets, in the order of document 01: demand 2 (how boards step), run, demand 3 (orders), and demand
--- 3 of the services. Each claim stands in plain words and then in antt, over `rules` only. Theorems.antt proves each under
--- its name in small letters. Assumes nothing: these are statements.
+-- What is promised of job sheets, in the order of document 01: demand 2 (how boards step), run, demand 3 (orders), and
+-- demand 3 of the services. Each claim stands in plain words and then in antt, over `rules` only. Theorems.antt proves each
+-- under its name in small letters. Assumes nothing: these are statements.
 use mathlib.Core.Path.{_≡_}
 use mathlib.Core.Logic.{_≢_, _↔_}
 use mathlib.Core.Bool.{Bool, true, false, _&&_, cond}

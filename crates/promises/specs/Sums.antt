@@ -1,10 +1,11 @@
--- Sums over the numbers below n. Assumes nothing.
+-- Sums over the numbers below n.
 --   sum-below n f      f 0 + .. + f (n - 1)
 --   sum-same           equal terms give equal sums
 --   sum-le, sum-most   smaller terms give a smaller sum; n terms of at most c come to at most c * n
 --   sum-change         where f and g differ at one place only, so do their sums
 --   sum-gap            where f is smaller by c at one place and nowhere larger, so is its sum
 --   sum-rest, sum-zero   terms that are 0 add nothing
+-- Assumes nothing.
 use mathlib.Core.Path.{_≡_, refl, ap, _∙_}
 use mathlib.Core.Logic.{_≢_}
 use Prim.Native.Nat.{ℕ, zero, suc, _+_, _*_, _≤_, _<_}

@@ -1,8 +1,9 @@
--- Two neighbouring able steps of different boards may be exchanged, on any sheet: where neither stops the job in either order,
--- and they do not enter two messages that one any-source receive fits. After both orders the boards stand alike and the messages
--- that one receive could take came in the same order, so the jobs are alike. Assumes nothing.
+-- Two neighbouring able steps of different boards may be exchanged, on any sheet: where neither stops the job in either
+-- order, and they do not enter two messages that one any-source receive fits. After both orders the boards stand alike and
+-- the messages that one receive could take came in the same order, so the jobs are alike.
 --   swap-able        the second step is able after the first
 --   swap-like        the law
+-- Assumes nothing.
 use mathlib.Core.Path.{_≡_, refl, sym, ap, subst, _∙_}
 use mathlib.Core.Logic.{_⊎_, inl, inr, _≢_}
 use mathlib.Core.Bool.{Bool, true, false, _||_, cond}

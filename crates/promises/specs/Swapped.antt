@@ -1,6 +1,7 @@
--- Two neighbouring able steps exchanged, for whole orders: on any sheet where the exchange is harmless, so on a calm sheet, where
--- it always is, and so of the calls of follow. Assumes nothing.
+-- Two neighbouring able steps exchanged, for whole orders: on any sheet where the exchange is harmless, so on a calm sheet,
+-- where it always is, and so of the calls of follow.
 --   swap-general, swap-same, calls-swap
+-- Assumes nothing.
 use mathlib.Core.Path.{_≡_, sym, ap, subst, _∙_}
 use mathlib.Core.Logic.{_≢_}
 use mathlib.Core.Bool.{true}

@@ -1,5 +1,6 @@
--- Memory, byte by byte: what the deliveries in script order have painted is what `byte-told` tells. Assumes nothing.
+-- Memory, byte by byte: what the deliveries in script order have painted is what `byte-told` tells.
 --   deliveries-reached    the statement Deliveries, of one job that keeps the invariant
+-- Assumes nothing.
 use mathlib.Core.Path.{_≡_, refl, ap, _∙_}
 use mathlib.Core.Bool.{Bool, true, false, _&&_, cond}
 use mathlib.Core.List.{List}

@@ -1,8 +1,8 @@
 -- Buffer use: what is in use is the sum of the charges pending, and the peak is the most in use after any step so far.
--- Assumes nothing.
 --   in-use-reached     the statement In-use, of one job that keeps the invariant
 --   step-peak          a step raises the peak to what is then in use
 --   follow-peak        so the peak that an order leaves is the most of them
+-- Assumes nothing.
 use mathlib.Core.Path.{_≡_, refl, sym, ap, subst, _∙_}
 use mathlib.Core.Bool.{Bool, true, false, cond}
 use mathlib.Core.List.{List, [], _∷_}
