@@ -17,7 +17,8 @@ use Rattle.promises.specs.Good.{Good}
 use Rattle.promises.specs.Kinds.{send-no-wait, receive-no-wait}
 use Rattle.promises.specs.Invariant.{Reached}
 use Rattle.promises.specs.Moves.{Next, Moved, able-next, moved-finished, moved-waiting, moved-finished-other, moved-waiting-other}
-use Rattle.promises.specs.Outcome.{Outcome, ends-half, ends-wait, posts, pends, meets, stops, matched-is}
+use Rattle.promises.specs.Used.{matched-is}
+use Rattle.promises.specs.Outcome.{Outcome, ends-half, ends-wait, posts, pends, meets, stops}
 use Rattle.promises.specs.Effects.{outcome}
 use Rattle.promises.specs.Behind.{stand, stand-finished, stand-waiting}
 
@@ -122,30 +123,35 @@ module _ {s : Sheet} {x y : Job} {r : ℕ} (n : Next s x r) where
 
   after : Outcome s x y r (next-op s x r) → After s x y r
   unfolding in-waiting-half stopped with-stop with-steps job
-  after (ends-half w m k uses e) =
-      turned true m (sym (ap (λ (b : Bool). (b || is-wait (op s (next-op s x r))) || is-nonblocking (op s (next-op s x r))) w))
-  after (ends-wait w e m k uses E) =
-      turned true m
+  after (ends-half h) =
+      turned true (h .moved)
+      (sym (ap (λ (b : Bool). (b || is-wait (op s (next-op s x r))) || is-nonblocking (op s (next-op s x r))) (h .waiting)))
+  after (ends-wait h) =
+      turned true (h .moved)
       (sym
-      (ap (λ (b : Bool). (b || is-wait (op s (next-op s x r))) || is-nonblocking (op s (next-op s x r))) w
-      ∙ ap (λ (b : Bool). b || is-nonblocking (op s (next-op s x r))) e))
-  after (posts w e m uses E a b c f) = turned (is-nonblocking (op s (next-op s x r))) m
-      (initiates s x r w (receive-no-wait (op s (next-op s x r)) e))
-  after (pends w e m uses E a b c f l) = turned (is-nonblocking (op s (next-op s x r))) m
-      (initiates s x r w (send-no-wait (op s (next-op s x r)) e))
-  after (meets m q w v uses M a b c f) = turned (is-nonblocking (op s (next-op s x r))) v (initiates s x r w (not-wait (M .one)))
+      (ap (λ (b : Bool). (b || is-wait (op s (next-op s x r))) || is-nonblocking (op s (next-op s x r))) (h .not-waiting)
+      ∙ ap (λ (b : Bool). b || is-nonblocking (op s (next-op s x r))) (h .waits)))
+  after (posts h) =
+      turned (is-nonblocking (op s (next-op s x r))) (h .moved)
+      (initiates s x r (h .not-waiting) (receive-no-wait (op s (next-op s x r)) (h .is-one)))
+  after (pends h) =
+      turned (is-nonblocking (op s (next-op s x r))) (h .moved)
+      (initiates s x r (h .not-waiting) (send-no-wait (op s (next-op s x r)) (h .is-one)))
+  after (meets m q h) = turned (is-nonblocking (op s (next-op s x r))) (h .moved)
+      (initiates s x r (h .not-waiting) (not-wait (h .rows .one)))
     where
       not-wait : (next-op s x r ≡ m) ⊎ (next-op s x r ≡ q) → is-wait (op s (next-op s x r)) ≡ false
-      not-wait (inl h) = ap (λ (z : ℕ). is-wait (op s z)) h ∙ send-no-wait (op s m) (M .sends)
-      not-wait (inr h) = ap (λ (z : ℕ). is-wait (op s z)) h ∙ receive-no-wait (op s q) (M .receives)
-  after (stops v reason w e f is) =
+      not-wait (inl e) = ap (λ (z : ℕ). is-wait (op s z)) e ∙ send-no-wait (op s m) (h .rows .sends)
+      not-wait (inr e) = ap (λ (z : ℕ). is-wait (op s z)) e ∙ receive-no-wait (op s q) (h .rows .receives)
+  after (stops v h) =
       halts
       (record {
         verdict = v;
         rank = r;
         at-op = next-op s x r;
       })
-      (ap (λ (z : Job). z .stop) is) (ap (λ (z : Job). z .places) is) (ap (λ (z : Job). z .steps) is)
+      (ap (λ (z : Job). z .stop) (h .is-told)) (ap (λ (z : Job). z .places) (h .is-told))
+      (ap (λ (z : Job). z .steps) (h .is-told))
 
 pub step-after : {s : Sheet} (g : Good s) {lent : List ℕ} {x : Job} → Reached s lent x → (r : ℕ) → able s x r ≡ true →
     After s x (step s r x) r

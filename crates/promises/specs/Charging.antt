@@ -19,7 +19,7 @@ use Rattle.promises.specs.Sums.{sum-below, sum-same, sum-change}
 use Rattle.promises.specs.Invariant.{state-at, unmatched-state, charge-in, Shaped}
 use Rattle.promises.specs.States.{unmatched-send, unmatched-receive}
 use Rattle.promises.specs.Changes.{Enters, Matches, state-same, state-name, enters-state, matches-message-state, matches-receive-state}
-use Rattle.promises.specs.Outcome.{use-charged, use-released}
+use Rattle.promises.specs.Used.{use-charged, use-released}
 
 pub charge-none : (s : Sheet) (x : Job) (r j : ℕ) → state-at x j ≢ 2 → charge-in s x r j ≡ 0
 unfolding charge-in

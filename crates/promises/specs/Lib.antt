@@ -44,6 +44,7 @@ pub mod Keep
 pub mod Changes
 pub mod Stable
 pub mod Moves
+pub mod Used
 pub mod Outcome
 pub mod Effects
 pub mod Placing
