@@ -17,7 +17,7 @@ use Rattle.promises.specs.Ends.{ends-like}
 use Rattle.promises.specs.Run.{run-ended}
 use Rattle.promises.specs.Likeness.{like-alike}
 use Rattle.promises.specs.Services.{follows-alike, run-alike}
-use Rattle.promises.specs.Kept.{lent-good, entries-long}
+use Rattle.promises.specs.Kept.{lent-good}
 
 pub run-ends : Run-ends
 unfolding Run-ends
@@ -56,7 +56,7 @@ ends-alike bs i a b h accepted-a accepted-b full-a full-b =
     )
 
 pub calls-follow-alike : Follows-alike
-calls-follow-alike = follows-alike ends-alike entries-long
+calls-follow-alike = follows-alike ends-alike
 
 pub calls-run-alike : Run-alike
-calls-run-alike = run-alike ends-alike run-ends entries-long
+calls-run-alike = run-alike ends-alike run-ends

@@ -22,18 +22,12 @@ use Rattle.promises.specs.Sums.{sum-below, sum-same}
 use Rattle.promises.specs.Invariant.{reach, steps-done, Reached}
 use Rattle.promises.specs.Moves.{Next, Moved, able-next}
 use Rattle.promises.specs.Sound.{step-sound}
-use Rattle.promises.specs.Start.{start-reached, start-finished, start-waiting, left-keeps}
+use Rattle.promises.specs.Start.{start-reached, start-stand, left-keeps}
 use Rattle.promises.specs.Behind.{stand, stand-finished, stand-waiting, Behind, still-able}
 use Rattle.promises.specs.After.{finishing, stand-on, moved-stand, moved-stand-other}
 use Rattle.promises.specs.Swap.{step-moved}
 use Rattle.promises.specs.Like.{Like}
 use Rattle.promises.specs.Calm.{calm-going, calm-order}
-
-start-stand : {s : Sheet} → Good s → (lent : List ℕ) (r : ℕ) → stand (started s lent) r ≡ 0
-unfolding stand
-start-stand {s} g lent r =
-    ap (λ (b : Bool). 2 * place-at (started s lent) r .finished + cond b 1 0) (start-waiting g lent r)
-    ∙ omega (arith, start-finished g lent r)
 
 -- x is reached, and behind y
 record Catching (s : Sheet) (i : List ℕ) (y x : Job) : Type 0 where

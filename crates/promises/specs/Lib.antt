@@ -9,7 +9,6 @@
 --   Level         jobs that differ in peaks, waiting lists and memory at most
 --   Judging       each verdict exactly when it should be given
 --   Using         buffer use and its peak
---   Memory        nothing in the inboxes influences a step
 --   Calls         what a call of follow or run has said
 --   Services      demand 3 of the services, from demand 3 of the orders
 --   Kept          what every order keeps, said of a sheet's bytes
@@ -27,7 +26,6 @@ pub mod Reporting
 pub mod Level
 pub mod Judging
 pub mod Using
-pub mod Memory
 pub mod Calls
 pub mod Services
 pub mod Kept
@@ -65,6 +63,7 @@ pub mod After
 pub mod Grew
 pub mod Like
 pub mod Orders
+pub mod Rooms
 pub mod Swap
 pub mod Calm
 pub mod Ends

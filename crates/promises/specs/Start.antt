@@ -6,7 +6,7 @@ use mathlib.Core.Path.{_≡_, refl, sym, ap, _∙_}
 use mathlib.Core.Bool.{Bool, true, false, cond}
 use mathlib.Core.List.{List, [], _∷_}
 use mathlib.Core.Option.{some}
-use Prim.Native.Nat.{ℕ, zero, suc, _+_, _≤_, _<_}
+use Prim.Native.Nat.{ℕ, zero, suc, _+_, _*_, _≤_, _<_}
 use native.Mathlib.Omega.{arith}
 use lib.Dec.{ltb}
 use lib.ListN.{length, getD, replicate, length-replicate}
@@ -24,6 +24,7 @@ use Rattle.promises.specs.Invariant.{Entered, state-at, partner-at, reac
 use Rattle.promises.specs.Charging.{charge-none}
 use Rattle.promises.specs.Shaping.{row-bare}
 use Rattle.promises.specs.Painting.{painted-none}
+use Rattle.promises.specs.Behind.{stand}
 use Rattle.promises.specs.Sound.{step-sound}
 
 -- a list of one value, read anywhere
@@ -72,7 +73,7 @@ module _ {s : Sheet} (g : Good s) (lent : List ℕ) where
   unfolding reach
   start-reach r = ap (λ (b : Bool). next-op s x₀ r + cond b 1 0) (start-waiting r) ∙ omega (arith, start-next r)
 
-  none-entered : {A : Type 0} (j : ℕ) → Entered x₀ j → A
+  pub none-entered : {A : Type 0} (j : ℕ) → Entered x₀ j → A
   none-entered j h = absurd (omega (arith, start-state j))
 
   start-steps : (j : ℕ) → j < N-of s → steps-done s x₀ j ≡ 0
@@ -143,6 +144,12 @@ module _ {s : Sheet} (g : Good s) (lent : List ℕ) where
         steps-sum = omega (arith, sum-zero (N-of s) (steps-done s x₀) start-steps);
         stop-at = λ t e. absurd (let z : _≡_ {A = ℕ} 0 1 = cc in omega arith);
       }
+
+pub start-stand : {s : Sheet} → Good s → (lent : List ℕ) (r : ℕ) → stand (started s lent) r ≡ 0
+unfolding stand
+start-stand {s} g lent r =
+    ap (λ (b : Bool). 2 * place-at (started s lent) r .finished + cond b 1 0) (start-waiting g lent r)
+    ∙ omega (arith, start-finished g lent r)
 
 -- ALONG AN ORDER
 -- what every able step keeps, an order keeps

@@ -25,7 +25,7 @@ use Rattle.promises.specs.Swap.{E, swap-able, able-p, able-q, swap-like}
 use Rattle.promises.specs.Calm.{calm-going, calm-tame-all}
 use Rattle.promises.specs.Likeness.{like-alike}
 use Rattle.promises.specs.Services.{follow-swaps}
-use Rattle.promises.specs.Kept.{lent-good, lent-reached, entries-long}
+use Rattle.promises.specs.Kept.{lent-good, lent-reached}
 
 module _ {bs i : List ℕ} (h : Lent bs i) (before : List ℕ) (p q : ℕ) (d : p ≢ q) where
   abbrev s : Sheet
@@ -103,4 +103,4 @@ swap-same bs i before after p q h accepted d a b =
         }
 
 pub calls-swap : Follow-swaps
-calls-swap = follow-swaps swap-same entries-long
+calls-swap = follow-swaps swap-same
