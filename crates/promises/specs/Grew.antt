@@ -13,10 +13,9 @@ use native.Mathlib.Decide.{ℕ-discrete, decLe}
 use Rattle.rules.specs.Sheet.{Sheet, op, is-send, is-receive}
 use Rattle.rules.specs.Job.{Job}
 use Rattle.rules.specs.Step.{fits-with}
-use Rattle.promises.specs.Invariant.{Entered, state-at, Reached}
+use Rattle.promises.specs.Invariant.{Entered, state-at, Reached, Extended}
 use Rattle.promises.specs.Keep.{Same-order}
 use Rattle.promises.specs.Changes.{state-name}
-use Rattle.promises.specs.Sound.{Extended}
 
 pub record Grew {s : Sheet} {i : List ℕ} {x y : Job} (X : Reached s i x) (Y : Reached s i y) : Type 0 where
   pub on : (j : ℕ) → Entered x j → Entered y j

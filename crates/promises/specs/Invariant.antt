@@ -8,6 +8,7 @@
 --   Placed     which operations are entered and complete, by where the boards stand
 --   Shaped     a row is determined by its state and partner
 --   Reached    all of it, and the waiting lists, charges, memory and steps
+--   Extended   the invariant after a step, and what the step did to the order of arrival
 -- Assumes nothing: these are definitions.
 use mathlib.Core.Path.{_≡_}
 use mathlib.Core.Logic.{_⊎_, _≢_}
@@ -173,3 +174,13 @@ pub record Reached (s : Sheet) (i : List ℕ) (x : Job) : Type 0 where
   pub steps-sum : x .steps ≡ sum-below (N-of s) (steps-done s x) + cond (is-none (x .stop)) 0 1
   -- (Verdicts; the engine: rank and operation fit their bytes)
   pub stop-at : (t : Stop) → x .stop ≡ some t → Stopped s x t
+
+-- A STEP
+-- the invariant of a job after a step of operation i, and what the step did to the order of arrival: what was entered came when
+-- it came, and i came last where it entered
+pub record Extended {s : Sheet} {lent : List ℕ} {x : Job} (R : Reached s lent x) (y : Job) (i : ℕ) : Type 0 where
+  pub reached : Reached s lent y
+  pub on : (j : ℕ) → Entered x j → Entered y j
+  pub back : (j : ℕ) → j ≢ i → Entered y j → Entered x j
+  pub old : (j : ℕ) → Entered x j → reached .came j ≡ R .came j
+  pub new : Entered y i → (Entered x i → ⊥) → (j : ℕ) → Entered x j → reached .came j < reached .came i

@@ -1,12 +1,12 @@
 -- Jobs whose boards stand alike, and in which messages that one receive could take came in the same order, are alike: the
 -- same rows, use and ables; a step of one board keeps them so, and so does the rest of an order.
---   Like             the relation; like-rows, like-in-use, like-able
+--   Like             the relation; like-rows, like-in-use, like-level, like-able
 --   like-step        one step
 --   like-follow      a whole order: refused at the same index, and alike where it was left
 -- Assumes nothing.
 use mathlib.Core.Path.{_≡_, refl, sym, ap, subst, _∙_}
 use mathlib.Core.Logic.{_≢_}
-use mathlib.Core.Bool.{Bool, true, false}
+use mathlib.Core.Bool.{Bool, true}
 use mathlib.Core.List.{List}
 use mathlib.Core.Option.{Option, none, some}
 use Prim.Native.Nat.{ℕ, suc, _+_, _≤_, _<_}
@@ -14,23 +14,25 @@ use native.Mathlib.Omega.{arith}
 use native.Mathlib.Decide.{ℕ-discrete}
 use lib.Dec.{leb}
 use lib.ListN.{length}
+use lib.Seq.{ext-getD}
 use Rattle.rules.specs.Sheet.{Sheet, op, board, P-of, N-of, inbox-total}
-use Rattle.rules.specs.Job.{Job, Stop, entry-at, place-at}
+use Rattle.rules.specs.Job.{Job, Stop, bare-entry, entry-at, place-at}
 use Rattle.rules.specs.Step.{able, step, next-op, is-none, first-by, first-receive, fits-with, fits-buffer, charge-of}
 use Rattle.laws.specs.Tests.{true-not-false}
 use Rattle.promises.specs.Good.{Good}
 use Rattle.promises.specs.Ground.{Ground}
 use Rattle.promises.specs.Sums.{sum-same}
 use Rattle.promises.specs.Lists.{first-by-none, first-by-some}
-use Rattle.promises.specs.Invariant.{Entered, charge-in, Pending-receive, Reached}
+use Rattle.promises.specs.Invariant.{Entered, charge-in, Pending-receive, Reached, Extended}
 use Rattle.promises.specs.Keep.{Same-order}
 use Rattle.promises.specs.Changes.{state-same}
 use Rattle.promises.specs.Charging.{charge-same}
 use Rattle.promises.specs.Queues.{pending-receive-same}
 use Rattle.promises.specs.Moves.{Moved, able-next}
-use Rattle.promises.specs.Sound.{Extended, step-sound}
+use Rattle.promises.specs.Sound.{step-sound}
+use Rattle.promises.specs.Level.{Level, level-able}
 use Rattle.promises.specs.Grew.{grew-step, grew-order}
-use Rattle.promises.specs.Behind.{stand, Behind, still-able, level-rows, places-entered, behind-entered}
+use Rattle.promises.specs.Behind.{stand, stand-finished, stand-waiting, Behind, level-rows, places-entered, behind-entered}
 use Rattle.promises.specs.After.{stop-after, step-stop, After, goes-on, halts, step-after, step-counted, finishing, moved-stand-other, places-stand, stand-next, stand-half, stand-moved}
 
 pub record Like {s : Sheet} {i j : List ℕ} {x y : Job} (X : Reached s i x) (Y : Reached s j y) : Type 0 where
@@ -80,18 +82,23 @@ module _ {s : Sheet} (g : Good s) {i j : List ℕ} {x y : Job} {X : Reached s i 
       ∙ sum-same (N-of s) (charge-in s x r) (charge-in s y r) (λ k h. charge-same s x y r k (state-same (like-rows k)))
       ∙ sym (Y .in-use-sum r l)
 
+  -- rows, stop, steps and places are equal, peaks aside
+  pub like-level : Level s x y
+  unfolding entry-at
+  like-level =
+      record {
+        entries =
+            ext-getD (bare-entry 0) (x .entries) (y .entries) (X .placed .entries-long ∙ sym (Y .placed .entries-long))
+            (λ k l. sym (like-rows k));
+        stop = K .stop;
+        steps = K .steps;
+        finished = λ r l. stand-finished x y r (K .places r l);
+        waiting = λ r l. stand-waiting x y r (K .places r l);
+        in-use = like-in-use;
+      }
+
   pub like-able : (r : ℕ) → able s x r ≡ able s y r
-  like-able r = go (able s x r) refl (able s y r) refl
-    where
-      go : (a : Bool) → able s x r ≡ a → (b : Bool) → able s y r ≡ b → a ≡ b
-      go true e true f = refl
-      go false e false f = refl
-      go true e false f =
-          let n = able-next s g x r e in
-          true-not-false (still-able g X Y like-behind r (K .places r (n .rank-small)) e (sym (K .stop) ∙ n .going)) f
-      go false e true f =
-          let n = able-next s g y r f in
-          true-not-false (still-able g Y X like-ahead r (sym (K .places r (n .rank-small))) f (K .stop ∙ n .going)) e
+  like-able = level-able s x y like-level
 
   -- THE NEXT STEP of board r
   module _ (r : ℕ) (l : r < P-of s) where

@@ -23,8 +23,7 @@ use Rattle.promises.specs.Level.{level-report, level-none-able}
 use Rattle.promises.specs.Good.{Good}
 use Rattle.promises.specs.Invariant.{Reached}
 use Rattle.promises.specs.Delivering.{ground}
-use Rattle.promises.specs.Like.{Like}
-use Rattle.promises.specs.Likeness.{like-level}
+use Rattle.promises.specs.Like.{Like, like-level}
 use Rattle.promises.specs.Orders.{Left-like}
 use Rattle.promises.specs.Rooms.{rooms-like, like-near}
 use Rattle.promises.specs.Kept.{lent-good, lent-reached}

@@ -1,5 +1,4 @@
 -- An able step keeps the whole invariant.
---   Extended        the invariant after a step, and what the step did to the order of arrival
 --   Parts           what is to be shown of a step that goes on; extended-turn: the rest follows from where the boards stand
 --   step-sound      the law
 -- Assumes nothing.
@@ -7,7 +6,7 @@ use mathlib.Core.Path.{_≡_, refl, sym, ap, subst, _∙_}
 use mathlib.Core.Logic.{_⊎_, inl, inr, _≢_}
 use mathlib.Core.Bool.{Bool, true, false, _&&_, cond}
 use mathlib.Core.List.{List}
-use mathlib.Core.Option.{Option, none, some}
+use mathlib.Core.Option.{Option, none}
 use Prim.Native.Nat.{ℕ, suc, _+_, _-_, _≤_, _<_}
 use native.Mathlib.Omega.{arith}
 use native.Mathlib.Decide.{ℕ-discrete}
@@ -15,22 +14,22 @@ use lib.Dec.{eqb}
 use lib.ListN.{length}
 use borrow.Author.Tests.{eqb-true, leb-true}
 use Rattle.rules.specs.Sheet.{Sheet, op, board, P-of, N-of, rank-of, inbox-total, is-send, is-receive, is-wait, is-buffered, is-nonblocking}
-use Rattle.rules.specs.Job.{Job, Stop, job, place-at, entry-at, with-stop, with-steps}
-use Rattle.rules.specs.Step.{able, step, next-op, half-complete, complete, complete-if, first-message, first-receive, fits-with, delivered, stopped, is-none, fits-buffer, charge-of}
+use Rattle.rules.specs.Job.{Job, Stop, place-at}
+use Rattle.rules.specs.Step.{able, step, next-op, first-message, first-receive, fits-with, delivered, is-none, fits-buffer, charge-of}
 use Rattle.laws.specs.Tests.{not-so, true-not-false}
 use Rattle.promises.specs.Good.{Good}
 use Rattle.promises.specs.Ground.{Ground}
 use Rattle.promises.specs.Kinds.{send-no-wait, receive-no-wait, receive-no-send, send-no-receive}
 use Rattle.promises.specs.Sums.{sum-below, sum-same}
 use Rattle.promises.specs.Lists.{Holds, first-by-none, first-by-some}
-use Rattle.promises.specs.Invariant.{Entered, state-at, unmatched-state, steps-done, charge-in, painted, reach, Pending-message, Pending-receive, Stable, Arrived, Placed, Shaped, Stopped, Posted-before, Came-before, Reached}
+use Rattle.promises.specs.Invariant.{Entered, state-at, unmatched-state, steps-done, charge-in, painted, Pending-message, Pending-receive, Stable, Arrived, Placed, Shaped, Posted-before, Came-before, Reached, Extended}
 use Rattle.promises.specs.Changes.{Grows, Enters, Matches, state-same, state-name, enters-grows, matches-grows}
 use Rattle.promises.specs.Stable.{Later, First, enter-stable, match-stable}
-use Rattle.promises.specs.Moves.{Next, moved-peak, next-fresh, able-next}
+use Rattle.promises.specs.Moves.{Next, moved-peak, able-next}
 use Rattle.promises.specs.Used.{Use, use-kept, use-charged, use-released}
 use Rattle.promises.specs.Outcome.{Ends-half, Ends-wait, Posts, Pends, Meets, Finds, Outcome, ends-half, ends-wait, posts, pends, meets, stops}
 use Rattle.promises.specs.Effects.{outcome}
-use Rattle.promises.specs.Placing.{Turn, placed-step, half-complete-on}
+use Rattle.promises.specs.Placing.{Turn, placed-step}
 use Rattle.promises.specs.Counting.{steps-step}
 use Rattle.promises.specs.Arrivals.{came-with, came-other, arrives-later, arrived-step}
 use Rattle.promises.specs.Shaping.{shaped-same, shaped-enters, shaped-matches}
@@ -40,16 +39,8 @@ use Rattle.promises.specs.States.{unmatched-receive, unmatched-wait}
 use Rattle.promises.specs.Painting.{painted-length, painted-rows, painted-enters, painted-matches}
 use Rattle.promises.specs.Same.{Same-rows, rows-same, stable-same, arrived-same, messages-same, receives-same}
 use Rattle.promises.specs.Earliest.{first-for-receive, first-for-message}
+use Rattle.promises.specs.Stopping.{stops-extended}
 use Rattle.promises.specs.Turns.{turn-initiating, turn-wait, turn-half}
-
--- the invariant of a job after a step of operation i, and what the step did to the order of arrival: what was entered came when
--- it came, and i came last where it entered
-pub record Extended {s : Sheet} {lent : List ℕ} {x : Job} (R : Reached s lent x) (y : Job) (i : ℕ) : Type 0 where
-  pub reached : Reached s lent y
-  pub on : (j : ℕ) → Entered x j → Entered y j
-  pub back : (j : ℕ) → j ≢ i → Entered y j → Entered x j
-  pub old : (j : ℕ) → Entered x j → reached .came j ≡ R .came j
-  pub new : Entered y i → (Entered x i → ⊥) → (j : ℕ) → Entered x j → reached .came j < reached .came i
 
 -- what is to be shown of a step that goes on and takes x to y, where `came` is the order of arrival in y
 record Parts {s : Sheet} {lent : List ℕ} {x : Job} (R : Reached s lent x) (y : Job) (i : ℕ) (came : ℕ → ℕ) : Type 0 where
@@ -315,75 +306,6 @@ module _ {s : Sheet} (g : Good s) (A : Ground s) {lent : List ℕ} (room : inbox
             first-for-message (R .stable) (R .placed) L M (e .0) (R .receives-held)
             (first-by-some (λ k. fits-with s i k) (x .receives) (R .receives-held .sorted) q (e .1))
 
-  -- a stopping step: only the stop and the count of steps change
-  sound-stops : (v r : ℕ) → Next s x r → (v ≡ 3) ⊎ (v ≡ 4) → place-at x r .waiting ≡ false →
-      Extended R (with-steps (suc (x .steps)) (stopped v r (next-op s x r) x)) (next-op s x r)
-  unfolding stopped with-stop with-steps job place-at entry-at next-op reach half-complete complete complete-if is-none charge-in
-      steps-done
-  sound-stops v r n reason w =
-      record {
-        reached =
-            record {
-              came = R .came;
-              stable = stable-same same (R .stable);
-              arrived = arrived-same same (omega arith) (R .arrived);
-              placed =
-                  record {
-                    entries-long = R .placed .entries-long;
-                    places-long = R .placed .places-long;
-                    finished-most = R .placed .finished-most;
-                    waiting-unfinished = R .placed .waiting-unfinished;
-                    waiting-blocking = R .placed .waiting-blocking;
-                    waiting-no-wait = R .placed .waiting-no-wait;
-                    entered-if = R .placed .entered-if;
-                    entered-only = R .placed .entered-only;
-                    passed-complete = λ j l h b. half-complete-on s x y (λ k c. c) j (R .placed .passed-complete j l h b);
-                  };
-              shaped = shaped-same y (R .shaped) refl;
-              messages-held = messages-same same (R .messages-held);
-              receives-held = receives-same same (R .receives-held);
-              in-use-sum = R .in-use-sum;
-              in-use-peak = R .in-use-peak;
-              peak-attached = R .peak-attached;
-              memory-painted = R .memory-painted ∙ sym (painted-rows s x y (N-of s) lent same);
-              memory-long = R .memory-long;
-              steps-sum = ap suc (R .steps-sum)
-                  ∙ ap (λ (o : Option Stop). suc (sum-below (N-of s) (steps-done s x) + cond (is-none o) 0 1)) (n .going)
-                  ∙ omega arith;
-              stop-at = λ t e. at t e;
-            };
-        on = λ j h. h;
-        back = λ j d h. h;
-        old = λ j h. refl;
-        new = λ inn out j h. absurd (out inn);
-      }
-    where
-      y : Job
-      y = with-steps (suc (x .steps)) (stopped v r (next-op s x r) x)
-
-      same : Same-rows x y
-      same = λ j. refl
-
-      told : Stop
-      told =
-          record {
-            verdict = v;
-            rank = r;
-            at-op = next-op s x r;
-          }
-
-      known : Stopped s y told
-      known =
-          record {
-            reason = reason;
-            rank-small = n .rank-small;
-            op-small = n .inside;
-            not-entered = next-fresh s x r (R .placed) n w;
-          }
-
-      at : (t : Stop) → some told ≡ some t → Stopped s y t
-      at t e = subst (λ (z : Stop). Stopped s y z) (let q : told ≡ t = cc in q) known
-
   -- AN ABLE STEP keeps the invariant
   sound : (y : Job) (r : ℕ) → Next s x r → Outcome s x y r (next-op s x r) → Extended R y (next-op s x r)
   sound y r n (ends-half h) = sound-half y r n h
@@ -392,7 +314,7 @@ module _ {s : Sheet} (g : Good s) (A : Ground s) {lent : List ℕ} (room : inbox
   sound y r n (pends h) = sound-pends y r n h
   sound y r n (meets m q h) = sound-meets y r n m q h
   sound y r n (stops v h) =
-      subst (λ (z : Job). Extended R z (next-op s x r)) (sym (h .is-told)) (sound-stops v r n (h .reason) (h .not-waiting))
+      subst (λ (z : Job). Extended R z (next-op s x r)) (sym (h .is-told)) (stops-extended R v r n (h .reason) (h .not-waiting))
 
   pub step-sound : (r : ℕ) → able s x r ≡ true → Extended R (step s r x) (next-op s x r)
   step-sound r a = let n = able-next s g x r a in sound (step s r x) r n (outcome s g lent x R r n)

@@ -24,10 +24,10 @@ use Rattle.promises.specs.Statements.{Harmless}
 use Rattle.promises.specs.Good.{Good}
 use Rattle.promises.specs.Ground.{Ground}
 use Rattle.promises.specs.Kinds.{send-no-wait, fit-source}
-use Rattle.promises.specs.Invariant.{Entered, reach, Reached}
+use Rattle.promises.specs.Invariant.{Entered, reach, Reached, Extended}
 use Rattle.promises.specs.Keep.{Same-order}
 use Rattle.promises.specs.Moves.{Next, Moved, able-next}
-use Rattle.promises.specs.Sound.{Extended, step-sound}
+use Rattle.promises.specs.Sound.{step-sound}
 use Rattle.promises.specs.Grew.{Grew, grew-step, grew-both, grew-same, grew-order}
 use Rattle.promises.specs.Behind.{stand, Behind, still-able, places-entered}
 use Rattle.promises.specs.After.{After, goes-on, halts, step-after, step-counted, finishing, moved-stand-other, stand-next, stand-moved, stand-further, stop-stays}
