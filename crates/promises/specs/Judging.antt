@@ -66,9 +66,6 @@ module _ (s : Sheet) (g : Good s) (x : Job) (stop-at : (t : Stop) → x .stop �
   abbrev All-done : Type 0
   All-done = (x .stop ≡ none) × ((r : ℕ) → r < P-of s → is-finished s x r ≡ true)
 
-  abbrev Stuck : Type 0
-  Stuck = (x .stop ≡ none) × ((r : ℕ) × (r < P-of s) × (is-finished s x r ≡ false)) × ((r : ℕ) → able s x r ≡ false)
-
   abbrev Stopped-by : ℕ → Type 0
   Stopped-by v = (t : Stop) × (x .stop ≡ some t) × (t .verdict ≡ v)
 

@@ -156,16 +156,6 @@ sorted-length R irr (suc n) l h small =
     below : (v : ℕ) → In v l → v ≢ n → v < n
     below v k d = let s = small v k in omega arith
 
--- what is not in a list is not taken out of it
-pub without-none : (u : ℕ) (l : List ℕ) → (In u l → ⊥) → without u l ≡ l
-unfolding without
-without-none u [] h = refl
-without-none u (x ∷ xs) h = go (eqb x u) refl (without-none u xs (λ k. h (inr k)))
-  where
-    go : (b : Bool) → eqb x u ≡ b → without u xs ≡ xs → cond b xs (x ∷ without u xs) ≡ x ∷ xs
-    go true e before = absurd (h (inl (sym (eqb-true x u e))))
-    go false e before = ap {B = List ℕ} (λ l. x ∷ l) before
-
 -- THE SAME LIST under other words
 sorted-same : (R S : ℕ → ℕ → Type 0) (l : List ℕ) → ((v u : ℕ) → In v l → In u l → R v u → S v u) → Sorted R l → Sorted S l
 sorted-same R S [] f h = tt

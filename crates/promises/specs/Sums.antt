@@ -43,16 +43,6 @@ sum-change (suc n) i f g l h = go (ℕ-discrete n i) (λ k. sum-change n i f g k
     go (yes e) before = omega (arith, sum-same n f g (λ j k. h j (omega arith) (omega arith)), ap f e, ap g e)
     go (no d) before = omega (arith, before (omega arith), h n (omega arith) d)
 
--- one term is at most the sum
-pub sum-term : (n i : ℕ) (f : ℕ → ℕ) → i < n → f i ≤ sum-below n f
-unfolding sum-below
-sum-term zero i f l = absurd (omega arith)
-sum-term (suc n) i f l = go (ℕ-discrete n i) (λ k. sum-term n i f k)
-  where
-    go : Dec (n ≡ i) → (i < n → f i ≤ sum-below n f) → f i ≤ sum-below n f + f n
-    go (yes e) before = omega (arith, ap f e)
-    go (no d) before = omega (arith, before (omega arith))
-
 pub sum-gap : (n i c : ℕ) (f g : ℕ → ℕ) → i < n → ((j : ℕ) → j < n → f j ≤ g j) → f i + c ≤ g i →
     sum-below n f + c ≤ sum-below n g
 unfolding sum-below
