@@ -22,7 +22,7 @@ module _ (o : Op) (g : wait-good o ≡ true) where
   unfolding wait-good
   wait-flag =
       eqb-true (o .flag) 0 (and-left (eqb (o .flag) 0) (eqb (o .peer) 0)
-        (and-left (eqb (o .flag) 0 && eqb (o .peer) 0) (eqb (o .comm) 0 && eqb (o .zero-field) 0) (and-left front back g)))
+      (and-left (eqb (o .flag) 0 && eqb (o .peer) 0) (eqb (o .comm) 0 && eqb (o .zero-field) 0) (and-left front back g)))
 
   pub wait-empty : o .offset + o .long ≡ 0
   unfolding wait-good
@@ -36,7 +36,7 @@ module _ (o : Op) (g : wait-good o ≡ true) where
   unfolding wait-good
   wait-slot =
       ltb-true (o .slot) slot-limit (and-right (eqb (o .long) 0) (ltb (o .slot) slot-limit)
-        (and-right (eqb (o .tag) 0 && eqb (o .offset) 0) (eqb (o .long) 0 && ltb (o .slot) slot-limit) (and-right front back g)))
+      (and-right (eqb (o .tag) 0 && eqb (o .offset) 0) (eqb (o .long) 0 && ltb (o .slot) slot-limit) (and-right front back g)))
 
 -- of a send or a receive
 module _ (room : ℕ) (o : Op) (g : extent-good room o ≡ true) where
@@ -47,19 +47,19 @@ module _ (room : ℕ) (o : Op) (g : extent-good room o ≡ true) where
   unfolding extent-good
   extent-flag =
       leb-true (o .flag) 1 (and-left (leb (o .flag) 1) (eqb (o .zero-field) 0)
-        (and-left (leb (o .flag) 1 && eqb (o .zero-field) 0) (leb (o .long) most-length && leb (o .offset + o .long) room) (and-left sizes (slot-good o) g)))
+      (and-left (leb (o .flag) 1 && eqb (o .zero-field) 0) (leb (o .long) most-length && leb (o .offset + o .long) room) (and-left sizes (slot-good o) g)))
 
   pub extent-inside : o .offset + o .long ≤ room
   unfolding extent-good
   extent-inside =
       leb-true (o .offset + o .long) room (and-right (leb (o .long) most-length) (leb (o .offset + o .long) room)
-        (and-right (leb (o .flag) 1 && eqb (o .zero-field) 0) (leb (o .long) most-length && leb (o .offset + o .long) room) (and-left sizes (slot-good o) g)))
+      (and-right (leb (o .flag) 1 && eqb (o .zero-field) 0) (leb (o .long) most-length && leb (o .offset + o .long) room) (and-left sizes (slot-good o) g)))
 
   pub extent-length : o .long ≤ most-length
   unfolding extent-good
   extent-length =
       leb-true (o .long) most-length (and-left (leb (o .long) most-length) (leb (o .offset + o .long) room)
-        (and-right (leb (o .flag) 1 && eqb (o .zero-field) 0) (leb (o .long) most-length && leb (o .offset + o .long) room) (and-left sizes (slot-good o) g)))
+      (and-right (leb (o .flag) 1 && eqb (o .zero-field) 0) (leb (o .long) most-length && leb (o .offset + o .long) room) (and-left sizes (slot-good o) g)))
 
   pub extent-slot : o .slot < slot-limit
   unfolding extent-good slot-good

@@ -29,7 +29,7 @@ freed-last s zero j k = rw (add-zero j) (or-false (is-wait (op s j) && eqb (op s
 freed-last s (suc l) j k =
     let e : suc j + l ≡ j + suc l = omega arith in
     ap (λ (b : Bool). (is-wait (op s j) && eqb (op s j .slot) k) || b)
-      (freed-last s l (suc j) k ∙ ap (λ (m : ℕ). freed s l (suc j) k || (is-wait (op s m) && eqb (op s m .slot) k)) e)
+    (freed-last s l (suc j) k ∙ ap (λ (m : ℕ). freed s l (suc j) k || (is-wait (op s m) && eqb (op s m .slot) k)) e)
     ∙ sym (or-assoc (is-wait (op s j) && eqb (op s j .slot) k) (freed s l (suc j) k) (is-wait (op s (j + suc l)) && eqb (op s (j + suc l) .slot) k))
 
 module _ (s : Sheet) (r i : ℕ) where
@@ -47,8 +47,8 @@ module _ (s : Sheet) (r i : ℕ) where
       let at : suc j + (i - suc j) ≡ i = omega arith in
       let k : ℕ = op s j .slot in
       let last : freed s (suc i - suc j) (suc j) k ≡ (freed s (i - suc j) (suc j) k || ends j) =
-            ap (λ (m : ℕ). freed s m (suc j) k) n ∙ (freed-last s (i - suc j) (suc j) k
-            ∙ ap (λ (m : ℕ). freed s (i - suc j) (suc j) k || (is-wait (op s m) && eqb (op s m .slot) k)) at) in
+      ap (λ (m : ℕ). freed s m (suc j) k) n ∙ (freed-last s (i - suc j) (suc j) k
+      ∙ ap (λ (m : ℕ). freed s (i - suc j) (suc j) k || (is-wait (op s m) && eqb (op s m .slot) k)) at) in
       rw (now, then, last) (both (eqb (rank-of s j) r) (is-nonblocking (op s j)) (freed s (i - suc j) (suc j) k) (ends j))
     where
       both : (a b c d : Bool) → (a && (b && not (c || d))) ≡ ((a && (b && not c)) && not d)
@@ -74,8 +74,8 @@ module _ (s : Sheet) (r i : ℕ) where
   unfolding held-by some-below
   held-more e g =
       ap₂ (λ (a b : Bool). a || b) (ap (λ (b : Bool). b && g i) (holds-new e))
-        (below-equal i (λ j. holds-for s r j (suc i) && g j) (λ j. holds-for s r j i && (not (ends j) && g j))
-          (λ j l. ap (λ (b : Bool). b && g j) (holds-on j l) ∙ and-assoc (holds-for s r j i) (not (ends j)) (g j)))
+      (below-equal i (λ j. holds-for s r j (suc i) && g j) (λ j. holds-for s r j i && (not (ends j) && g j))
+      (λ j l. ap (λ (b : Bool). b && g j) (holds-on j l) ∙ and-assoc (holds-for s r j i) (not (ends j)) (g j)))
 
 -- held-by of tests that agree, and of one that fails
 pub held-equal : (s : Sheet) (r i : ℕ) (f g : ℕ → Bool) → ((j : ℕ) → f j ≡ g j) → held-by s r i f ≡ held-by s r i g
@@ -87,7 +87,7 @@ pub held-stricter : (s : Sheet) (r i : ℕ) (f g : ℕ → Bool) → ((j : ℕ) 
 unfolding held-by
 held-stricter s r i f g e none =
     below-none i (λ j. holds-for s r j i && g j)
-      (λ j l h. true-not-false (below-some i (λ j. holds-for s r j i && f j) j l (and-both (and-left (holds-for s r j i) (g j) h) (e j (and-right (holds-for s r j i) (g j) h)))) none)
+    (λ j l h. true-not-false (below-some i (λ j. holds-for s r j i && f j) j l (and-both (and-left (holds-for s r j i) (g j) h) (e j (and-right (holds-for s r j i) (g j) h)))) none)
 
 -- a holder of the slot k passes the test `rest`
 abbrev pub by-slot : Sheet → (r i k : ℕ) → (ℕ → Bool) → Bool
@@ -107,6 +107,7 @@ module _ (s : Sheet) (r i : ℕ) (e : rank-of s i ≡ r) (rest : ℕ → Bool) w
       none-new true true h = absurd (d (sym (eqb-true (op s i .slot) k h)))
       none-new true false h = refl
       none-new false b h = refl
+
       same : (j : ℕ) → (not (ends s r i j) && named k j) ≡ named k j
       same j = go (eqb (op s j .slot) k) refl (is-wait (op s i)) (eqb (op s i .slot) (op s j .slot)) refl
         where
@@ -126,7 +127,7 @@ module _ (s : Sheet) (r i : ℕ) (e : rank-of s i ≡ r) (rest : ℕ → Bool) w
   by-slot-freed w n =
       held-more s r i e (named (op s i .slot))
       ∙ (ap₂ (λ (a b : Bool). a || b) (ap (λ (b : Bool). b && named (op s i .slot) i) n)
-          (below-none i (λ j. holds-for s r j i && (not (ends s r i j) && named (op s i .slot) j)) (λ j l h. ended j (and-right (holds-for s r j i) (not (ends s r i j) && named (op s i .slot) j) h))))
+      (below-none i (λ j. holds-for s r j i && (not (ends s r i j) && named (op s i .slot) j)) (λ j l h. ended j (and-right (holds-for s r j i) (not (ends s r i j) && named (op s i .slot) j) h))))
     where
       ended : (j : ℕ) → (not (ends s r i j) && named (op s i .slot) j) ≡ true → ⊥
       ended j h =
@@ -139,13 +140,14 @@ module _ (s : Sheet) (r i : ℕ) (e : rank-of s i ≡ r) (rest : ℕ → Bool) w
   by-slot-taken w n free =
       held-more s r i e (named (op s i .slot))
       ∙ (ap₂ (λ (a b : Bool). a || b) (new (is-nonblocking (op s i)) n (eqb (op s i .slot) (op s i .slot)) (eq-eqb (op s i .slot) (op s i .slot) refl))
-          (held-stricter s r i (λ j. eqb (op s j .slot) (op s i .slot) && true) (λ j. not (ends s r i j) && named (op s i .slot) j) looser free)
-        ∙ or-false (rest i))
+      (held-stricter s r i (λ j. eqb (op s j .slot) (op s i .slot) && true) (λ j. not (ends s r i j) && named (op s i .slot) j) looser free)
+      ∙ or-false (rest i))
     where
       new : (a : Bool) → a ≡ true → (b : Bool) → b ≡ true → (a && (b && rest i)) ≡ rest i
       new true p true q = refl
       new true p false q = true-not-false q refl
       new false p b q = true-not-false p refl
+
       looser : (j : ℕ) → (not (ends s r i j) && named (op s i .slot) j) ≡ true → (eqb (op s j .slot) (op s i .slot) && true) ≡ true
       looser j h = and-both (and-left (eqb (op s j .slot) (op s i .slot)) (rest j) (and-right (not (ends s r i j)) (named (op s i .slot) j) h)) refl
 
@@ -154,4 +156,4 @@ module _ (s : Sheet) (r i : ℕ) (e : rank-of s i ≡ r) (rest : ℕ → Bool) w
   by-slot-same w n k =
       held-more s r i e (named k)
       ∙ ap₂ (λ (a b : Bool). a || b) (ap (λ (b : Bool). b && named k i) n)
-          (held-equal s r i (λ j. not (ends s r i j) && named k j) (named k) (λ j. ap (λ (b : Bool). not (b && eqb (op s i .slot) (op s j .slot)) && named k j) w))
+      (held-equal s r i (λ j. not (ends s r i j) && named k j) (named k) (λ j. ap (λ (b : Bool). not (b && eqb (op s i .slot) (op s j .slot)) && named k j) w))

@@ -47,7 +47,7 @@ module _ (s : Sheet) (t : Tabled s) (n : ℕ) (f : ℕ → Bool) (h : n ≡ 0 �
       let next = script-next s (t .consecutive) r l in
       let inside = script-inside s t r l in
       let part : first-broken n f (N-of s - counts-before s r) (counts-before s r) ≡ first-broken n f (N-of s - (counts-before s r + board s r .count)) (counts-before s r + board s r .count) =
-            broken-part-on n f (N-of s) (counts-before s r) (board s r .count) h (omega arith) (subst (λ (k : ℕ). first-broken n f (board s r .count) k .number ≡ 0) first q) in
+      broken-part-on n f (N-of s) (counts-before s r) (board s r .count) h (omega arith) (subst (λ (k : ℕ). first-broken n f (board s r .count) k .number ≡ 0) first q) in
       let end : counts-before s r + board s r .count ≡ counts-before s (r + 1) = ends first next in
       e ∙ (part ∙ ap (λ (k : ℕ). first-broken n f (N-of s - k) k) end)
     where
@@ -86,20 +86,20 @@ module _ (s : Sheet) (n : ℕ) (f : ℕ → Bool) (r : ℕ) where
   pub searched-none : (i end : ℕ) → i ≡ board s r .first → end ≡ i + board s r .count → Searched s n f r i end
   searched-none i end a b =
       let c : board s r .count ≡ end - i = omega arith in
-      record
-        { lower = omega arith
-        ; upper = omega arith
-        ; left = ap (λ (k : ℕ). first-broken n f k (board s r .first)) c ∙ ap (λ (k : ℕ). first-broken n f (end - i) k) (sym a)
-        }
+      record {
+        lower = omega arith;
+        upper = omega arith;
+        left = ap (λ (k : ℕ). first-broken n f k (board s r .first)) c ∙ ap (λ (k : ℕ). first-broken n f (end - i) k) (sym a);
+      }
 
   pub searched-more : (i end : ℕ) → Searched s n f r i end → i < end → f i ≡ true → Searched s n f r (i + 1) end
   searched-more i end q l t =
       let k : (end - i) - 1 ≡ end - (i + 1) = omega arith in
-      record
-        { lower = omega (arith, q .lower)
-        ; upper = omega arith
-        ; left = q .left ∙ (broken-more n f (end - i) i (omega arith) t ∙ ap (λ (m : ℕ). first-broken n f m (i + 1)) k)
-        }
+      record {
+        lower = omega (arith, q .lower);
+        upper = omega arith;
+        left = q .left ∙ (broken-more n f (end - i) i (omega arith) t ∙ ap (λ (m : ℕ). first-broken n f m (i + 1)) k);
+      }
 
   pub searched-bad : (i end : ℕ) → Searched s n f r i end → i < end → f i ≡ false → told (script-broken n f s r) n i
   searched-bad i end q l t = told-is (script-broken n f s r) n i (q .left ∙ broken-here n f (end - i) i (omega arith) t)

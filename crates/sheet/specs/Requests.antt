@@ -35,22 +35,24 @@ pub record Kept (s : Sheet) (r i : ℕ) (starts ends : List ℕ) : Type 0 where
 pub kept-none : (s : Sheet) → Consecutive s → (r i : ℕ) → r < P-of s → i ≡ board s r .first → Kept s r i (replicate 32 absent) (replicate 32 0)
 unfolding held-by holds-for slot-taken hit
 kept-none s c r i h e =
-    record
-      { starts-long = length-replicate {A = ℕ} 32 absent
-      ; ends-long = length-replicate {A = ℕ} 32 0
-      ; taken = λ k l. free k l ∙ sym (nobody (λ j. eqb (op s j .slot) k && true))
-      ; hits = λ from to k l. missed from to k l ∙ sym (nobody (λ j. eqb (op s j .slot) k && area-test s from to j))
-      }
+    record {
+      starts-long = length-replicate {A = ℕ} 32 absent;
+      ends-long = length-replicate {A = ℕ} 32 0;
+      taken = λ k l. free k l ∙ sym (nobody (λ j. eqb (op s j .slot) k && true));
+      hits = λ from to k l. missed from to k l ∙ sym (nobody (λ j. eqb (op s j .slot) k && area-test s from to j));
+    }
   where
     nobody : (g : ℕ → Bool) → held-by s r i g ≡ false
     nobody g =
         below-none i (λ j. holds-for s r j i && g j)
-          (λ j l t.
-            let q = and-left (holds-for s r j i) (g j) t in
-            let p = eqb-true (rank-of s j) r (and-right (ltb j i) (eqb (rank-of s j) r) (and-left (ltb j i && eqb (rank-of s j) r) (is-nonblocking (op s j) && not (freed s (i - suc j) (suc j) (op s j .slot))) q)) in
-            omega (arith, rank-before-script s c r j h (omega arith)))
+        (λ j l t.
+        let q = and-left (holds-for s r j i) (g j) t in
+        let p = eqb-true (rank-of s j) r (and-right (ltb j i) (eqb (rank-of s j) r) (and-left (ltb j i && eqb (rank-of s j) r) (is-nonblocking (op s j) && not (freed s (i - suc j) (suc j) (op s j .slot))) q)) in
+        omega (arith, rank-before-script s c r j h (omega arith)))
+
     free : (k : ℕ) → k < 32 → slot-taken (replicate 32 absent) k ≡ false
     free k l = rw (getD-replicate {A = ℕ} 32 k absent 0 l)
+
     missed : (from to k : ℕ) → k < 32 → hit (replicate 32 absent) (replicate 32 0) from to k ≡ false
     missed from to k l = rw (getD-replicate {A = ℕ} 32 k 0 0 l) (ap (λ (b : Bool). b && ltb (getD (replicate 32 absent) k 0) to) (le-ltb from 0 (omega arith)))
 
@@ -80,21 +82,22 @@ module _ (s : Sheet) (r i : ℕ) (starts ends : List ℕ) (kept : Kept s r i sta
   unfolding hit
   same-hits v w from to =
       ap₂ (λ (a b : ℕ). ltb from a && ltb b to) (getD-set-same ends slot w 0 (omega (arith, kept .ends-long, o .slot-small)))
-        (getD-set-same starts slot v 0 (omega (arith, kept .starts-long, o .slot-small)))
+      (getD-set-same starts slot v 0 (omega (arith, kept .starts-long, o .slot-small)))
 
   -- a change of one row is right where that row is
   changed : (v w : ℕ) → not (eqb v absent) ≡ by-slot s r (suc i) slot (λ j. true) → ((from to : ℕ) → (ltb from w && ltb v to) ≡ by-slot s r (suc i) slot (area-test s from to)) → Kept s r (suc i) (set starts slot v) (set ends slot w)
   changed v w a b =
-      record
-        { starts-long = length-set starts slot v ∙ kept .starts-long
-        ; ends-long = length-set ends slot w ∙ kept .ends-long
-        ; taken = λ k l. taken-at k l (ℕ-discrete k slot)
-        ; hits = λ from to k l. hits-at from to k l (ℕ-discrete k slot)
-        }
+      record {
+        starts-long = length-set starts slot v ∙ kept .starts-long;
+        ends-long = length-set ends slot w ∙ kept .ends-long;
+        taken = λ k l. taken-at k l (ℕ-discrete k slot);
+        hits = λ from to k l. hits-at from to k l (ℕ-discrete k slot);
+      }
     where
       taken-at : (k : ℕ) → k < slot-limit → Dec (k ≡ slot) → slot-taken (set starts slot v) k ≡ by-slot s r (suc i) k (λ j. true)
       taken-at k l (yes e) = subst (λ (n : ℕ). slot-taken (set starts slot v) n ≡ by-slot s r (suc i) n (λ j. true)) (sym e) (same-taken v ∙ a)
       taken-at k l (no d) = other-taken v k l d
+
       hits-at : (from to k : ℕ) → k < slot-limit → Dec (k ≡ slot) → hit (set starts slot v) (set ends slot w) from to k ≡ by-slot s r (suc i) k (area-test s from to)
       hits-at from to k l (yes e) = subst (λ (n : ℕ). hit (set starts slot v) (set ends slot w) from to n ≡ by-slot s r (suc i) n (area-test s from to)) (sym e) (same-hits v w from to ∙ b from to)
       hits-at from to k l (no d) = other-hits v w from to k l d
@@ -103,7 +106,7 @@ module _ (s : Sheet) (r i : ℕ) (starts ends : List ℕ) (kept : Kept s r i sta
   kept-wait : is-wait (op s i) ≡ true → is-nonblocking (op s i) ≡ false → Kept s r (suc i) (set starts slot absent) (set ends slot 0)
   kept-wait w n =
       changed absent 0 (sym (by-slot-freed s r i rank (λ j. true) w n))
-        (λ from to. ap (λ (b : Bool). b && ltb absent to) (le-ltb from 0 (omega arith)) ∙ sym (by-slot-freed s r i rank (area-test s from to) w n))
+      (λ from to. ap (λ (b : Bool). b && ltb absent to) (le-ltb from 0 (omega arith)) ∙ sym (by-slot-freed s r i rank (area-test s from to) w n))
 
   -- a nonblocking operation takes it, with its area
   area-kept : (from to : ℕ) → (ltb from (area-to (op s i)) && ltb (area-from (op s i)) to) ≡ area-test s from to i
@@ -126,17 +129,17 @@ module _ (s : Sheet) (r i : ℕ) (starts ends : List ℕ) (kept : Kept s r i sta
   kept-taken w n free =
       let nobody = sym (kept .taken slot (o .slot-small)) ∙ free in
       changed (area-from (op s i)) (area-to (op s i))
-        (ap (λ (b : Bool). not b) (ne-eqb (area-from (op s i)) absent (λ e. absurd (omega (arith, area-from-small)))) ∙ sym (by-slot-taken s r i rank (λ j. true) w n nobody))
-        (λ from to. area-kept from to ∙ sym (by-slot-taken s r i rank (area-test s from to) w n nobody))
+      (ap (λ (b : Bool). not b) (ne-eqb (area-from (op s i)) absent (λ e. absurd (omega (arith, area-from-small)))) ∙ sym (by-slot-taken s r i rank (λ j. true) w n nobody))
+      (λ from to. area-kept from to ∙ sym (by-slot-taken s r i rank (area-test s from to) w n nobody))
 
   kept-same : is-wait (op s i) ≡ false → is-nonblocking (op s i) ≡ false → Kept s r (suc i) starts ends
   kept-same w n =
-      record
-        { starts-long = kept .starts-long
-        ; ends-long = kept .ends-long
-        ; taken = λ k l. kept .taken k l ∙ sym (by-slot-same s r i rank (λ j. true) w n k)
-        ; hits = λ from to k l. kept .hits from to k l ∙ sym (by-slot-same s r i rank (area-test s from to) w n k)
-        }
+      record {
+        starts-long = kept .starts-long;
+        ends-long = kept .ends-long;
+        taken = λ k l. kept .taken k l ∙ sym (by-slot-same s r i rank (λ j. true) w n k);
+        hits = λ from to k l. kept .hits from to k l ∙ sym (by-slot-same s r i rank (area-test s from to) w n k);
+      }
 
   -- the table after an operation that it accepts
   pub kept-more : (is-wait (op s i) ≡ true → is-nonblocking (op s i) ≡ false) → table-good starts ends (op s i) ≡ true → Kept s r (i + 1) (starts-after (op s i) starts) (ends-after (op s i) ends)
@@ -159,7 +162,7 @@ module _ (s : Sheet) (r i : ℕ) (starts ends : List ℕ) (kept : Kept s r i sta
   slot-answer =
       kept .taken (op s i .slot) (small i (omega arith))
       ∙ below-equal i (λ j. holds-for s r j i && (eqb (op s j .slot) (op s i .slot) && true)) (λ j. holds s j i && eqb (op s j .slot) (op s i .slot))
-          (λ j l. ap₂ (λ (a b : Bool). a && b) (sym (holds-is j)) (and-true (eqb (op s j .slot) (op s i .slot))))
+      (λ j l. ap₂ (λ (a b : Bool). a && b) (sym (holds-is j)) (and-true (eqb (op s j .slot) (op s i .slot))))
 
   abbrev from : ℕ
   from = op s i .offset
@@ -196,8 +199,9 @@ module _ (s : Sheet) (r i : ℕ) (starts ends : List ℕ) (kept : Kept s r i sta
           let j : Found i (hitting (k .at)) = below-found i (hitting (k .at)) (sym (kept .hits from to (k .at) (k .below)) ∙ k .passed) in
           let q = and-right (holds-for s r (j .at) i) (eqb (op s (j .at) .slot) (k .at) && area-test s from to (j .at)) (j .passed) in
           below-some i sharing (j .at) (j .below)
-            (and-both (holds-is (j .at) ∙ and-left (holds-for s r (j .at) i) (eqb (op s (j .at) .slot) (k .at) && area-test s from to (j .at)) (j .passed))
-              (share-is l (j .at) ∙ and-right (eqb (op s (j .at) .slot) (k .at)) (area-test s from to (j .at)) q))
+          (and-both (holds-is (j .at) ∙ and-left (holds-for s r (j .at) i) (eqb (op s (j .at) .slot) (k .at) && area-test s from to (j .at)) (j .passed))
+          (share-is l (j .at) ∙ and-right (eqb (op s (j .at) .slot) (k .at)) (area-test s from to (j .at)) q))
+
       back : some-below i sharing ≡ true → some-below slot-limit (hit starts ends from to) ≡ true
       back h =
           let j : Found i sharing = below-found i sharing h in
@@ -206,18 +210,18 @@ module _ (s : Sheet) (r i : ℕ) (starts ends : List ℕ) (kept : Kept s r i sta
           let shared = and-right (holds s (j .at) i) (is-receive (op s (j .at)) && share (op s (j .at)) (op s i)) (j .passed) in
           let held = and-left (holds s (j .at) i) (is-receive (op s (j .at)) && share (op s (j .at)) (op s i)) (j .passed) in
           below-some slot-limit (hit starts ends from to) k under
-            (kept .hits from to k under
-              ∙ below-some i (hitting k) (j .at) (j .below) (and-both (sym (holds-is (j .at)) ∙ held) (and-both (eq-eqb k k refl) (sym (share-is l (j .at)) ∙ shared))))
+          (kept .hits from to k under
+          ∙ below-some i (hitting k) (j .at) (j .below) (and-both (sym (holds-is (j .at)) ∙ held) (and-both (eq-eqb k k refl) (sym (share-is l (j .at)) ∙ shared))))
 
   -- an empty area shares nothing
   empty-answer : ltb 0 (op s i .long) ≡ false → area-taken s i ≡ false
   unfolding area-taken share
   empty-answer l =
       below-none i sharing
-        (λ j h t.
-          let q = and-right (is-receive (op s j)) (share (op s j) (op s i)) (and-right (holds s j i) (is-receive (op s j) && share (op s j) (op s i)) t) in
-          true-not-false (and-right (ltb 0 (op s j .long)) (ltb 0 (op s i .long))
-            (and-left (ltb 0 (op s j .long) && ltb 0 (op s i .long)) (ltb (op s j .offset) (op s i .offset + op s i .long) && ltb (op s i .offset) (op s j .offset + op s j .long)) q)) l)
+      (λ j h t.
+      let q = and-right (is-receive (op s j)) (share (op s j) (op s i)) (and-right (holds s j i) (is-receive (op s j) && share (op s j) (op s i)) t) in
+      true-not-false (and-right (ltb 0 (op s j .long)) (ltb 0 (op s i .long))
+      (and-left (ltb 0 (op s j .long) && ltb 0 (op s i .long)) (ltb (op s j .offset) (op s i .offset + op s i .long) && ltb (op s i .offset) (op s j .offset + op s j .long)) q)) l)
 
   area-answer : some-hit starts ends (op s i) ≡ (is-receive (op s i) && area-taken s i)
   unfolding some-hit has-area

@@ -27,7 +27,7 @@ some-hit starts ends o = has-area o && some-below slot-limit (hit starts ends (o
 unfoldable pub table-good : (starts ends : List ℕ) → Op → Bool
 table-good starts ends o =
     cond (is-wait o) (slot-taken starts (o .slot))
-        (not (is-nonblocking o && slot-taken starts (o .slot)) && not (some-hit starts ends o))
+    (not (is-nonblocking o && slot-taken starts (o .slot)) && not (some-hit starts ends o))
 
 -- what it leaves in the table
 unfoldable pub area-from : Op → ℕ

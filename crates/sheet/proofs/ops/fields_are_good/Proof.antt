@@ -62,7 +62,7 @@ returns-3 c =
     let o = op-in (a .s .now) (a .at) in
     let k = c .before .before .before .before .kind .ensures .0 in
     ap₂ (λ (x y : Bool). x && y) (ap₂ (λ (x y : Bool). x && y) (ap (leb 1) k) (ap (λ (n : ℕ). leb n 4) k))
-      (ap₂ (λ (x y : Bool). x && y) (c .before .envelope-is-good2 .ensures) (c .extent-is-good2 .ensures))
+    (ap₂ (λ (x y : Bool). x && y) (c .before .envelope-is-good2 .ensures) (c .extent-is-good2 .ensures))
     ∙ fields-of-send (a .p) (a .c) (a .inbox) (a .payload) o (λ e. c .before .before .before .if1 .left (k ∙ e)) (λ e. c .before .before .if2 .left (k ∙ e))
 
 pub fields-are-good-spec : {M : Type 1} → statement M

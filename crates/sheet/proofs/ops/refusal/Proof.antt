@@ -44,7 +44,7 @@ returns c =
     let s = sheet-in (z .args .s .now) in
     let a = c .before .before .script-refusal in
     passed-answer s (z .pre .1) 6 (op-good s) (λ e. absurd (omega arith)) (c .before .before .before .before .loop .r) (a .result .number) (a .result .place)
-      (omega (arith, P-decoded (z .args .s .now))) (c .before .before .before .before .loop .inv .1) (a .ensures) (c .if1 .taken)
+    (omega (arith, P-decoded (z .args .s .now))) (c .before .before .before .before .loop .inv .1) (a .ensures) (c .if1 .taken)
 
 -- src/ops.rt:170:9
 add-r : tie.Need-add-r Inv-loop μ-loop
@@ -59,9 +59,11 @@ loop-again : tie.Need-loop-again Inv-loop μ-loop
 loop-again c =
     let z = c .before .before .before .before .before .before .before in
     let s = sheet-in (z .args .s .now) in
-    let a = c .before .before .script-refusal in
-    (omega arith, passed-on s (z .pre .1) 6 (op-good s) (λ e. absurd (omega arith)) (c .before .before .before .before .loop .r) (a .result .number) (a .result .place)
-      (omega (arith, P-decoded (z .args .s .now))) (c .before .before .before .before .loop .inv .1) (a .ensures) (c .if1 .left))
+    let a = c .before .before .script-refusal in (
+      omega arith,
+      passed-on s (z .pre .1) 6 (op-good s) (λ e. absurd (omega arith)) (c .before .before .before .before .loop .r) (a .result .number) (a .result .place)
+          (omega (arith, P-decoded (z .args .s .now))) (c .before .before .before .before .loop .inv .1) (a .ensures) (c .if1 .left),
+    )
 
 -- src/ops.rt:159:1
 returns-2 : tie.Need-returns-2 Inv-loop μ-loop
@@ -70,7 +72,7 @@ returns-2 c =
     let z = c .before .before .before .before in
     let s = sheet-in (z .args .s .now) in
     told-is (first-broken 6 (op-good s) (N-of s) 0) 0 0
-      (passed-all s (z .pre .1) 6 (op-good s) (λ e. absurd (omega arith)) (c .before .loop .r) (omega (arith, P-decoded (z .args .s .now))) (c .before .loop .inv .1))
+    (passed-all s (z .pre .1) 6 (op-good s) (λ e. absurd (omega arith)) (c .before .loop .r) (omega (arith, P-decoded (z .args .s .now))) (c .before .loop .inv .1))
 
 pub refusal-spec : {M : Type 1} → statement M
 refusal-spec =

@@ -60,7 +60,7 @@ loop-holds : tie.Need-loop-holds Inv-loop μ-loop
 loop-holds c =
     let s = c .before .before .before .before .before .before .before .args .s .now in
     searched-none (sheet-in s) 6 (op-good (sheet-in s)) (c .before .before .before .before .before .before .before .args .r) (c .before .first .result) (c .before .first .result + c .count .result)
-      (c .before .first .ensures .0) (ap (λ (n : ℕ). c .before .first .result + n) (c .count .ensures .0))
+    (c .before .first .ensures .0) (ap (λ (n : ℕ). c .before .first .result + n) (c .count .ensures .0))
 
 -- src/ops.rt:144:37
 mul-fields-are-good : tie.Need-mul-fields-are-good Inv-loop μ-loop
@@ -91,8 +91,8 @@ tested c =
     let z = c .before .before .before .before .before .before .before .before .before .before in
     let l = c .before .before .loop in
     sym (c .fields-are-good .ensures
-      ∙ op-good-read (z .args .s .now) (z .pre .0) (z .pre .1) (z .args .r) (l .i) (z .pre .2) (l .inv .lower) (omega arith) (c .before .before .before .before .before .before .before .before .boards .result) (c .before .before .before .before .before .before .before .comms .result)
-        (c .before .before .before .before .before .inbox .result) (c .before .before .before .before .before .before .payload .result) (c .before .before .before .before .before .before .before .before .boards .ensures .0) (c .before .before .before .before .before .before .before .comms .ensures .0) (c .before .before .before .before .before .inbox .ensures .0) (c .before .before .before .before .before .before .payload .ensures .0))
+    ∙ op-good-read (z .args .s .now) (z .pre .0) (z .pre .1) (z .args .r) (l .i) (z .pre .2) (l .inv .lower) (omega arith) (c .before .before .before .before .before .before .before .before .boards .result) (c .before .before .before .before .before .before .before .comms .result)
+    (c .before .before .before .before .before .inbox .result) (c .before .before .before .before .before .before .payload .result) (c .before .before .before .before .before .before .before .before .boards .ensures .0) (c .before .before .before .before .before .before .before .comms .ensures .0) (c .before .before .before .before .before .inbox .ensures .0) (c .before .before .before .before .before .before .payload .ensures .0))
 
 -- src/ops.rt:145:13
 returns : tie.Need-returns Inv-loop μ-loop
@@ -101,7 +101,7 @@ returns c =
     let s = z .args .s .now in
     let l = c .before .before .before .loop in
     searched-bad (sheet-in s) 6 (op-good (sheet-in s)) (z .args .r) (l .i) (c .before .before .before .before .before .first .result + c .before .before .before .before .count .result) (l .inv) (c .before .before .loop-test .taken)
-      (tested (c .before) ∙ not-true _ (c .if1 .taken))
+    (tested (c .before) ∙ not-true _ (c .if1 .taken))
 
 -- src/ops.rt:150:9
 add-i : tie.Need-add-i Inv-loop μ-loop
@@ -118,7 +118,7 @@ loop-again c =
     let s = z .args .s .now in
     let l = c .before .before .before .loop in
     searched-more (sheet-in s) 6 (op-good (sheet-in s)) (z .args .r) (l .i) (c .before .before .before .before .before .first .result + c .before .before .before .before .count .result) (l .inv) (c .before .before .loop-test .taken)
-      (tested (c .before) ∙ not-false _ (c .if1 .left))
+    (tested (c .before) ∙ not-false _ (c .if1 .left))
 
 -- src/ops.rt:133:1
 returns-2 : tie.Need-returns-2 Inv-loop μ-loop
