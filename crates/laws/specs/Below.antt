@@ -3,7 +3,8 @@
 use mathlib.Core.Path.{_≡_, refl, ap, ap₂, _∙_, subst, sym}
 use mathlib.Core.Bool.{Bool, true, false, _||_}
 use mathlib.Core.Logic.{_⊎_, inl, inr, ⊎-elim}
-use Prim.Native.Nat.{ℕ, zero, suc, _<_, _≤_}
+use Prim.Native.Nat.{ℕ, zero, suc, _+_, _<_, _≤_}
+use native.Mathlib.Numerals.{add-one}
 use native.Mathlib.Omega.{arith}
 use native.Mathlib.Decide.{ℕ-discrete}
 use Rattle.rules.specs.Refusal.{some-below}
@@ -62,3 +63,8 @@ below-equal (suc i) f g e = ap₂ (λ (a b : Bool). a || b) (e i (omega arith)) 
 -- a test that fails at every number below a bound
 pub below-none : (i : ℕ) (f : ℕ → Bool) → ((j : ℕ) → j < i → f j ≡ true → ⊥) → some-below i f ≡ false
 below-none i f e = not-so (some-below i f) (λ h. let r : Found i f = below-found i f h in e (r .at) (r .below) (r .passed))
+
+-- one number more
+pub below-more : (i : ℕ) (f : ℕ → Bool) → some-below (i + 1) f ≡ (f i || some-below i f)
+unfolding some-below
+below-more i f = rw (add-one i)

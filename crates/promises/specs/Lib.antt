@@ -9,7 +9,7 @@
 -- WHAT IS KNOWN OF A SHEET AND OF A JOB
 --   Good          what a sheet that passes check is known to be
 --   Invariant     what every job that an order leads to keeps
---   Bounds        what a stepping engine needs of it, as short laws
+--   Facts         what a stepping engine needs of it, as short laws; Bounds: which numbers fit their bytes
 -- LAWS OF LISTS, SUMS AND KINDS
 --   Sums          sums over the numbers below n
 --   Lists         waiting lists: members, order, searches, removal
@@ -68,6 +68,7 @@ pub mod Theorems
 pub mod Needed
 pub mod Good
 pub mod Invariant
+pub mod Facts
 pub mod Bounds
 pub mod Sums
 pub mod Lists

@@ -6,7 +6,6 @@
 --   holds-more         one more at the end
 --   holds-less         the first v taken out
 --   holds-same         the same list under other words
---   sorted-length      how long a list can be
 --   first-by-none, first-by-some   what a search found
 -- Assumes nothing.
 use mathlib.Core.Path.{_≡_, refl, sym, ap, subst, _∙_}
@@ -14,10 +13,9 @@ use mathlib.Core.Logic.{_⊎_, inl, inr, _≢_}
 use mathlib.Core.Bool.{Bool, true, false, cond}
 use mathlib.Core.List.{List, [], _∷_, _++_}
 use mathlib.Core.Option.{none, some}
-use Prim.Native.Nat.{ℕ, zero, suc, _≤_, _<_}
+use Prim.Native.Nat.{ℕ}
 use native.Mathlib.Omega.{arith}
 use lib.Dec.{eqb}
-use lib.ListN.{length}
 use borrow.Author.Tests.{eqb-true, eqb-false}
 use Rattle.rules.specs.Step.{first-by, without}
 
@@ -131,30 +129,15 @@ holds-less {R} {P} {Q} {l} u h irr keep only out =
       sorted = sorted-less R u l (h .sorted);
     }
 
--- a list without repetition whose members are below n has at most n of them
-without-length : (u : ℕ) (l : List ℕ) → length l ≤ suc (length (without u l))
+-- what is not in a list is not taken out of it
+pub without-none : (u : ℕ) (l : List ℕ) → (In u l → ⊥) → without u l ≡ l
 unfolding without
-without-length u [] = omega arith
-without-length u (x ∷ xs) = go (eqb x u) (without-length u xs)
+without-none u [] h = refl
+without-none u (x ∷ xs) h = go (eqb x u) refl (without-none u xs (λ k. h (inr k)))
   where
-    go : (b : Bool) → length xs ≤ suc (length (without u xs)) → suc (length xs) ≤ suc (length (cond b xs (x ∷ without u xs)))
-    go true before = omega arith
-    go false before = omega arith
-
-pub sorted-length : (R : ℕ → ℕ → Type 0) → ((v : ℕ) → R v v → ⊥) → (n : ℕ) (l : List ℕ) → Sorted R l →
-    ((v : ℕ) → In v l → v < n) → length l ≤ n
-sorted-length R irr zero [] h small = omega arith
-sorted-length R irr zero (x ∷ xs) h small = absurd (let l = small x (inl refl) in omega arith)
-sorted-length R irr (suc n) l h small =
-    omega (
-      arith,
-      without-length n l,
-      sorted-length R irr n (without n l) (sorted-less R n l h)
-          (λ v k. below v (in-without v n l k) (λ e. without-same R irr n l h (subst (λ (z : ℕ). In z (without n l)) e k))),
-    )
-  where
-    below : (v : ℕ) → In v l → v ≢ n → v < n
-    below v k d = let s = small v k in omega arith
+    go : (b : Bool) → eqb x u ≡ b → without u xs ≡ xs → cond b xs (x ∷ without u xs) ≡ x ∷ xs
+    go true e before = absurd (h (inl (sym (eqb-true x u e))))
+    go false e before = ap {B = List ℕ} (λ l. x ∷ l) before
 
 -- THE SAME LIST under other words
 sorted-same : (R S : ℕ → ℕ → Type 0) (l : List ℕ) → ((v u : ℕ) → In v l → In u l → R v u → S v u) → Sorted R l → Sorted S l

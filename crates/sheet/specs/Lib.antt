@@ -4,8 +4,10 @@
 --   Ops          refusal 6 as a walk over the scripts
 --   Slots        refusal 7 by a table of slots
 --   Requests     the table is right
+--   Chain        refusals in their order
 pub mod Remainders
 pub mod Boards
 pub mod Ops
 pub mod Slots
 pub mod Requests
+pub mod Chain

@@ -10,7 +10,8 @@ use lib.ListN.{length}
 use borrow.Author.Tests.{eq-eqb, ne-eqb}
 use Rattle.rules.specs.Limits.{ops-at}
 use Rattle.rules.specs.Sheet.{Op, op, board, is-send, is-receive, is-wait, sheet-in, op-in, P-in, C-in, N-in, L-in, P-of, N-of, rank-of}
-use Rattle.rules.specs.Refusal.{fields-good, wait-good, envelope-good, extent-good, op-good, room-for}
+use Rattle.rules.specs.Refusal.{fields-good, wait-good, envelope-good, extent-good, op-good, ops-refusal, room-for}
+use Rattle.laws.specs.Broken.{broken-passed}
 use Rattle.laws.specs.Laid.{Laid}
 use Rattle.laws.specs.Tabled.{Tabled}
 use Rattle.laws.specs.Ranks.{rank-in-script}
@@ -59,6 +60,10 @@ module _ (bs : List ℕ) (l : Laid bs) (t : Tabled (sheet-in bs)) (r i : ℕ) (h
   pub op-read : op (sheet-in bs) i ≡ op-in bs here
   op-read = op-decoded bs i op-inside
 
+  -- with P as it was read
+  pub op-read-by : (p : ℕ) → p ≡ P-in bs → op-in bs (ops-at p + 16 * i) ≡ op (sheet-in bs) i
+  op-read-by p e = ap (λ (k : ℕ). op-in bs (ops-at k + 16 * i)) e ∙ sym op-read
+
   -- the sixteen bytes lie inside the sheet
   pub op-bytes : here + 15 < length bs
   op-bytes = omega (arith, l .whole, op-inside)
@@ -69,8 +74,16 @@ module _ (bs : List ℕ) (l : Laid bs) (t : Tabled (sheet-in bs)) (r i : ℕ) (h
   op-good-read p c inbox payload ep ec ei el =
       let rank = rank-in-script (sheet-in bs) (t .consecutive) r i rank-below lo hi in
       let box : inbox ≡ board (sheet-in bs) (rank-of (sheet-in bs) i) .inbox = ei ∙ ap (λ (k : ℕ). board (sheet-in bs) k .inbox) (sym rank) in
-      let same : op-in bs (ops-at p + 16 * i) ≡ op (sheet-in bs) i = ap (λ (k : ℕ). op-in bs (ops-at k + 16 * i)) ep ∙ sym op-read in
-      fields (op-in bs (ops-at p + 16 * i)) (op (sheet-in bs) i) same box
+      fields (op-in bs (ops-at p + 16 * i)) (op (sheet-in bs) i) (op-read-by p ep) box
     where
       fields : (a b : Op) → a ≡ b → inbox ≡ board (sheet-in bs) (rank-of (sheet-in bs) i) .inbox → fields-good p c (room inbox payload a) a ≡ fields-good (P-of (sheet-in bs)) (sheet-in bs .comms) (cond (is-receive b) (board (sheet-in bs) (rank-of (sheet-in bs) i) .inbox) (length (sheet-in bs .payload))) b
       fields a b e box = cc (P-decoded bs, comms-decoded bs, payload-decoded bs (l .whole))
+
+-- what refusal 6 has settled: every operation's fields are good
+pub record Fielded (bs : List ℕ) : Type 0 where
+  pub good : (i : ℕ) → i < N-in bs → op-good (sheet-in bs) i ≡ true
+
+pub fielded : (bs : List ℕ) → ops-refusal (sheet-in bs) .number ≡ 0 → Fielded bs
+unfolding ops-refusal
+fielded bs e =
+    record { good = λ i l. broken-passed 6 (op-good (sheet-in bs)) (N-of (sheet-in bs)) 0 (λ z. absurd (omega arith)) e i (omega arith) (omega (arith, N-decoded bs)) }

@@ -12,12 +12,17 @@ use lib.ListN.{length, getD, set, replicate, length-set, length-replicate, getD-
 use lib.Seq.{getD-set-same, getD-set-other}
 use borrow.Author.Tests.{eq-eqb, ne-eqb, eqb-true, ltb-true, lt-ltb, le-ltb, not-true, not-false}
 use Rattle.rules.specs.Limits.{absent, slot-limit}
-use Rattle.rules.specs.Sheet.{Sheet, Op, op, board, P-of, rank-of, is-receive, is-wait, is-nonblocking}
-use Rattle.rules.specs.Refusal.{freed, holds, some-below, slot-held, share, area-taken, request-good}
+use Rattle.rules.specs.Sheet.{Sheet, Op, op, board, P-of, N-in, rank-of, sheet-in, is-receive, is-wait, is-nonblocking}
+use Rattle.rules.specs.Refusal.{freed, holds, some-below, slot-held, share, area-taken, request-good, fields-good, room-for, op-good}
 use Rattle.laws.specs.Tests.{and-left, and-right, and-both, true-not-false, same-test, cond-true, cond-false}
 use Rattle.laws.specs.Below.{Found, below-some, below-found, below-none, below-equal}
-use Rattle.laws.specs.Ranks.{Consecutive, rank-before-script}
+use Rattle.laws.specs.Ranks.{Consecutive, rank-before-script, rank-lies, inbox-start-more}
+use Rattle.laws.specs.Decoded.{N-decoded, payload-decoded}
+use Rattle.laws.specs.Laid.{Laid}
+use Rattle.laws.specs.Tabled.{Tabled}
+use Rattle.laws.specs.Fields.{fields-slot, fields-end, fields-wait-blocking}
 use Rattle.laws.specs.Holding.{holds-for, held-by, by-slot, by-slot-other, by-slot-freed, by-slot-taken, by-slot-same}
+use Rattle.sheet.specs.Ops.{Fielded}
 use Rattle.sheet.specs.Slots.{slot-taken, hit, has-area, some-hit, table-good, area-from, area-to, starts-after, ends-after, Slotted}
 
 -- receive j has an area that shares a byte with the stretch from `from` to before `to`
@@ -235,3 +240,37 @@ module _ (s : Sheet) (r i : ℕ) (starts ends : List ℕ) (kept : Kept s r i sta
   unfolding table-good request-good
   table-answer =
       ap₂ (λ (a b : Bool). cond (is-wait (op s i)) a (not (is-nonblocking (op s i) && a) && not b)) slot-answer area-answer
+
+-- what refusals 5 and 6 have settled of each operation
+module _ (bs : List ℕ) (l : Laid bs) (t : Tabled (sheet-in bs)) (f : Fielded bs) (i : ℕ) (h : i < N-in bs) where
+  fields-here : fields-good (P-of (sheet-in bs)) (sheet-in bs .comms) (room-for (sheet-in bs) i) (op (sheet-in bs) i) ≡ true
+  unfolding op-good
+  fields-here = f .good i h
+
+  pub slot-fits : op (sheet-in bs) i .slot < slot-limit
+  slot-fits = fields-slot (P-of (sheet-in bs)) (sheet-in bs .comms) (room-for (sheet-in bs) i) (op (sheet-in bs) i) fields-here
+
+  pub waits-block : is-wait (op (sheet-in bs) i) ≡ true → is-nonblocking (op (sheet-in bs) i) ≡ false
+  waits-block = fields-wait-blocking (P-of (sheet-in bs)) (sheet-in bs .comms) (room-for (sheet-in bs) i) (op (sheet-in bs) i) fields-here
+
+  -- an inbox and the payload are far shorter than 65,535 bytes
+  room-small : room-for (sheet-in bs) i ≤ 16384
+  unfolding room-for
+  room-small = go (is-receive (op (sheet-in bs) i))
+    where
+      rank : ℕ
+      rank = rank-of (sheet-in bs) i
+
+      below : rank < P-of (sheet-in bs)
+      below = rank-lies (sheet-in bs) (t .consecutive) i (omega (arith, t .total, N-decoded bs)) .0
+
+      go : (b : Bool) → cond b (board (sheet-in bs) rank .inbox) (length (sheet-in bs .payload)) ≤ 16384
+      go true = omega (arith, inbox-start-more (sheet-in bs) rank below, t .inbox-most rank below)
+      go false = omega (arith, payload-decoded bs (l .whole), l .short-payload)
+
+  pub op-slotted : Slotted (op (sheet-in bs) i)
+  op-slotted =
+      record {
+        slot-small = slot-fits;
+        end-small = omega (arith, fields-end (P-of (sheet-in bs)) (sheet-in bs .comms) (room-for (sheet-in bs) i) (op (sheet-in bs) i) fields-here, room-small);
+      }

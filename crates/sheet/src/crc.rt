@@ -295,7 +295,7 @@ fn crc_over(table: &[u16; 256], c: usize, s: &[u8]) -> usize
     crc
 }
 
-// The CRC of a sheet: bytes 0 to 13, then 16 to the end.
+// The CRC of a sheet's two parts: bytes 0 to 13, then 16 to the end.
 fn crc_by(table: &[u16; 256], s: &[u8]) -> usize
     requires { ⌜ (15 < length (now s)) × Remainders (now table) ⌝ }
     ensures { λ r. ⌜ (r ≡ crc (now (s .entry))) × (r < 65536) ⌝ }
@@ -304,11 +304,26 @@ fn crc_by(table: &[u16; 256], s: &[u8]) -> usize
     crc_over(table, head, &s[16..])
 }
 
-// The table is bound once and lent from here: an index into the constant itself would make it anew at each call.
+// The table as a value, to be bound once and lent: an index into the constant itself would make it anew at each call.
+fn remainders() -> [u16; 256]
+    ensures { λ r. ⌜ Remainders r ⌝ }
+{
+    REMAINDERS
+}
+
+// The CRC of a list of bytes, as published vectors have it.
+pub fn crc_of_bytes(s: &[u8]) -> usize
+    ensures { λ r. ⌜ (r ≡ crc-from 65535 (now (s .entry))) × (r < 65536) ⌝ }
+{
+    let table = remainders();
+    crc_over(&table, 0xffff, s)
+}
+
+// The CRC of a sheet.
 pub fn crc_of(s: &[u8]) -> usize
     requires { ⌜ 15 < length (now s) ⌝ }
     ensures { λ r. ⌜ (r ≡ crc (now (s .entry))) × (r < 65536) ⌝ }
 {
-    let table = REMAINDERS;
+    let table = remainders();
     crc_by(&table, s)
 }

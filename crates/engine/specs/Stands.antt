@@ -1,0 +1,46 @@
+-- A job stands in scratch: the sheet passes check, the job is one that an order leads to (promises' invariant), scratch and the
+-- tally decode to it, and the two tables that are written once are right. Every function of the engine is given this and says
+-- what it does to every such job. Assumes nothing: these are definitions.
+use mathlib.Core.Path.{_≡_}
+use mathlib.Core.Bool.{true}
+use mathlib.Core.List.{List}
+use mathlib.Core.Option.{some}
+use Prim.Native.Nat.{ℕ, _<_, _≤_}
+use lib.ListN.{length, getD}
+use Rattle.rules.specs.Sheet.{Sheet, sheet-in, op, N-of, rank-of, inbox-total, is-wait, two}
+use Rattle.rules.specs.Job.{Job}
+use Rattle.rules.specs.Step.{able, waited}
+use Rattle.rules.specs.Claims.{passes}
+use Rattle.laws.specs.Laid.{Laid}
+use Rattle.promises.specs.Good.{Good}
+use Rattle.promises.specs.Invariant.{Reached}
+use Rattle.state.specs.declared.Tally.{Tally}
+use Rattle.state.specs.Layout.{rank-at, word-at, waits-at}
+use Rattle.state.specs.Decodes.{Decodes}
+
+-- the rank of each operation, and for each wait the operation that it waits for
+pub record Tables (s : Sheet) (c : List ℕ) : Type 0 where
+  pub ranks : (j : ℕ) → j < N-of s → getD c (rank-at j) 0 ≡ rank-of s j
+  pub waits : (j : ℕ) → j < N-of s → is-wait (op s j) ≡ true → waited s j ≡ some (two c (word-at waits-at j))
+
+-- `lent` is the inboxes as they were lent: the engine steps without them
+pub record Stands (bs lent c : List ℕ) (t : Tally) (x : Job) : Type 0 where
+  pub laid : Laid bs
+  pub good : Good (sheet-in bs)
+  pub room : inbox-total (sheet-in bs) ≤ length lent
+  pub reached : Reached (sheet-in bs) lent x
+  pub decodes : Decodes (sheet-in bs) c t x
+  pub tables : Tables (sheet-in bs) c
+
+-- some job stands there: what a function asks at its entry
+pub record Standing (bs c : List ℕ) (t : Tally) : Type 0 where
+  pub lent : List ℕ
+  pub job : Job
+  pub stands : Stands bs lent c t job
+
+-- and board r is able in it
+pub record Able-there (bs c : List ℕ) (t : Tally) (r : ℕ) : Type 0 where
+  pub lent : List ℕ
+  pub job : Job
+  pub stands : Stands bs lent c t job
+  pub is-able : able (sheet-in bs) job r ≡ true

@@ -1,0 +1,1 @@
+// The engine: boards step in lent scratch; then deliveries and the report are made from what scratch holds.

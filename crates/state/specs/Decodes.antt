@@ -1,0 +1,251 @@
+-- Scratch and its tally hold a job. Each change of scratch is the change of the job that rules names, so that an engine above
+-- never speaks of bytes. Nothing is held of the inbox memory: deliveries are made at the end, from the rows. Assumes nothing.
+use mathlib.Core.Path.{_≡_, refl, sym, _∙_, ap, subst}
+use mathlib.Core.Bool.{Bool, true, false, cond}
+use mathlib.Core.List.{List, [], _∷_, _++_}
+use mathlib.Core.Option.{Option, none, some}
+use Prim.Native.Nat.{ℕ, zero, suc, _+_, _-_, _*_, _<_, _≤_}
+use native.Mathlib.Omega.{arith}
+use lib.ListN.{length, getD, set}
+use Rattle.rules.specs.Limits.{most-ops, most-boards, scratch-size, absent}
+use Rattle.rules.specs.Sheet.{Sheet, op, N-of, P-of, rank-of, two}
+use Rattle.rules.specs.Job.{Job, Entry, Place, Stop, job, entry, bare-entry, place, entry-at, place-at, with-entries, with-places, with-messages, with-receives, with-memory, with-stop, with-steps}
+use Rattle.rules.specs.Step.{splice, without, is-cut, with-place, with-state, matched-rows, pend-message, pend-receive, stopped}
+use Rattle.rules.specs.Report.{low-two, op-row}
+use Rattle.words.specs.Splice.{Apart, splice-length, splice-apart}
+use Rattle.words.specs.Putting.{part-length}
+use Rattle.words.specs.Tab.{drop-at}
+use Rattle.state.specs.declared.Tally.{Tally}
+use Rattle.state.specs.Layout.{row-at, seat-at, word-at, places-at, messages-at, receives-at, ranks-at}
+use Rattle.state.specs.Decoded.{entry-in, entries-in, place-in, places-in, place-row, words-in, Fits-row, Fits-place}
+use Rattle.state.specs.Rows.{row-length, entries-same, entries-put, entries-at}
+use Rattle.state.specs.Places.{seat-length, places-same, places-put, places-at-rank}
+use Rattle.state.specs.Lists.{behind, words-same, words-at, words-length, words-append, words-remove, without-at}
+use Rattle.state.specs.Tallied.{stop-of, stop-some, counted, stepped, halted}
+
+pub record Decodes (s : Sheet) (c : List ℕ) (t : Tally) (x : Job) : Type 0 where
+  pub few-ops : N-of s ≤ most-ops
+  pub few-boards : P-of s ≤ most-boards
+  pub few-messages : t .messages ≤ most-ops
+  pub few-receives : t .receives ≤ most-ops
+  pub roomy : scratch-size ≤ length c
+  pub entries-are : x .entries ≡ entries-in c (N-of s)
+  pub places-are : x .places ≡ places-in c (P-of s)
+  pub messages-are : x .messages ≡ words-in c messages-at (t .messages)
+  pub receives-are : x .receives ≡ words-in c receives-at (t .receives)
+  pub stop-is : x .stop ≡ stop-of (t .verdict) (t .rank) (t .op)
+  pub steps-are : x .steps ≡ t .steps
+
+-- GETTERS: what a reader reads is the job's
+module _ (s : Sheet) (c : List ℕ) (t : Tally) (x : Job) (d : Decodes s c t x) where
+  pub entry-is : (i : ℕ) → i < N-of s → entry-in c (row-at i) ≡ entry-at x i
+  unfolding entry-at
+  entry-is i l = sym (ap (λ (es : List Entry). getD es i (bare-entry 0)) (d .entries-are) ∙ entries-at c (N-of s) i l)
+
+  pub place-is : (r : ℕ) → r < P-of s → place-in c (seat-at r) ≡ place-at x r
+  unfolding place-at
+  place-is r l = sym (ap (λ (ps : List Place). getD ps r (place 0 false 0 0)) (d .places-are) ∙ places-at-rank c (P-of s) r l)
+
+  pub message-is : (k : ℕ) → k < t .messages → two c (word-at messages-at k) ≡ getD (x .messages) k 0
+  message-is k l = sym (ap (λ (ms : List ℕ). getD ms k 0) (d .messages-are) ∙ words-at c messages-at (t .messages) k l)
+
+  pub receive-is : (k : ℕ) → k < t .receives → two c (word-at receives-at k) ≡ getD (x .receives) k 0
+  receive-is k l = sym (ap (λ (rs : List ℕ). getD rs k 0) (d .receives-are) ∙ words-at c receives-at (t .receives) k l)
+
+  pub messages-length : length (x .messages) ≡ t .messages
+  messages-length = ap length (d .messages-are) ∙ words-length c messages-at (t .messages)
+
+  pub receives-length : length (x .receives) ≡ t .receives
+  receives-length = ap length (d .receives-are) ∙ words-length c receives-at (t .receives)
+
+-- REGIONS: a splice outside a region leaves what the region decodes to
+module _ (c : List ℕ) (at : ℕ) (vs : List ℕ) (h : at + length vs ≤ length c) where
+  entries-kept : (n : ℕ) → n ≤ most-ops → Apart 0 places-at at (length vs) → entries-in (splice c at vs) n ≡ entries-in c n
+  entries-kept n m a = entries-same (splice c at vs) c n (λ j l u. splice-apart c at vs h 0 places-at a j l (omega arith))
+
+  places-kept : (p : ℕ) → p ≤ most-boards → Apart places-at messages-at at (length vs) → places-in (splice c at vs) p ≡ places-in c p
+  places-kept p m a = places-same (splice c at vs) c p (λ j l u. splice-apart c at vs h places-at messages-at a j l (omega arith))
+
+  words-kept : (base n : ℕ) → n ≤ most-ops → Apart base (base + 2 * most-ops) at (length vs) → words-in (splice c at vs) base n ≡ words-in c base n
+  words-kept base n m a = words-same (splice c at vs) c base n (λ j l u. splice-apart c at vs h base (base + 2 * most-ops) a j l (omega arith))
+
+module _ (s : Sheet) (c : List ℕ) (t : Tally) (x : Job) (d : Decodes s c t x) where
+  -- a splice, with what each part then decodes to
+  spliced : (at : ℕ) (vs : List ℕ) (m r : ℕ) (es : List Entry) (ps : List Place) (ms rs : List ℕ) → at + length vs ≤ ranks-at → m ≤ most-ops → r ≤ most-ops → entries-in (splice c at vs) (N-of s) ≡ es → places-in (splice c at vs) (P-of s) ≡ ps → words-in (splice c at vs) messages-at m ≡ ms → words-in (splice c at vs) receives-at r ≡ rs → Decodes s (splice c at vs) (counted m r t) (job es ps ms rs (x .memory) (x .stop) (x .steps))
+  unfolding job
+  spliced at vs m r es ps ms rs h lm lr e p q w =
+      let roomy : scratch-size ≤ length c = d .roomy in
+      let size = splice-length c at vs (omega arith) in
+      record {
+        few-ops = d .few-ops;
+        few-boards = d .few-boards;
+        few-messages = lm;
+        few-receives = lr;
+        roomy = omega arith;
+        entries-are = sym e;
+        places-are = sym p;
+        messages-are = sym q;
+        receives-are = sym w;
+        stop-is = d .stop-is;
+        steps-are = d .steps-are;
+      }
+
+  -- a splice inside one region changes that part of the job alone
+  rows-spliced : (at : ℕ) (vs : List ℕ) (es : List Entry) → at + length vs ≤ places-at → entries-in (splice c at vs) (N-of s) ≡ es → Decodes s (splice c at vs) t (with-entries es x)
+  unfolding with-entries
+  rows-spliced at vs es h e =
+      let roomy : scratch-size ≤ length c = d .roomy in
+      let fits : at + length vs ≤ length c = omega arith in
+      spliced at vs (t .messages) (t .receives) es (x .places) (x .messages) (x .receives) (omega arith) (d .few-messages) (d .few-receives) e
+      (places-kept c at vs fits (P-of s) (d .few-boards) (omega arith) ∙ sym (d .places-are))
+      (words-kept c at vs fits messages-at (t .messages) (d .few-messages) (omega arith) ∙ sym (d .messages-are))
+      (words-kept c at vs fits receives-at (t .receives) (d .few-receives) (omega arith) ∙ sym (d .receives-are))
+
+  places-spliced : (at : ℕ) (vs : List ℕ) (ps : List Place) → places-at ≤ at → at + length vs ≤ messages-at → places-in (splice c at vs) (P-of s) ≡ ps → Decodes s (splice c at vs) t (with-places ps x)
+  unfolding with-places
+  places-spliced at vs ps l h e =
+      let roomy : scratch-size ≤ length c = d .roomy in
+      let fits : at + length vs ≤ length c = omega arith in
+      spliced at vs (t .messages) (t .receives) (x .entries) ps (x .messages) (x .receives) (omega arith) (d .few-messages) (d .few-receives)
+      (entries-kept c at vs fits (N-of s) (d .few-ops) (omega arith) ∙ sym (d .entries-are))
+      e
+      (words-kept c at vs fits messages-at (t .messages) (d .few-messages) (omega arith) ∙ sym (d .messages-are))
+      (words-kept c at vs fits receives-at (t .receives) (d .few-receives) (omega arith) ∙ sym (d .receives-are))
+
+  messages-spliced : (at : ℕ) (vs : List ℕ) (m : ℕ) (ms : List ℕ) → messages-at ≤ at → at + length vs ≤ receives-at → m ≤ most-ops → words-in (splice c at vs) messages-at m ≡ ms → Decodes s (splice c at vs) (counted m (t .receives) t) (with-messages ms x)
+  unfolding with-messages
+  messages-spliced at vs m ms l h lm e =
+      let roomy : scratch-size ≤ length c = d .roomy in
+      let fits : at + length vs ≤ length c = omega arith in
+      spliced at vs m (t .receives) (x .entries) (x .places) ms (x .receives) (omega arith) lm (d .few-receives)
+      (entries-kept c at vs fits (N-of s) (d .few-ops) (omega arith) ∙ sym (d .entries-are))
+      (places-kept c at vs fits (P-of s) (d .few-boards) (omega arith) ∙ sym (d .places-are))
+      e
+      (words-kept c at vs fits receives-at (t .receives) (d .few-receives) (omega arith) ∙ sym (d .receives-are))
+
+  receives-spliced : (at : ℕ) (vs : List ℕ) (r : ℕ) (rs : List ℕ) → receives-at ≤ at → at + length vs ≤ ranks-at → r ≤ most-ops → words-in (splice c at vs) receives-at r ≡ rs → Decodes s (splice c at vs) (counted (t .messages) r t) (with-receives rs x)
+  unfolding with-receives
+  receives-spliced at vs r rs l h lr e =
+      let roomy : scratch-size ≤ length c = d .roomy in
+      let fits : at + length vs ≤ length c = omega arith in
+      spliced at vs (t .messages) r (x .entries) (x .places) (x .messages) rs (omega arith) (d .few-messages) lr
+      (entries-kept c at vs fits (N-of s) (d .few-ops) (omega arith) ∙ sym (d .entries-are))
+      (places-kept c at vs fits (P-of s) (d .few-boards) (omega arith) ∙ sym (d .places-are))
+      (words-kept c at vs fits messages-at (t .messages) (d .few-messages) (omega arith) ∙ sym (d .messages-are))
+      e
+
+  -- SETTERS: a row, a place
+  pub entry-put : (i : ℕ) (e : Entry) → Fits-row e → i < N-of s → Decodes s (splice c (row-at i) (op-row e)) t (with-entries (set (x .entries) i e) x)
+  entry-put i e f l =
+      let few : N-of s ≤ most-ops = d .few-ops in
+      let long = row-length e in
+      rows-spliced (row-at i) (op-row e) (set (x .entries) i e) (omega arith)
+      (entries-put c i (N-of s) e f l few (d .roomy) ∙ ap (λ (es : List Entry). set es i e) (sym (d .entries-are)))
+
+  pub state-put : (i v : ℕ) → i < N-of s → Decodes s (splice c (row-at i) (op-row (bare-entry v))) t (with-state i v x)
+  unfolding with-state bare-entry entry
+  state-put i v l =
+      entry-put i (bare-entry v)
+      (record {
+        partner-fits = omega arith;
+        source-fits = omega arith;
+        tag-fits = omega arith;
+        long-fits = omega arith;
+      })
+      l
+
+  pub place-put : (r : ℕ) (q : Place) → Fits-place q → r < P-of s → Decodes s (splice c (seat-at r) (place-row q)) t (with-place r q x)
+  unfolding with-place
+  place-put r q f l =
+      let few : P-of s ≤ most-boards = d .few-boards in
+      let long = seat-length q in
+      places-spliced (seat-at r) (place-row q) (set (x .places) r q) (omega arith) (omega arith)
+      (places-put c r (P-of s) q f l few (d .roomy) ∙ ap (λ (ps : List Place). set ps r q) (sym (d .places-are)))
+
+  -- the waiting lists: one appended, one removed
+  pub message-append : (i : ℕ) → i < 65536 → t .messages < most-ops → Decodes s (splice c (word-at messages-at (t .messages)) (low-two i)) (counted (t .messages + 1) (t .receives) t) (with-messages (x .messages ++ (i ∷ [])) x)
+  unfolding low-two
+  message-append i f l =
+      let roomy : scratch-size ≤ length c = d .roomy in
+      messages-spliced (word-at messages-at (t .messages)) (low-two i) (t .messages + 1) (x .messages ++ (i ∷ [])) (omega arith) (omega arith) (omega arith)
+      (words-append c messages-at (t .messages) i f (omega arith) ∙ ap (λ (ms : List ℕ). ms ++ (i ∷ [])) (sym (d .messages-are)))
+
+  pub receive-append : (i : ℕ) → i < 65536 → t .receives < most-ops → Decodes s (splice c (word-at receives-at (t .receives)) (low-two i)) (counted (t .messages) (t .receives + 1) t) (with-receives (x .receives ++ (i ∷ [])) x)
+  unfolding low-two
+  receive-append i f l =
+      let roomy : scratch-size ≤ length c = d .roomy in
+      receives-spliced (word-at receives-at (t .receives)) (low-two i) (t .receives + 1) (x .receives ++ (i ∷ [])) (omega arith) (omega arith) (omega arith)
+      (words-append c receives-at (t .receives) i f (omega arith) ∙ ap (λ (rs : List ℕ). rs ++ (i ∷ [])) (sym (d .receives-are)))
+
+  -- v is the k-th and no earlier one is v
+  pub message-remove : (left k v : ℕ) → left + 1 ≡ t .messages → k ≤ left → getD (x .messages) k 0 ≡ v → ((j : ℕ) → j < k → getD (x .messages) j 0 ≡ v → ⊥) → Decodes s (splice c (word-at messages-at k) (behind c messages-at left k)) (counted left (t .receives) t) (with-messages (without v (x .messages)) x)
+  message-remove left k v n l e o =
+      let roomy : scratch-size ≤ length c = d .roomy in
+      let few : t .messages ≤ most-ops = d .few-messages in
+      let long = part-length c (word-at messages-at k + 2) (2 * (left - k)) (omega arith) in
+      messages-spliced (word-at messages-at k) (behind c messages-at left k) left (without v (x .messages)) (omega arith) (omega arith) (omega arith)
+      (words-remove c messages-at left k (omega arith) (omega arith)
+      ∙ (ap (λ (i : ℕ). drop-at k (words-in c messages-at i)) n
+      ∙ (ap (λ (ms : List ℕ). drop-at k ms) (sym (d .messages-are)) ∙ sym (without-at (x .messages) k v (omega (arith, messages-length s c t x d)) e o))))
+
+  pub receive-remove : (left k v : ℕ) → left + 1 ≡ t .receives → k ≤ left → getD (x .receives) k 0 ≡ v → ((j : ℕ) → j < k → getD (x .receives) j 0 ≡ v → ⊥) → Decodes s (splice c (word-at receives-at k) (behind c receives-at left k)) (counted (t .messages) left t) (with-receives (without v (x .receives)) x)
+  receive-remove left k v n l e o =
+      let roomy : scratch-size ≤ length c = d .roomy in
+      let few : t .receives ≤ most-ops = d .few-receives in
+      let long = part-length c (word-at receives-at k + 2) (2 * (left - k)) (omega arith) in
+      receives-spliced (word-at receives-at k) (behind c receives-at left k) left (without v (x .receives)) (omega arith) (omega arith) (omega arith)
+      (words-remove c receives-at left k (omega arith) (omega arith)
+      ∙ (ap (λ (i : ℕ). drop-at k (words-in c receives-at i)) n
+      ∙ (ap (λ (rs : List ℕ). drop-at k rs) (sym (d .receives-are)) ∙ sym (without-at (x .receives) k v (omega (arith, receives-length s c t x d)) e o))))
+
+  -- what is kept beside scratch, and what is kept nowhere
+  pub steps-put : (k : ℕ) → Decodes s c (stepped k t) (with-steps k x)
+  unfolding with-steps job
+  steps-put k =
+      record {
+        few-ops = d .few-ops;
+        few-boards = d .few-boards;
+        few-messages = d .few-messages;
+        few-receives = d .few-receives;
+        roomy = d .roomy;
+        entries-are = d .entries-are;
+        places-are = d .places-are;
+        messages-are = d .messages-are;
+        receives-are = d .receives-are;
+        stop-is = d .stop-is;
+        steps-are = refl;
+      }
+
+  pub stop-put : (v r i : ℕ) → (v ≡ 0 → ⊥) → Decodes s c (halted v r i t) (stopped v r i x)
+  unfolding stopped with-stop job
+  stop-put v r i h =
+      record {
+        few-ops = d .few-ops;
+        few-boards = d .few-boards;
+        few-messages = d .few-messages;
+        few-receives = d .few-receives;
+        roomy = d .roomy;
+        entries-are = d .entries-are;
+        places-are = d .places-are;
+        messages-are = d .messages-are;
+        receives-are = d .receives-are;
+        stop-is = sym (stop-some v r i h);
+        steps-are = d .steps-are;
+      }
+
+  pub memory-put : (m : List ℕ) → Decodes s c t (with-memory m x)
+  unfolding with-memory job
+  memory-put m =
+      record {
+        few-ops = d .few-ops;
+        few-boards = d .few-boards;
+        few-messages = d .few-messages;
+        few-receives = d .few-receives;
+        roomy = d .roomy;
+        entries-are = d .entries-are;
+        places-are = d .places-are;
+        messages-are = d .messages-are;
+        receives-are = d .receives-are;
+        stop-is = d .stop-is;
+        steps-are = d .steps-are;
+      }

@@ -1,0 +1,24 @@
+// The rank of each operation, a byte each: a table that is written once, so that a search need not look a rank up.
+ghost use mathlib.Core.Path.{_≡_};
+ghost use mathlib.Core.List.{[], _∷_};
+ghost use Prim.Native.Nat.{_<_, _≤_};
+ghost use lib.ListN.{length, getD};
+ghost use Rattle.rules.specs.Limits.{most-ops, scratch-size};
+ghost use Rattle.rules.specs.Step.{splice};
+ghost use Rattle.state.specs.Layout.{rank-at};
+use crate::RANKS;
+
+// The rank of operation i.
+pub fn rank_at(c: &[u8], i: usize) -> usize
+    requires { ⌜ (i < most-ops) × (scratch-size ≤ length (now c)) ⌝ }
+    ensures { λ v. ⌜ (v ≡ getD (now (c .entry)) (rank-at i) 0) × (v < 256) ⌝ }
+{
+    words::byte_at(c, RANKS + i)
+}
+
+pub fn put_rank(c: &mut [u8], i: usize, r: u8)
+    requires { ⌜ (i < most-ops) × (scratch-size ≤ length (now c)) ⌝ }
+    ensures { λ _. ⌜ now (c .exit) ≡ splice (now (c .entry)) (rank-at i) (r ∷ []) ⌝ }
+{
+    words::put_byte(c, RANKS + i, r);
+}

@@ -1,0 +1,9 @@
+-- Laws of byte lists that everything above `words` cites.
+--   Splice   bytes put into a list at a place: what is read there, and what stays
+--   Putting  bytes put one by one
+--   Tab      a table made of a function: reading, changing, adding and removing an entry
+--   Two      two-byte numbers that were put
+pub mod Splice
+pub mod Putting
+pub mod Tab
+pub mod Two

@@ -1,0 +1,102 @@
+-- Bytes put into a list at a place (`splice` of rules). Every store of the code is one splice, so these are the laws of all
+-- stores: the length stays, the new bytes are read back, the bytes outside stay, and splices side by side are one.
+-- Assumes nothing.
+use mathlib.Core.Path.{_≡_, refl, sym, _∙_, ap, subst}
+use mathlib.Core.List.{List, [], _∷_, _++_, append-assoc}
+use Prim.Native.Nat.{ℕ, zero, suc, _+_, _-_, _<_, _≤_}
+use native.Mathlib.Omega.{arith}
+use native.Mathlib.Nat.{zero-add}
+use native.Mathlib.Decide.{decLt}
+use lib.ListN.{length, getD, take, drop, set, length-append, length-drop, List·getD-append}
+use lib.Seq.{sets, sets-eq, length-take-le, getD-take, getD-drop, getD-append-add, drop-length}
+use Rattle.rules.specs.Step.{splice}
+
+-- a splice is a run of stores
+pub sets-splice : (c : List ℕ) (at : ℕ) (vs : List ℕ) → at + length vs ≤ length c → sets c at vs ≡ splice c at vs
+unfolding splice
+sets-splice c at vs h = sets-eq vs c at h ∙ append-assoc (take at c) vs (drop (at + length vs) c)
+
+sets-join : (c : List ℕ) (at : ℕ) (u v : List ℕ) → sets c at (u ++ v) ≡ sets (sets c at u) (at + length u) v
+sets-join c at [] v = let e : at + 0 ≡ at = omega arith in rw e
+sets-join c at (a ∷ u) v =
+    let e : at + suc (length u) ≡ suc at + length u = omega arith in
+    rw e (sets-join (set c at a) (suc at) u v)
+
+behind : (xs ys : List ℕ) (a j : ℕ) → length xs ≡ a → getD (xs ++ ys) (a + j) 0 ≡ getD ys j 0
+behind xs ys a j e = subst (λ (n : ℕ). getD (xs ++ ys) (n + j) 0 ≡ getD ys j 0) e (getD-append-add xs ys j 0)
+
+module _ (c : List ℕ) (at : ℕ) (vs : List ℕ) (h : at + length vs ≤ length c) where
+  head-length : length (take at c) ≡ at
+  head-length = length-take-le at c (omega arith)
+
+  pub splice-length : length (splice c at vs) ≡ length c
+  unfolding splice
+  splice-length = simp (length-append, length-drop) (omega (arith, head-length))
+
+  pub splice-below : (j : ℕ) → j < at → getD (splice c at vs) j 0 ≡ getD c j 0
+  unfolding splice
+  splice-below j l = List·getD-append (take at c) (vs ++ drop (at + length vs) c) 0 j (omega (arith, head-length)) ∙ getD-take at c j 0 l
+
+  -- byte j of the new ones
+  pub splice-within : (j : ℕ) → j < length vs → getD (splice c at vs) (at + j) 0 ≡ getD vs j 0
+  unfolding splice
+  splice-within j l = behind (take at c) (vs ++ drop (at + length vs) c) at j head-length ∙ List·getD-append vs (drop (at + length vs) c) 0 j l
+
+  pub splice-above : (j : ℕ) → at + length vs ≤ j → getD (splice c at vs) j 0 ≡ getD c j 0
+  unfolding splice
+  splice-above j l =
+      let k = j - (at + length vs) in
+      let e : at + (length vs + k) ≡ j = omega arith in
+      let f : (at + length vs) + k ≡ j = omega arith in
+      subst (λ (n : ℕ). getD (take at c ++ (vs ++ drop (at + length vs) c)) n 0 ≡ getD c n 0) e
+      (behind (take at c) (vs ++ drop (at + length vs) c) at (length vs + k) head-length
+      ∙ (behind vs (drop (at + length vs) c) (length vs) k refl
+      ∙ (getD-drop (at + length vs) c k 0 ∙ ap (λ (n : ℕ). getD c n 0) (f ∙ sym e))))
+
+-- two lists have the same bytes from lo up to hi
+abbrev pub Same : (lo hi : ℕ) → (c d : List ℕ) → Type 0
+Same lo hi c d = (j : ℕ) → lo ≤ j → j < hi → getD c j 0 ≡ getD d j 0
+
+-- no byte from lo up to hi is among the n bytes at a place
+abbrev pub Apart : (lo hi at n : ℕ) → Type 0
+Apart lo hi at n = (j : ℕ) → lo ≤ j → j < hi → at ≤ j → j < at + n → ⊥
+
+-- THE law of disjoint regions: a splice changes nothing that is apart from it
+pub splice-apart : (c : List ℕ) (at : ℕ) (vs : List ℕ) → at + length vs ≤ length c → (lo hi : ℕ) → Apart lo hi at (length vs) → Same lo hi (splice c at vs) c
+splice-apart c at vs h lo hi a j l u = go (decLt j at)
+  where
+    go : Dec (j < at) → getD (splice c at vs) j 0 ≡ getD c j 0
+    go (yes q) = splice-below c at vs h j q
+    go (no q) = after (decLt j (at + length vs))
+      where
+        after : Dec (j < at + length vs) → getD (splice c at vs) j 0 ≡ getD c j 0
+        after (yes z) = absurd (a j l u (omega arith) z)
+        after (no z) = splice-above c at vs h j (omega arith)
+
+-- a splice of nothing, splices side by side, and one byte more
+pub splice-none : (c : List ℕ) (at : ℕ) → at ≤ length c → splice c at [] ≡ c
+splice-none c at h = sym (sets-splice c at [] (omega arith))
+
+pub splice-join : (c : List ℕ) (at : ℕ) (u v : List ℕ) → at + (length u + length v) ≤ length c → splice (splice c at u) (at + length u) v ≡ splice c at (u ++ v)
+splice-join c at u v h =
+    let first : sets c at u ≡ splice c at u = sets-splice c at u (omega arith) in
+    let size = splice-length c at u (omega arith) in
+    sym (sets-splice (splice c at u) (at + length u) v (omega arith))
+    ∙ (ap (λ (l : List ℕ). sets l (at + length u) v) (sym first)
+    ∙ (sym (sets-join c at u v) ∙ sets-splice c at (u ++ v) (omega (arith, length-append u v))))
+
+-- the same of a store after a store
+pub splice-then : (c s t : List ℕ) (at n : ℕ) (u v : List ℕ) → s ≡ splice c at u → length u ≡ n → t ≡ splice s (at + n) v → at + (length u + length v) ≤ length c → t ≡ splice c at (u ++ v)
+splice-then c s t at n u v a e b h =
+    b ∙ (ap (λ (z : List ℕ). splice z (at + n) v) a ∙ (ap (λ (k : ℕ). splice (splice c at u) (at + k) v) (sym e) ∙ splice-join c at u v h))
+
+pub splice-more : (c : List ℕ) (at : ℕ) (u : List ℕ) (n b : ℕ) → length u ≡ n → at + n < length c → set (splice c at u) (at + n) b ≡ splice c at (u ++ (b ∷ []))
+splice-more c at u n b e h =
+    let size = splice-length c at u (omega arith) in
+    subst (λ (k : ℕ). set (splice c at u) (at + k) b ≡ splice c at (u ++ (b ∷ []))) e
+    (sets-splice (splice c at u) (at + length u) (b ∷ []) (omega arith) ∙ splice-join c at u (b ∷ []) (omega arith))
+
+-- a splice over the whole list leaves nothing of it
+pub splice-whole : (c vs : List ℕ) → length vs ≡ length c → splice c 0 vs ≡ vs
+unfolding splice
+splice-whole c vs e = rw (zero-add (length vs), e, drop-length c) (mathlib.Core.List.append-nil vs)
