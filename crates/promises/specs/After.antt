@@ -137,7 +137,8 @@ module _ {s : Sheet} {x y : Job} {r : ℕ} (n : Next s x r) where
   after (pends h) =
       turned (is-nonblocking (op s (next-op s x r))) (h .moved)
       (initiates s x r (h .not-waiting) (send-no-wait (op s (next-op s x r)) (h .is-one)))
-  after (meets m q h) = turned (is-nonblocking (op s (next-op s x r))) (h .moved)
+  after (meets m q h) =
+      turned (is-nonblocking (op s (next-op s x r))) (h .moved)
       (initiates s x r (h .not-waiting) (not-wait (h .rows .one)))
     where
       not-wait : (next-op s x r ≡ m) ⊎ (next-op s x r ≡ q) → is-wait (op s (next-op s x r)) ≡ false
@@ -197,11 +198,13 @@ module _ (s : Sheet) (x y : Job) (r : ℕ) (e : stand x r ≡ stand y r) where
 
   pub stand-half : in-waiting-half s x r ≡ in-waiting-half s y r
   unfolding in-waiting-half
-  stand-half = ap (λ (b : Bool). b || is-wait (op s (next-op s x r))) (stand-waiting x y r e)
+  stand-half =
+      ap (λ (b : Bool). b || is-wait (op s (next-op s x r))) (stand-waiting x y r e)
       ∙ ap (λ (k : ℕ). place-at y r .waiting || is-wait (op s k)) stand-next
 
   stand-finishing : finishing s x r ≡ finishing s y r
-  stand-finishing = ap (λ (b : Bool). b || is-nonblocking (op s (next-op s x r))) stand-half
+  stand-finishing =
+      ap (λ (b : Bool). b || is-nonblocking (op s (next-op s x r))) stand-half
       ∙ ap (λ (k : ℕ). in-waiting-half s y r || is-nonblocking (op s k)) stand-next
 
   -- a step that goes on takes it to the same place
@@ -214,7 +217,8 @@ module _ (s : Sheet) (x y : Job) (r : ℕ) (e : stand x r ≡ stand y r) where
 -- and further on
 pub stand-further : (s : Sheet) {x y : Job} {r : ℕ} → Moved x y r (finishing s x r) → stand x r < stand y r
 unfolding stand stand-on in-waiting-half
-stand-further s {x} {y} {r} m = go (place-at x r .waiting) (is-wait (op s (next-op s x r)))
+stand-further s {x} {y} {r} m =
+    go (place-at x r .waiting) (is-wait (op s (next-op s x r)))
     (is-nonblocking (op s (next-op s x r))) (moved-stand m)
   where
     f : ℕ
@@ -229,7 +233,8 @@ stand-further s {x} {y} {r} m = go (place-at x r .waiting) (is-wait (op s (next-
 -- a stopped job stays stopped
 pub stop-stays : (s : Sheet) (r : ℕ) (x : Job) (t : Stop) → x .stop ≡ some t → step s r x .stop ≡ none → ⊥
 unfolding stop-after
-stop-stays s r x t e h = go (in-waiting-half s x r) (is-receive (op s i)) (is-none (first-receive s i (x .receives)))
+stop-stays s r x t e h =
+    go (in-waiting-half s x r) (is-receive (op s i)) (is-none (first-receive s i (x .receives)))
     (is-ready (op s i)) (is-buffered (op s i)) (fits-buffer s r i x) (sym (step-stop s r x) ∙ h)
   where
     i : ℕ

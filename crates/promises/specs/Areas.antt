@@ -35,9 +35,11 @@ waited-some s i zero r l t later = absurd (omega arith)
 waited-some s i (suc j) r l t later = go (ℕ-discrete r j) (λ h. waited-some s i j r h t (λ k a b. later k a (omega arith)))
   where
     go : Dec (r ≡ j) → (r < j → waited-below j s i ≡ some r) → cond (takes-slot-of s j i) (some j) (waited-below j s i) ≡ some r
-    go (yes e) before = subst (λ (k : ℕ). cond (takes-slot-of s k i) (some k) (waited-below j s i) ≡ some r) e
+    go (yes e) before =
+        subst (λ (k : ℕ). cond (takes-slot-of s k i) (some k) (waited-below j s i) ≡ some r) e
         (cond-true (takes-slot-of s r i) (some r) (waited-below j s i) t)
-    go (no d) before = cond-false (takes-slot-of s j i) (some j) (waited-below j s i) (later j (omega arith) (omega arith))
+    go (no d) before =
+        cond-false (takes-slot-of s j i) (some j) (waited-below j s i) (later j (omega arith) (omega arith))
         ∙ before (omega arith)
 
 -- operation j is a wait on slot k
@@ -47,7 +49,8 @@ frees s k j = is-wait (op s j) && eqb (op s j .slot) k
 pub freed-none : (s : Sheet) (k l j : ℕ) → ((w : ℕ) → j ≤ w → w < j + l → frees s k w ≡ false) → freed s l j k ≡ false
 unfolding freed
 freed-none s k zero j h = refl
-freed-none s k (suc l) j h = go (frees s k j) (h j (omega arith) (omega arith))
+freed-none s k (suc l) j h =
+    go (frees s k j) (h j (omega arith) (omega arith))
     (freed-none s k l (suc j) (λ w a b. h w (omega arith) (omega arith)))
   where
     go : (b : Bool) → b ≡ false → freed s l (suc j) k ≡ false → b || freed s l (suc j) k ≡ false
@@ -116,7 +119,8 @@ module _ (s : Sheet) (g : Good s) (r q : ℕ) (l : r < q) (inside : q < N-of s) 
   first-wait : (w : ℕ) → r < w → w < q → ((v : ℕ) → r < v → v < w → frees s (op s r .slot) v ≡ false) →
       frees s (op s r .slot) w ≡ true → ⊥
   unfolding waited
-  first-wait w a b before h = never w a b (sym (between-ranked w (omega arith) b))
+  first-wait w a b before h =
+      never w a b (sym (between-ranked w (omega arith) b))
       (and-left (is-wait (op s w)) (eqb (op s w .slot) (op s r .slot)) h) waits
     where
       slot-same : op s w .slot ≡ op s r .slot
@@ -145,12 +149,14 @@ module _ (s : Sheet) (g : Good s) (r q : ℕ) (l : r < q) (inside : q < N-of s) 
   -- so there is none, by induction on a bound
   unfreed-below : (n w : ℕ) → w < n → r < w → w < q → frees s (op s r .slot) w ≡ false
   unfreed-below zero w h a b = absurd (omega arith)
-  unfreed-below (suc n) w h a b = not-so (frees s (op s r .slot) w)
+  unfreed-below (suc n) w h a b =
+      not-so (frees s (op s r .slot) w)
       (first-wait w a b (λ v c d. unfreed-below n v (omega arith) c (omega arith)))
 
   pub held-at : holds s r q ≡ true
   held-at = unfreed-holds s r q l same taken (λ w a b. unfreed-below q w b a b)
 
   pub held-apart : is-receive (op s r) ≡ true → is-receive (op s q) ≡ true → share (op s r) (op s q) ≡ false
-  held-apart receives receives-later = rule-area s g q inside
+  held-apart receives receives-later =
+      rule-area s g q inside
       (receive-no-wait (op s q) receives-later) r l held-at receives receives-later

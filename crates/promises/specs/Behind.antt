@@ -124,7 +124,8 @@ module _ {s : Sheet} (g : Good s) {i j : List ℕ} {x y : Job} (X : Reached s i 
   -- a board that stands where it stood, and was able
   pub still-able : (r : ℕ) → stand x r ≡ stand y r → able s x r ≡ true → y .stop ≡ none → able s y r ≡ true
   unfolding able is-finished in-waiting-half next-op is-none
-  still-able r e a going = and-both (and-both (ap is-none going) unfinished)
+  still-able r e a going =
+      and-both (and-both (ap is-none going) unfinished)
       (last-part (place-at x r .waiting || is-wait (op s k)) refl (and-right first-part second-part a))
     where
       same-finished : place-at y r .finished ≡ place-at x r .finished

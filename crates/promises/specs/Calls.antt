@@ -51,9 +51,11 @@ unfolding room-refusal refusal
 rooms s i r o c h =
     record {
       accepts-all = all (ltb i (inbox-total s)) (ltb r size) (ltb o (order-room (N-of s))) (ltb c scratch-size) h;
-      inbox = ltb-false i (inbox-total s) (first (ltb i (inbox-total s)) (ltb r size) (ltb o (order-room (N-of s)))
+      inbox =
+          ltb-false i (inbox-total s) (first (ltb i (inbox-total s)) (ltb r size) (ltb o (order-room (N-of s)))
           (ltb c scratch-size) h);
-      report-room = ltb-false r size (second (ltb i (inbox-total s)) (ltb r size) (ltb o (order-room (N-of s)))
+      report-room =
+          ltb-false r size (second (ltb i (inbox-total s)) (ltb r size) (ltb o (order-room (N-of s)))
           (ltb c scratch-size) h);
     }
   where
@@ -96,7 +98,8 @@ pub record Follow-answer {bs o : List ℕ} (f : Follow-call bs o) : Type 0 where
 
 module _ {bs o : List ℕ} (p : passes bs ≡ true) (f : Follow-call bs o) where
   abbrev follow-rooms : Refusal
-  follow-rooms = room-refusal (sheet-in bs) (length (f .inbox)) (length (f .report)) (order-room (N-of (sheet-in bs)))
+  follow-rooms =
+      room-refusal (sheet-in bs) (length (f .inbox)) (length (f .report)) (order-room (N-of (sheet-in bs)))
       (length (f .scratch))
 
   abbrev follow-order : Refusal
@@ -123,7 +126,8 @@ module _ {bs o : List ℕ} (p : passes bs ≡ true) (f : Follow-call bs o) where
 
   after-rooms : follow-number ≡ follow-order
   unfolding refusal
-  after-rooms = after-sheet ∙ or-else-next follow-rooms follow-order
+  after-rooms =
+      after-sheet ∙ or-else-next follow-rooms follow-order
       (ap (λ (z : Refusal). z .number) (follow-enough .accepts-all))
 
   pub follow-answer : Follow-answer f

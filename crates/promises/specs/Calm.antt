@@ -45,7 +45,8 @@ wild-none (o ∷ os) h zero l =
       not-true (is-ready o)
           (and-right (not (is-any-source o)) (not (is-ready o)) both),
     )
-wild-none (o ∷ os) h (suc k) l = wild-none os (and-right (not (is-any-source o) && not (is-ready o)) (none-wild os) h) k
+wild-none (o ∷ os) h (suc k) l =
+    wild-none os (and-right (not (is-any-source o) && not (is-ready o)) (none-wild os) h) k
     (omega arith)
 
 covered-all : (bs : List Board) (os : List Op) → all-covered bs os ≡ true → (r : ℕ) → r < length bs →
@@ -55,7 +56,8 @@ covered-all [] os h r l = absurd (omega arith)
 covered-all (b ∷ bs) os h zero l =
     leb-true (all-charges (script b os)) (b .attached)
     (and-left (leb (all-charges (script b os)) (b .attached)) (all-covered bs os) h)
-covered-all (b ∷ bs) os h (suc r) l = covered-all bs os
+covered-all (b ∷ bs) os h (suc r) l =
+    covered-all bs os
     (and-right (leb (all-charges (script b os)) (b .attached)) (all-covered bs os) h) r (omega arith)
 
 module _ (s : Sheet) (c : calm s ≡ true) where
@@ -102,7 +104,8 @@ module _ (s : Sheet) (g : Good s) (r : ℕ) (l : r < P-of s) where
   count = board s r .count
 
   before-none : (j : ℕ) → j < from → covered s r j ≡ 0
-  before-none j h = covered-other s r j (λ e. omega
+  before-none j h =
+      covered-other s r j (λ e. omega
       (arith, g .rank-low j (omega (arith, g .script-inside r l)), ap (λ (q : ℕ). board s q .first) e))
 
   after-none : (j : ℕ) → from + count ≤ j → j < N-of s → covered s r j ≡ 0
@@ -175,7 +178,8 @@ module _ {s : Sheet} (g : Good s) (c : calm s ≡ true) {lent : List ℕ} {x : J
       go false b e d f = omega arith
       go true false e d f = omega arith
       go true true e true f = omega arith
-      go true true e false f = absurd (unbuffered (is-wait (op s j))
+      go true true e false f =
+          absurd (unbuffered (is-wait (op s j))
           (R .shaped .unmatched j (omega (arith, two)) (λ h. omega (arith, two))))
         where
           two : state-at x j ≡ 2
@@ -210,7 +214,8 @@ module _ {s : Sheet} (g : Good s) (c : calm s ≡ true) {lent : List ℕ} {x : J
 
   pub calm-going : step s r x .stop ≡ none
   unfolding stop-after
-  calm-going = step-stop s r x ∙ go (in-waiting-half s x r) refl (is-receive (op s i)) (is-none (first-receive s i (x .receives)))
+  calm-going =
+      step-stop s r x ∙ go (in-waiting-half s x r) refl (is-receive (op s i)) (is-none (first-receive s i (x .receives)))
       (is-ready (op s i)) (calm-tame s c i (n .inside) .1) (is-buffered (op s i)) refl ∙ n .going
     where
       go : (h : Bool) → in-waiting-half s x r ≡ h → (b d e : Bool) → e ≡ false → (k : Bool) → is-buffered (op s i) ≡ k →

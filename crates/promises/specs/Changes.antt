@@ -145,11 +145,13 @@ module _ {s : Sheet} {x y : Job} {m r i : ℕ} (M : Matches s x y m r i) where
 
   -- a row that was matched before is neither of the two
   matches-kept : (j : ℕ) → state-at x j ≡ 3 → entry-at y j ≡ entry-at x j
-  matches-kept j h = M .other j (λ e. M .message-free (state-name x (sym e) ∙ h))
+  matches-kept j h =
+      M .other j (λ e. M .message-free (state-name x (sym e) ∙ h))
       (λ e. M .receive-free (state-name x (sym e) ∙ h))
 
   matches-same : (j : ℕ) → state-at y j ≢ 3 → entry-at y j ≡ entry-at x j
-  matches-same j h = M .other j (λ e. h (state-name y e ∙ matches-message-state))
+  matches-same j h =
+      M .other j (λ e. h (state-name y e ∙ matches-message-state))
       (λ e. h (state-name y e ∙ matches-receive-state))
 
   pub matches-grows : Grows x y i

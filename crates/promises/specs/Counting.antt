@@ -32,12 +32,14 @@ told-finished j a b all l = ap (λ (c : Bool). cond c all (cond (ltb j b) 1 0)) 
 
 told-entered : (j a b all : ℕ) → a ≤ j → j < b → told j a b all ≡ 1
 unfolding told
-told-entered j a b all l h = ap (λ (c : Bool). cond c all (cond (ltb j b) 1 0)) (le-ltb j a l)
+told-entered j a b all l h =
+    ap (λ (c : Bool). cond c all (cond (ltb j b) 1 0)) (le-ltb j a l)
     ∙ ap (λ (c : Bool). cond c 1 0) (lt-ltb j b h)
 
 told-none : (j a b all : ℕ) → a ≤ j → b ≤ j → told j a b all ≡ 0
 unfolding told
-told-none j a b all l h = ap (λ (c : Bool). cond c all (cond (ltb j b) 1 0)) (le-ltb j a l)
+told-none j a b all l h =
+    ap (λ (c : Bool). cond c all (cond (ltb j b) 1 0)) (le-ltb j a l)
     ∙ ap (λ (c : Bool). cond c 1 0) (le-ltb j b h)
 
 steps-told : (s : Sheet) (x : Job) (j : ℕ) → steps-done s x j ≡ told j (next-op s x (rank-of s j)) (reach s x (rank-of s j))
@@ -111,9 +113,11 @@ module _ {s : Sheet} {x y : Job} {r : ℕ} {last : Bool} (g : Good s) (p : Place
     where
       go : (b : Bool) → reach s x (rank-of s mine) ≡ mine + cond b 1 0 →
           told mine (next-op s x (rank-of s mine)) (reach s x (rank-of s mine)) (steps-of (op s mine)) ≡ cond b 1 0
-      go true e = told-entered mine _ (reach s x (rank-of s mine)) (steps-of (op s mine))
+      go true e =
+          told-entered mine _ (reach s x (rank-of s mine)) (steps-of (op s mine))
           (omega (arith, next-mine-before g p T mine (T .next .ranked))) (omega (arith, e))
-      go false e = told-none mine _ (reach s x (rank-of s mine)) (steps-of (op s mine))
+      go false e =
+          told-none mine _ (reach s x (rank-of s mine)) (steps-of (op s mine))
           (omega (arith, next-mine-before g p T mine (T .next .ranked))) (omega (arith, e))
 
   steps-here : steps-done s y mine ≡ suc (waits g p T)
@@ -164,7 +168,8 @@ module _ {s : Sheet} {lent : List ℕ} {x : Job} (R : Reached s lent x) where
 
   unpassed : (i : ℕ) → next-op s x (rank-of s i) ≤ i → steps-done s x i ≤ 1
   unfolding steps-done
-  unpassed i l = subst (λ (b : Bool). cond b (steps-of (op s i)) (cond (ltb i (reach s x (rank-of s i))) 1 0) ≤ 1)
+  unpassed i l =
+      subst (λ (b : Bool). cond b (steps-of (op s i)) (cond (ltb i (reach s x (rank-of s i))) 1 0) ≤ 1)
       (sym (le-ltb i (next-op s x (rank-of s i)) l)) (go (ltb i (reach s x (rank-of s i))))
     where
       go : (b : Bool) → cond b 1 0 ≤ 1

@@ -98,9 +98,11 @@ delivered-swap s g m r k q bs receives receives-too apart room =
 pub ground : (s : Sheet) → Good s → Ground s
 ground s g =
     record {
-      held-apart = λ r q l inside same receives receives-later taken never. held-apart s g r q l inside same taken never receives
+      held-apart =
+          λ r q l inside same receives receives-later taken never. held-apart s g r q l inside same taken never receives
           receives-later;
-      delivered-swap = λ m r k q bs a b apart room. delivered-swap s g m r k q bs (a .receives) (b .receives)
+      delivered-swap =
+          λ m r k q bs a b apart room. delivered-swap s g m r k q bs (a .receives) (b .receives)
           (one-board r q apart) room;
       delivered-length = λ m r bs a room. delivered-length s g m r (a .receives) bs room;
     }

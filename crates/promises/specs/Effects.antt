@@ -227,7 +227,8 @@ module _ (s : Sheet) (g : Good s) (lent : List ℕ) (x : Job) (R : Reached s len
             sends = sm;
             receives = rq;
             fit = fit;
-            message-row = getD-set-other (set (x .entries) m A) q m B z (send-receive-differ s m q sm rq)
+            message-row =
+                getD-set-other (set (x .entries) m A) q m B z (send-receive-differ s m q sm rq)
                 ∙ getD-set-same (x .entries) m A z (omega (arith, long));
             receive-row = getD-set-same (set (x .entries) m A) q B z (omega (arith, long, length-set (x .entries) m A));
             other = λ j a b. getD-set-other (set (x .entries) m A) q j B z b ∙ getD-set-other (x .entries) m j A z a;

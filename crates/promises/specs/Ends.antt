@@ -65,7 +65,8 @@ module _ {s : Sheet} (g : Good s) (A : Ground s) (c : calm s ≡ true) (i : List
     not-between : in-waiting-half s x r || is-nonblocking (op s (next-op s x r)) ≡ true → place-at x r .waiting ≡ false →
         place-at y r .finished ≡ place-at x r .finished → place-at y r .waiting ≡ true → ⊥
     unfolding in-waiting-half next-op
-    not-between h w e v = go (is-wait (op s k)) refl (is-nonblocking (op s k)) refl
+    not-between h w e v =
+        go (is-wait (op s k)) refl (is-nonblocking (op s k)) refl
         (sym (ap (λ (b : Bool). (b || is-wait (op s k)) || is-nonblocking (op s k)) w) ∙ h)
       where
         k : ℕ
@@ -75,9 +76,11 @@ module _ {s : Sheet} (g : Good s) (A : Ground s) (c : calm s ≡ true) (i : List
         same = ap (λ (z : ℕ). board s r .first + z) e
 
         go : (a : Bool) → is-wait (op s k) ≡ a → (b : Bool) → is-nonblocking (op s k) ≡ b → a || b ≡ true → ⊥
-        go true p b q o = true-not-false p (ap (λ (z : ℕ). is-wait (op s z)) (sym same)
+        go true p b q o =
+            true-not-false p (ap (λ (z : ℕ). is-wait (op s z)) (sym same)
             ∙ Y .placed .waiting-no-wait r (n .rank-small) v)
-        go false p true q o = true-not-false q
+        go false p true q o =
+            true-not-false q
             (ap (λ (z : ℕ). is-nonblocking (op s z)) (sym same) ∙ Y .placed .waiting-blocking r (n .rank-small) v)
         go false p false q o = true-not-false o refl
 

@@ -46,7 +46,8 @@ passed-accepted bs h =
     record {
       sizes = not-false (sizes-good bs) (chain-test (not (sizes-good bs)) 1 after-sizes from-sizes);
       layout = not-false (layout-good bs) (chain-test (not (layout-good bs)) 2 after-layout from-layout);
-      tables = chain-rest (not (crc-good bs)) 3 (tables-refusal (sheet-in bs))
+      tables =
+          chain-rest (not (crc-good bs)) 3 (tables-refusal (sheet-in bs))
           (chain-rest (not (layout-good bs)) 2 after-layout from-layout);
     }
   where

@@ -78,5 +78,6 @@ module _ {s : Sheet} {i j : List ℕ} {x y x-now y-now : Job} {X : Reached s i x
           omega (arith, was .1, a .old k hk, a .old m hm)
       go (yes hk) (no out) = a .new k m hk there-m out
       go (no out) (yes hm) = absurd (omega (arith, l, b .new m k (on m hm) there-k (λ h. out (back k h))))
-      go (no out) (no gone) = absurd (no-race k m r sk sm rr fk fm there-k there-m out gone
+      go (no out) (no gone) =
+          absurd (no-race k m r sk sm rr fk fm there-k there-m out gone
           (λ e. omega (arith, l, ap (λ (z : ℕ). Y-now .came z) e)))

@@ -63,7 +63,8 @@ module _ (s : Sheet) (g : Good s) (i : ℕ) (l : i < N-of s) where
   -- what is neither a receive nor a wait is a send
   pub kind-send : is-wait (op s i) ≡ false → is-receive (op s i) ≡ false → is-send (op s i) ≡ true
   unfolding op-good fields-good
-  kind-send w r = go (is-wait (op s i)) w (is-receive (op s i)) r (is-send (op s i))
+  kind-send w r =
+      go (is-wait (op s i)) w (is-receive (op s i)) r (is-send (op s i))
       (envelope-good (P-of s) (s .comms) (op s i) && extent-good (room-for s i) (op s i)) (g .ops-good i l)
     where
       go : (b : Bool) → b ≡ false → (c : Bool) → c ≡ false → (d e : Bool) → cond b (wait-good (op s i)) ((d || c) && e) ≡ true →
@@ -112,7 +113,8 @@ module _ (s : Sheet) (m r : ℕ) (f : fits-with s m r ≡ true) where
   -- the message is addressed to the receive's board
   pub fit-board : op s m .peer ≡ rank-of s r
   unfolding fits-with
-  fit-board = eqb-true (op s m .peer) (rank-of s r)
+  fit-board =
+      eqb-true (op s m .peer) (rank-of s r)
       (and-left addressed comms-equal (and-left (addressed && comms-equal) (source-fits && tag-fits) f))
 
   -- the receive names any source, or the message's

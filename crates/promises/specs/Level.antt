@@ -71,7 +71,8 @@ module _ (s : Sheet) (x y : Job) (e : Level s x y) where
 
   able-big : (z : Job) (r : ℕ) → P-of s ≤ r → able s z r ≡ false
   unfolding able
-  able-big z r l = go (is-none (z .stop)) (ltb r (P-of s)) (le-ltb r (P-of s) l) (not (is-finished s z r))
+  able-big z r l =
+      go (is-none (z .stop)) (ltb r (P-of s)) (le-ltb r (P-of s) l) (not (is-finished s z r))
       (not (in-waiting-half s z r) || half-complete s z (next-op s z r))
     where
       go : (a b : Bool) → b ≡ false → (c d : Bool) → (a && (b && c)) && d ≡ false
@@ -124,7 +125,8 @@ module _ (s : Sheet) (x y : Job) (e : Level s x y) where
 
   level-cut : cut-messages s x ≡ cut-messages s y
   unfolding cut-messages
-  level-cut = count-same (N-of s) 0 (λ i. eqb (entry-at x i .cut) 1) (λ i. eqb (entry-at y i .cut) 1)
+  level-cut =
+      count-same (N-of s) 0 (λ i. eqb (entry-at x i .cut) 1) (λ i. eqb (entry-at y i .cut) 1)
       (λ i. ap (λ (z : Entry). eqb (z .cut) 1) (level-entry i))
 
   level-header : header-bytes s x ≡ header-bytes s y

@@ -172,7 +172,8 @@ module _ {s : Sheet} (g : Good s) {i j : List ℕ} {x y : Job} {X : Reached s i 
         go (goes-on p m) (goes-on o n) = moved m n (ℕ-discrete q r)
         go (goes-on p m) (halts t o e k) = absurd (apart p (like-stop r small ∙ o))
         go (halts t p e k) (goes-on o n) = absurd (apart o (sym (like-stop r small) ∙ p))
-        go (halts t p e k) (halts u o f n) = places-stand x (step s r x) e q ∙ K .places q l
+        go (halts t p e k) (halts u o f n) =
+            places-stand x (step s r x) e q ∙ K .places q l
             ∙ sym (places-stand y (step s r y) f q)
 
     step-steps : step s r x .steps ≡ step s r y .steps

@@ -16,7 +16,8 @@ use Rattle.promises.specs.Level.{level-alike}
 
 pub like-memory : {s : Sheet} → Good s → {i : List ℕ} {x y : Job} {X : Reached s i x} {Y : Reached s i y} → Like X Y →
     x .memory ≡ y .memory
-like-memory {s} g {i} {x} {y} {X} {Y} K = X .memory-painted ∙ sym (painted-rows s x y (N-of s) i (like-rows g K))
+like-memory {s} g {i} {x} {y} {X} {Y} K =
+    X .memory-painted ∙ sym (painted-rows s x y (N-of s) i (like-rows g K))
     ∙ sym (Y .memory-painted)
 
 pub like-alike : {s : Sheet} → Good s → {i : List ℕ} {x y : Job} {X : Reached s i x} {Y : Reached s i y} → Like X Y → Alike s x y

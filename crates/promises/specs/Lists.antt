@@ -123,7 +123,8 @@ pub holds-less : {R : ℕ → ℕ → Type 0} {P Q : ℕ → Type 0} {l : List �
     ((v : ℕ) → P v → v ≢ u → Q v) → ((v : ℕ) → Q v → P v) → (Q u → ⊥) → Holds R Q (without u l)
 holds-less {R} {P} {Q} {l} u h irr keep only out =
     record {
-      sound = λ v k. keep v (h .sound v (in-without v u l k))
+      sound =
+          λ v k. keep v (h .sound v (in-without v u l k))
           (λ e. without-same R irr u l (h .sorted) (subst (λ (z : ℕ). In z (without u l)) e k));
       whole = λ v q. without-other v u l (h .whole v (only v q)) (λ e. out (subst Q e q));
       sorted = sorted-less R u l (h .sorted);
@@ -201,6 +202,7 @@ first-by-some {R} f (x ∷ xs) s v e = go (f x) refl (first-by-some f xs (s .1) 
         }
       where
         earliest-there : Found R f xs v → (u : ℕ) → In u (x ∷ xs) → f u ≡ true → u ≢ v → R v u
-        earliest-there b u (inl k) p d = absurd
+        earliest-there b u (inl k) p d =
+            absurd
             (let z : true ≡ false = sym p ∙ ap f k ∙ t in let y : _≡_ {A = ℕ} 0 1 = cc in omega arith)
         earliest-there b u (inr k) p d = b .earliest u k p d

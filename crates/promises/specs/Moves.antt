@@ -46,7 +46,8 @@ able-next s g x r a =
       unfinished = left;
       inside = omega (arith, left, g .script-inside r small);
       ranked = g .script-ranked r (board s r .first + place-at x r .finished) small (omega arith) (omega (arith, left));
-      complete = λ w. half w (or-cases (not (in-waiting-half s x r))
+      complete =
+          λ w. half w (or-cases (not (in-waiting-half s x r))
           (half-complete s x (board s r .first + place-at x r .finished)) (and-right (going && small-unfinished) last-part a));
     }
   where
@@ -63,7 +64,8 @@ able-next s g x r a =
     first-part = and-left (going && small-unfinished) last-part a
 
     small : r < P-of s
-    small = ltb-true r (P-of s) (and-left (ltb r (P-of s)) (not (leb (board s r .count) (place-at x r .finished)))
+    small =
+        ltb-true r (P-of s) (and-left (ltb r (P-of s)) (not (leb (board s r .count) (place-at x r .finished)))
         (and-right going small-unfinished first-part))
 
     left : place-at x r .finished < board s r .count

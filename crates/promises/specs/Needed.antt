@@ -253,7 +253,8 @@ pairs-hold = refl
 
 -- THE LAWS
 dropped-hold : drops-matter (without-any-source ∷ without-ready ∷ without-cover ∷ []) ≡ true
-dropped-hold = and-left (drops-matter (without-any-source ∷ without-ready ∷ without-cover ∷ []))
+dropped-hold =
+    and-left (drops-matter (without-any-source ∷ without-ready ∷ without-cover ∷ []))
     (peaks-apart calm-pair) pairs-hold
 
 dropped-here : (d : Dropped) (ds : List Dropped) → drops-matter (d ∷ ds) ≡ true → ends-apart (d .asks) (d .orders) ≡ true
@@ -267,7 +268,8 @@ dropped-next d ds h = and-right (ends-apart (d .asks) (d .orders)) (drops-matter
 -- receives from any source cannot be allowed
 pub any-source-matters : Ends-alike-on (λ s. no-ready s && covered s) → ⊥
 unfolding without-any-source
-any-source-matters = apart-refutes (without-any-source .asks) (without-any-source .orders)
+any-source-matters =
+    apart-refutes (without-any-source .asks) (without-any-source .orders)
     (dropped-here without-any-source (without-ready ∷ without-cover ∷ []) dropped-hold)
 
 -- nor ready sends
@@ -289,5 +291,6 @@ cover-matters =
 
 -- and on a calm sheet peaks differ where all else is equal
 pub peaks-matter : peaks-apart calm-pair ≡ true
-peaks-matter = and-right (drops-matter (without-any-source ∷ without-ready ∷ without-cover ∷ []))
+peaks-matter =
+    and-right (drops-matter (without-any-source ∷ without-ready ∷ without-cover ∷ []))
     (peaks-apart calm-pair) pairs-hold

@@ -214,7 +214,8 @@ module _ {s : Sheet} (g : Good s) (A : Ground s) {came : ℕ → ℕ} {x : Job} 
 
         go : Paints s x j ⊎ (is-receive (op s j) ≡ true → state-at x j ≡ 3 → ⊥) →
             paint s x j (delivered s m r bs) ≡ delivered s m r (paint s x j bs)
-        go (inr c) = paint-none s x j (delivered s m r bs) c
+        go (inr c) =
+            paint-none s x j (delivered s m r bs) c
             ∙ ap (λ (z : List ℕ). delivered s m r z) (sym (paint-none s x j bs c))
         go (inl d) =
             paint-matched s x j (delivered s m r bs) (d .0) (d .1)

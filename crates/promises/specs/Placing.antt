@@ -106,7 +106,8 @@ module _ {s : Sheet} {x y : Job} {r : ℕ} {last : Bool} (g : Good s) (p : Place
 
   pub reach-other : (q : ℕ) → q ≢ r → reach s y q ≡ reach s x q
   unfolding reach
-  reach-other q d = ap (λ (k : ℕ). k + cond (place-at y q .waiting) 1 0) (next-other q d)
+  reach-other q d =
+      ap (λ (k : ℕ). k + cond (place-at y q .waiting) 1 0) (next-other q d)
       ∙ ap (λ (b : Bool). next-op s x q + cond b 1 0) (moved-waiting-other (T .moved) q d)
 
   -- the same of an operation's own board
@@ -150,7 +151,8 @@ module _ {s : Sheet} {x y : Job} {r : ℕ} {last : Bool} (g : Good s) (p : Place
 
       most : (q : ℕ) → q < P-of s → Dec (q ≡ r) → place-at y q .finished ≤ board s q .count
       most q l (no d) = omega (arith, moved-finished-other (T .moved) q d, p .finished-most q l)
-      most q l (yes e) = subst (λ (z : ℕ). place-at y z .finished ≤ board s z .count) (sym e)
+      most q l (yes e) =
+          subst (λ (z : ℕ). place-at y z .finished ≤ board s z .count) (sym e)
           (go last (moved-finished (T .moved)))
         where
           go : (b : Bool) → place-at y r .finished ≡ cond b (suc (place-at x r .finished)) (place-at x r .finished) →
@@ -165,7 +167,8 @@ module _ {s : Sheet} {x y : Job} {r : ℕ} {last : Bool} (g : Good s) (p : Place
         p .waiting-unfinished q l
             (sym (moved-waiting-other (T .moved) q d) ∙ w),
       )
-      unfinished q l w (yes e) = subst (λ (z : ℕ). place-at y z .finished < board s z .count) (sym e)
+      unfinished q l w (yes e) =
+          subst (λ (z : ℕ). place-at y z .finished < board s z .count) (sym e)
           (go last (not-last q e w) (moved-finished (T .moved)))
         where
           go : (b : Bool) → b ≡ false → place-at y r .finished ≡ cond b (suc (place-at x r .finished)) (place-at x r .finished) →
@@ -174,7 +177,8 @@ module _ {s : Sheet} {x y : Job} {r : ℕ} {last : Bool} (g : Good s) (p : Place
           go false c h = omega (arith, n .unfinished)
 
       blocking : (q : ℕ) → q < P-of s → place-at y q .waiting ≡ true → Dec (q ≡ r) → is-nonblocking (op s (next-op s y q)) ≡ false
-      blocking q l w (no d) = ap (λ (k : ℕ). is-nonblocking (op s k)) (next-other q d)
+      blocking q l w (no d) =
+          ap (λ (k : ℕ). is-nonblocking (op s k)) (next-other q d)
           ∙ p .waiting-blocking q l (sym (moved-waiting-other (T .moved) q d) ∙ w)
       blocking q l w (yes e) =
           ap (λ (k : ℕ). is-nonblocking (op s (next-op s y k))) e
@@ -182,7 +186,8 @@ module _ {s : Sheet} {x y : Job} {r : ℕ} {last : Bool} (g : Good s) (p : Place
           ∙ T .goes-waiting (not-last q e w) .0
 
       no-wait : (q : ℕ) → q < P-of s → place-at y q .waiting ≡ true → Dec (q ≡ r) → is-wait (op s (next-op s y q)) ≡ false
-      no-wait q l w (no d) = ap (λ (k : ℕ). is-wait (op s k)) (next-other q d)
+      no-wait q l w (no d) =
+          ap (λ (k : ℕ). is-wait (op s k)) (next-other q d)
           ∙ p .waiting-no-wait q l (sym (moved-waiting-other (T .moved) q d) ∙ w)
       no-wait q l w (yes e) =
           ap (λ (k : ℕ). is-wait (op s (next-op s y k))) e
@@ -191,7 +196,8 @@ module _ {s : Sheet} {x y : Job} {r : ℕ} {last : Bool} (g : Good s) (p : Place
 
       entered-if : (j : ℕ) → j < N-of s → j < reach s y (rank-of s j) → Dec (rank-of s j ≡ r) → Dec (j ≡ here) → Entered y j
       entered-if j l h _ (yes e) = subst (λ (z : ℕ). Entered y z) (sym e) (T .advances .here)
-      entered-if j l h (yes e) (no d) = T .advances .on j
+      entered-if j l h (yes e) (no d) =
+          T .advances .on j
           (p .entered-if j l (omega (arith, reach-mine j e, reach-mine-before j e)))
       entered-if j l h (no c) (no d) = T .advances .on j (p .entered-if j l (omega (arith, reach-other (rank-of s j) c)))
 

@@ -49,7 +49,8 @@ run-goes s fuel o x r e a h =
     record {
       rest = r ∷ h .rest;
       order-is = h .order-is ∙ append-assoc o (r ∷ []) (h .rest);
-      followed-is = λ k.
+      followed-is =
+          λ k.
           ap (λ (b : Bool). cond b (follow-from (suc k) s (h .rest) (step s r x)) (followed (some k) x)) a
           ∙ h .followed-is (suc k);
       short = omega (arith, h .short);

@@ -29,13 +29,17 @@ module _ {s : Sheet} {x y : Job} (e : Same-rows x y) where
   pub stable-same : {came : ℕ → ℕ} → Stable s came x → Stable s came y
   stable-same X =
       record {
-        message-met = λ m p h. subst (λ (z : ℕ). Met s y m z) (sym (partner-same (e m)))
+        message-met =
+            λ m p h. subst (λ (z : ℕ). Met s y m z) (sym (partner-same (e m)))
             (met-on (X .message-met m p (sym (state-same (e m)) ∙ h)));
-        receive-met = λ r p h. subst (λ (z : ℕ). Met s y z r) (sym (partner-same (e r)))
+        receive-met =
+            λ r p h. subst (λ (z : ℕ). Met s y z r) (sym (partner-same (e r)))
             (met-on (X .receive-met r p (sym (state-same (e r)) ∙ h)));
-        none-fit = λ m r p q. X .none-fit m r (pending-message-same x (sym (state-same (e m))) p)
+        none-fit =
+            λ m r p q. X .none-fit m r (pending-message-same x (sym (state-same (e m))) p)
             (pending-receive-same x (sym (state-same (e r))) q);
-        first-sent = λ m r k h p there l f.
+        first-sent =
+            λ m r k h p there l f.
             let old = X .first-sent m r k (met-back h) p (omega (arith, state-same (e k))) l f in
             (state-same (e k) ∙ old .0, omega (arith, old .1, partner-same (e k)));
         first-posted = λ m r q h p l f. state-same (e q) ∙ X .first-posted m r q (met-back h) p l f;

@@ -115,6 +115,7 @@ shaped-matches {s} {x} {y} {m} {r} {i} h M =
 
     waits : (j : ℕ) → is-wait (op s j) ≡ true → state-at y j ≡ 3 → Dec (j ≡ m) → Dec (j ≡ r) → ⊥
     waits j w c (yes e) _ = true-not-false (ap (λ (z : ℕ). is-wait (op s z)) (sym e) ∙ w) (send-no-wait (op s m) (M .sends))
-    waits j w c (no d) (yes e) = true-not-false (ap (λ (z : ℕ). is-wait (op s z)) (sym e) ∙ w)
+    waits j w c (no d) (yes e) =
+        true-not-false (ap (λ (z : ℕ). is-wait (op s z)) (sym e) ∙ w)
         (receive-no-wait (op s r) (M .receives))
     waits j w c (no d) (no a) = h .wait-unmatched j w (sym (state-same (M .other j d a)) ∙ c)

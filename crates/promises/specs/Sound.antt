@@ -130,7 +130,8 @@ module _ {s : Sheet} (g : Good s) (A : Ground s) {lent : List ℕ} (room : inbox
           shaped = shaped-same y (R .shaped) (h .entries);
           messages = messages-are (h .messages) (messages-same same (R .messages-held));
           receives = receives-are (h .receives) (receives-same same (R .receives-held));
-          in-use-sum = λ q l.
+          in-use-sum =
+              λ q l.
               h .uses q ∙ R .in-use-sum q l
               ∙ sum-same (N-of s) (charge-in s x q) (charge-in s y q) (λ j k. charge-same s x y q j (state-same (same j)));
           attached = attached-less y (λ q. omega (arith, h .uses q));

@@ -33,7 +33,8 @@ module _ {s : Sheet} {x y : Job} {i : ℕ} {came now : ℕ → ℕ} (X : Stable 
   grow-first m r h =
       record {
         sent = λ k p there l f. sent k p there l f;
-        posted = λ q p l f.
+        posted =
+            λ q p l f.
             let old = X .first-posted m r q h p l f in
             state-same (G .kept q old) ∙ old;
       }
@@ -138,6 +139,7 @@ match-stable {s} {x} {y} {m} {r} {i} {came} {now} X L M F =
     receive-old (inr e) q p c = p .unmatched (state-name y (c ∙ e) ∙ matches-receive-state M)
 
     split : (k q : ℕ) → ((k ≡ m) × (q ≡ r)) ⊎ Met s x k q → First s now y k q ⊎ Met s x k q
-    split k q (inl e) = inl (subst (λ (z : ℕ). First s now y z q) (sym (e .0))
+    split k q (inl e) =
+        inl (subst (λ (z : ℕ). First s now y z q) (sym (e .0))
         (subst (λ (z : ℕ). First s now y m z) (sym (e .1)) F))
     split k q (inr h) = inr h

@@ -117,7 +117,8 @@ module _ {s : Sheet} (g : Good s) (lent : List ℕ) where
             };
         shaped =
             record {
-              row = λ j.
+              row =
+                  λ j.
                   start-entry j ∙ sym (row-bare s j 0 (partner-at x₀ j) (omega arith))
                   ∙ ap (λ (v : ℕ). row-of s j v (partner-at x₀ j)) (sym (start-state j));
               unmatched = λ j h. none-entered j h;
@@ -135,7 +136,8 @@ module _ {s : Sheet} (g : Good s) (lent : List ℕ) where
               whole = λ v p. none-entered v (p .entered);
               sorted = tt;
             };
-        in-use-sum = λ r l. start-in-use r ∙ sym
+        in-use-sum =
+            λ r l. start-in-use r ∙ sym
             (sum-zero (N-of s) (charge-in s x₀ r) (λ j k. charge-none s x₀ r j (λ c. omega (arith, start-state j))));
         in-use-peak = λ r. omega (arith, start-in-use r);
         peak-attached = λ r l. omega (arith, start-peak r);
@@ -157,7 +159,8 @@ pub follow-from-keeps : (s : Sheet) (P : Job → Type 0) → ((x : Job) (r : ℕ
     (k : ℕ) (rs : List ℕ) (x : Job) → P x → P (follow-from k s rs x .left)
 unfolding follow-from followed
 follow-from-keeps s P keeps k [] x h = h
-follow-from-keeps s P keeps k (r ∷ rs) x h = go (able s x r) refl
+follow-from-keeps s P keeps k (r ∷ rs) x h =
+    go (able s x r) refl
     (λ a. follow-from-keeps s P keeps (suc k) rs (step s r x) (keeps x r h a))
   where
     go : (b : Bool) → able s x r ≡ b → (able s x r ≡ true → P (follow-from (suc k) s rs (step s r x) .left)) →

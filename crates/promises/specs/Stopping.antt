@@ -50,7 +50,8 @@ stops-extended {s} {lent} {x} R v r n reason w =
             peak-attached = R .peak-attached;
             memory-painted = R .memory-painted ∙ sym (painted-rows s x y (N-of s) lent same);
             memory-long = R .memory-long;
-            steps-sum = ap suc (R .steps-sum)
+            steps-sum =
+                ap suc (R .steps-sum)
                 ∙ ap (λ (o : Option Stop). suc (sum-below (N-of s) (steps-done s x) + cond (is-none o) 0 1)) (n .going)
                 ∙ omega arith;
             stop-at = λ t e. at t e;

@@ -128,7 +128,8 @@ module _ {s : Sheet} (g : Good s) (A : Ground s) {lent : List ℕ} (room : inbox
       go (no c) (yes e) =
           subst (λ (z : ℕ). stand (step s q (step s p x)) z ≡ stand (step s p (step s q x)) z) (sym e)
           (sym (moved-stand-other MQP q (λ h. d (sym h)) ∙ stand-moved s x (step s p x) q second-q MQ MPQ))
-      go (no c) (no h) = moved-stand-other MPQ r h ∙ moved-stand-other MP r c
+      go (no c) (no h) =
+          moved-stand-other MPQ r h ∙ moved-stand-other MP r c
           ∙ sym (moved-stand-other MQP r c ∙ moved-stand-other MQ r h)
 
   -- what entered is the one operation or the other
@@ -201,9 +202,11 @@ module _ {s : Sheet} (g : Good s) (A : Ground s) {lent : List ℕ} (room : inbox
             step-counted g (EP .reached) q able-q ∙ ap suc (step-counted g X p a)
             ∙ sym (step-counted g (EQ .reached) p able-p ∙ ap suc (step-counted g X q b));
         places = λ r l. swap-places r;
-        order = grew-order grew-pq grew-qp (λ k h. h) (λ k h. h) back same
+        order =
+            grew-order grew-pq grew-qp (λ k h. h) (λ k h. h) back same
             (λ k m r sk sm rr fk fm hk hm. no-meetings k m r sk sm rr fk fm (back k hk) hm);
-        order-back = grew-order grew-qp grew-pq (λ k h. h) (λ k h. h) on same
+        order-back =
+            grew-order grew-qp grew-pq (λ k h. h) (λ k h. h) on same
             (λ k m r sk sm rr fk fm hk hm. no-meetings k m r sk sm rr fk fm hk (back m hm));
       }
     where

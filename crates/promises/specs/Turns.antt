@@ -85,7 +85,8 @@ turn-half {s} {x} {y} {r} p n m same w =
           };
       goes-waiting = λ b. true-not-false refl b;
       finishes = λ a b. n .complete (ap (λ (c : Bool). c || is-wait (op s (next-op s x r))) w);
-      steps-left = λ a.
+      steps-left =
+          λ a.
           ap (λ (b : Bool). cond b 1 0 + 1) w
           ∙ sym (steps-two s (next-op s x r) (p .waiting-blocking r (n .rank-small) w) (p .waiting-no-wait r (n .rank-small) w));
     }

@@ -146,7 +146,8 @@ module _ (s : Sheet) (x : Job) (small : (q : ℕ) → place-at x q .in-use ≤ p
         finished = λ q. ap (λ (p : Place). p .finished) (at q) ∙ re q .finished;
         waiting = λ q. ap (λ (p : Place). p .waiting) (at q) ∙ re q .waiting;
         in-use = λ q. ap (λ (p : Place). p .in-use) (at q) ∙ uses q;
-        peak = λ q. ap (λ (p : Place). p .peak) (at q) ∙ re q .peak
+        peak =
+            λ q. ap (λ (p : Place). p .peak) (at q) ∙ re q .peak
             ∙ ap (λ (p : Place). max (place-at x q .peak) (p .in-use)) (sym (at q));
       }
     where
@@ -182,7 +183,8 @@ module _ (s : Sheet) (x : Job) (small : (q : ℕ) → place-at x q .in-use ≤ p
             long = refl;
             finished = used-kept .finished;
             waiting = used-kept .waiting;
-            in-use = λ q. used-kept .in-use q
+            in-use =
+                λ q. used-kept .in-use q
                 ∙ none-use (eqb q (rank-of s m)) (place-at x q .in-use) (place-at x q .in-use - charge-of (op s m));
             peak = used-kept .peak;
           }
@@ -190,7 +192,8 @@ module _ (s : Sheet) (x : Job) (small : (q : ℕ) → place-at x q .in-use ≤ p
   pub used-charged : (r i : ℕ) → r < length (x .places) → is-buffered (op s i) ≡ true →
       Used x (set (x .places) r (charged (charge-of (op s i)) (place-at x r))) (use-charged s r i)
   unfolding use-charged
-  used-charged r i l e = used-update r (charged (charge-of (op s i))) (use-charged s r i) l (λ q. re (eqb q r) q)
+  used-charged r i l e =
+      used-update r (charged (charge-of (op s i))) (use-charged s r i) l (λ q. re (eqb q r) q)
       (λ q. uses (eqb q r) (is-buffered (op s i)) e q)
     where
       re : (b : Bool) (q : ℕ) → Recharged (place-at x q) (cond b (charged (charge-of (op s i)) (place-at x q)) (place-at x q))
@@ -210,7 +213,8 @@ module _ (s : Sheet) (x : Job) (small : (q : ℕ) → place-at x q .in-use ≤ p
         long = refl;
         finished = used-kept .finished;
         waiting = used-kept .waiting;
-        in-use = λ q. used-kept .in-use q ∙ same (eqb q r) (is-buffered (op s i)) e (place-at x q .in-use)
+        in-use =
+            λ q. used-kept .in-use q ∙ same (eqb q r) (is-buffered (op s i)) e (place-at x q .in-use)
             (place-at x q .in-use + charge-of (op s i));
         peak = used-kept .peak;
       }
@@ -239,7 +243,8 @@ stepped-moved {x} {ps} {change} y U r last l are long stop steps = (M, λ q. mov
     M =
         record {
           used = λ q. place-in ps q;
-          place-is = λ q. ap (λ (p : List Place). place-in p q) are
+          place-is =
+              λ q. ap (λ (p : List Place). place-in p q) are
               ∙ getD-update ps r q f (place 0 false 0 0) (omega (arith, U .long));
           used-finished = U .finished;
           used-waiting = U .waiting;
@@ -258,7 +263,8 @@ set-enters x y i v fresh l some-v no-match are =
     record {
       fresh = fresh;
       row = ap (λ (e : List Entry). getD e i (bare-entry 0)) are ∙ getD-set-same (x .entries) i (bare-entry v) (bare-entry 0) l;
-      other = λ j d. ap (λ (e : List Entry). getD e j (bare-entry 0)) are
+      other =
+          λ j d. ap (λ (e : List Entry). getD e j (bare-entry 0)) are
           ∙ getD-set-other (x .entries) i j (bare-entry v) (bare-entry 0) d;
       some-state = some-v;
       no-match = no-match;

@@ -41,7 +41,8 @@ step-peak {s} g {i} {x} R q a r = go (step-after g R q a)
   where
     go : After s x (step s q x) q → place-at (step s q x) r .peak ≡ max (place-at x r .peak) (place-at (step s q x) r .in-use)
     go (goes-on e m) = moved-peak m r
-    go (halts t e same k) = subst (λ (ps : List Place). peak-in ps ≡ max (place-at x r .peak) (use-in ps)) (sym same)
+    go (halts t e same k) =
+        subst (λ (ps : List Place). peak-in ps ≡ max (place-at x r .peak) (use-in ps)) (sym same)
         (omega (arith, R .in-use-peak r))
       where
         peak-in : List Place → ℕ
