@@ -1,6 +1,6 @@
 -- What an engine that steps needs to know of a reachable job, each as one short law: its next operation lies in the sheet and
 -- in its board's script; the waiting lists hold sends and receives of the sheet, each once, so that one more finds room; an
--- operation that isn't entered stands in neither list; a matched receive has its message. Assumes nothing.
+-- operation that isn't entered stands in neither list; a matched receive has its message.
 --   few-held                      distinct numbers below n are at most n; few-room: fewer where one below n is missing
 --   able-parts                    what able says
 --   next-inside, next-rank        the next operation of an unfinished board; next-new, next-kind, next-send: before its
@@ -9,6 +9,7 @@
 --   messages-short, messages-room the list's length; receives-..
 --   new-message, new-receive      what isn't entered is in no list
 --   matched-receive               a matched receive and its message
+-- Assumes nothing.
 use mathlib.Core.Path.{_≡_, refl, ap, subst}
 use mathlib.Core.Logic.{_⊎_, inl, inr, _≢_}
 use mathlib.Core.Bool.{Bool, true, false, cond}
@@ -22,8 +23,9 @@ use borrow.Author.Tests.{leb-false, lt-leb}
 use Rattle.rules.specs.Sheet.{Sheet, op, board, P-of, N-of, rank-of, is-send, is-receive, is-wait}
 use Rattle.rules.specs.Job.{Job, place-at}
 use Rattle.rules.specs.Step.{able, next-op, is-finished, in-waiting-half, fits-with, without}
+use Rattle.laws.specs.Tests.{or-false-left, or-false-right}
 use Rattle.promises.specs.Good.{Good}
-use Rattle.promises.specs.Kinds.{or-left-none, or-right-none, kind-send}
+use Rattle.promises.specs.Kinds.{kind-send}
 use Rattle.promises.specs.Lists.{In, Sorted, Holds, holds-less, holds-more, holds-same, without-none}
 use Rattle.promises.specs.Invariant.{state-at, partner-at, Pending-message, Pending-receive, Reached}
 use Rattle.promises.specs.Moves.{able-next, next-fresh}
@@ -59,12 +61,18 @@ pub few-held : (n : ℕ) (P : ℕ → Type 0) (l : List ℕ) → Holds Differ P 
 few-held zero P [] h small = omega arith
 few-held zero P (v ∷ l) h small = absurd (omega (arith, small v (h .sound v (inl refl))))
 few-held (suc n) P l h small =
-    omega (arith, without-long n l, few-held n (λ v. P v × (v ≢ n)) (without n l) rest (λ v q. omega (arith, small v (q .0), q .1)))
+    omega (
+      arith,
+      without-long n l,
+      few-held n (λ v. P v × (v ≢ n)) (without n l) rest
+          (λ v q. omega (arith, small v (q .0), q .1)),
+    )
   where
     rest : Holds Differ (λ v. P v × (v ≢ n)) (without n l)
     rest = holds-less n h (λ v d. d refl) (λ v p d. (p, d)) (λ v q. q .0) (λ q. q .1 refl)
 
-pub few-room : (n i : ℕ) (P : ℕ → Type 0) (l : List ℕ) → Holds Differ P l → ((v : ℕ) → P v → v < n) → i < n → (P i → ⊥) → length l < n
+pub few-room : (n i : ℕ) (P : ℕ → Type 0) (l : List ℕ) → Holds Differ P l → ((v : ℕ) → P v → v < n) → i < n → (P i → ⊥) →
+    length l < n
 few-room n i P l h small m out =
     omega (arith, length-append l (i ∷ []), few-held n (λ v. P v ⊎ (v ≡ i)) (l ++ (i ∷ [])) more below)
   where
@@ -101,11 +109,12 @@ module _ {s : Sheet} (g : Good s) {lent : List ℕ} {x : Job} (R : Reached s len
   pub next-new : (r : ℕ) → able s x r ≡ true → in-waiting-half s x r ≡ false → state-at x (next-op s x r) ≡ 0
   unfolding in-waiting-half
   next-new r a w =
-      next-fresh s x r (R .placed) (able-next s g x r a) (or-left-none (place-at x r .waiting) (is-wait (op s (next-op s x r))) w)
+      next-fresh s x r (R .placed) (able-next s g x r a)
+      (or-false-left (place-at x r .waiting) (is-wait (op s (next-op s x r))) w)
 
   pub next-kind : (r : ℕ) → able s x r ≡ true → in-waiting-half s x r ≡ false → is-wait (op s (next-op s x r)) ≡ false
   unfolding in-waiting-half
-  next-kind r a w = or-right-none (place-at x r .waiting) (is-wait (op s (next-op s x r))) w
+  next-kind r a w = or-false-right (place-at x r .waiting) (is-wait (op s (next-op s x r))) w
 
   pub next-send : (r : ℕ) → able s x r ≡ true → in-waiting-half s x r ≡ false → is-receive (op s (next-op s x r)) ≡ false →
       is-send (op s (next-op s x r)) ≡ true
