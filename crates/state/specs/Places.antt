@@ -71,7 +71,3 @@ places-put c r p q f l m h =
 pub places-at-rank : (c : List ℕ) (p r : ℕ) → r < p → getD (places-in c p) r (place 0 false 0 0) ≡ place-in c (seat-at r)
 unfolding places-in
 places-at-rank c p r l = tab-at (λ k. place-in c (seat-at k)) p r (place 0 false 0 0) l
-
--- figures that were read and put again as a place that equals another
-pub seat-as : (c d : List ℕ) (r : ℕ) (q e : Place) → d ≡ splice c (seat-at r) (place-row q) → q ≡ e → d ≡ splice c (seat-at r) (place-row e)
-seat-as c d r q e h same = h ∙ ap (λ (z : Place). splice c (seat-at r) (place-row z)) same
