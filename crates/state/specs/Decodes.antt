@@ -1,16 +1,15 @@
 -- Scratch and its tally hold a job. Each change of scratch is the change of the job that rules names, so that an engine above
 -- never speaks of bytes. Nothing is held of the inbox memory: deliveries are made at the end, from the rows. Assumes nothing.
 use mathlib.Core.Path.{_≡_, refl, sym, _∙_, ap, subst}
-use mathlib.Core.Bool.{Bool, true, false, cond}
+use mathlib.Core.Bool.{false}
 use mathlib.Core.List.{List, [], _∷_, _++_}
-use mathlib.Core.Option.{Option, none, some}
-use Prim.Native.Nat.{ℕ, zero, suc, _+_, _-_, _*_, _<_, _≤_}
+use Prim.Native.Nat.{ℕ, _+_, _-_, _*_, _<_, _≤_}
 use native.Mathlib.Omega.{arith}
 use lib.ListN.{length, getD, set}
-use Rattle.rules.specs.Limits.{most-ops, most-boards, scratch-size, absent}
-use Rattle.rules.specs.Sheet.{Sheet, op, N-of, P-of, rank-of, two}
-use Rattle.rules.specs.Job.{Job, Entry, Place, Stop, job, entry, bare-entry, place, entry-at, place-at, with-entries, with-places, with-messages, with-receives, with-memory, with-stop, with-steps}
-use Rattle.rules.specs.Step.{splice, without, is-cut, with-place, with-state, matched-rows, pend-message, pend-receive, stopped}
+use Rattle.rules.specs.Limits.{most-ops, most-boards, scratch-size}
+use Rattle.rules.specs.Sheet.{Sheet, N-of, P-of, two}
+use Rattle.rules.specs.Job.{Job, Entry, Place, job, entry, bare-entry, place, entry-at, place-at, with-entries, with-places, with-messages, with-receives, with-memory, with-stop, with-steps}
+use Rattle.rules.specs.Step.{splice, without, with-place, with-state, stopped}
 use Rattle.rules.specs.Report.{low-two, op-row}
 use Rattle.words.specs.Splice.{Apart, splice-length, splice-apart}
 use Rattle.words.specs.Putting.{part-length}

@@ -1,8 +1,8 @@
 -- Places of boards: a place that was put is read back and is the only one that changed. Assumes nothing.
-use mathlib.Core.Path.{_≡_, refl, sym, _∙_, ap, subst}
+use mathlib.Core.Path.{_≡_, refl, sym, _∙_, ap}
 use mathlib.Core.Bool.{Bool, true, false, cond}
-use mathlib.Core.List.{List, [], _∷_, _++_}
-use Prim.Native.Nat.{ℕ, zero, suc, _+_, _*_, _<_, _≤_}
+use mathlib.Core.List.{List, [], _∷_}
+use Prim.Native.Nat.{ℕ, _+_, _<_, _≤_}
 use native.Mathlib.Omega.{arith}
 use lib.Dec.{eqb}
 use lib.ListN.{length, getD, set}
@@ -13,7 +13,7 @@ use Rattle.rules.specs.Step.{splice}
 use Rattle.rules.specs.Report.{low-two}
 use Rattle.words.specs.Splice.{Same, splice-within, splice-apart}
 use Rattle.words.specs.Two.{two-same, two-within, two-bytes}
-use Rattle.words.specs.Tab.{tab-same, tab-set, tab-at, tab-length}
+use Rattle.words.specs.Tab.{tab-same, tab-set, tab-at}
 use Rattle.state.specs.Layout.{seat-at, places-at}
 use Rattle.state.specs.Decoded.{place-in, places-in, place-row, Fits-place}
 
@@ -51,11 +51,11 @@ unfolding place-row low-two two place
 seat-put c at q f h =
     let z : at + 0 ≡ at = omega arith in
     let a : two (splice c at (place-row q)) at ≡ q .finished =
-          ap (λ (k : ℕ). two (splice c at (place-row q)) k) (sym z) ∙ (two-within c at (place-row q) h 0 (omega arith) ∙ two-bytes (q .finished) (f .finished-fits)) in
+    ap (λ (k : ℕ). two (splice c at (place-row q)) k) (sym z) ∙ (two-within c at (place-row q) h 0 (omega arith) ∙ two-bytes (q .finished) (f .finished-fits)) in
     let i : two (splice c at (place-row q)) (at + 2) ≡ q .in-use = two-within c at (place-row q) h 2 (omega arith) ∙ two-bytes (q .in-use) (f .in-use-fits) in
     let p : two (splice c at (place-row q)) (at + 4) ≡ q .peak = two-within c at (place-row q) h 4 (omega arith) ∙ two-bytes (q .peak) (f .peak-fits) in
     let w : eqb (getD (splice c at (place-row q)) (at + 6) 0) 1 ≡ q .waiting =
-          ap (λ (k : ℕ). eqb k 1) (splice-within c at (place-row q) h 6 (omega arith)) ∙ waiting-back (q .waiting) in
+    ap (λ (k : ℕ). eqb k 1) (splice-within c at (place-row q) h 6 (omega arith)) ∙ waiting-back (q .waiting) in
     let whole : place-in (splice c at (place-row q)) at ≡ place (q .finished) (q .waiting) (q .in-use) (q .peak) = cc in
     whole
 

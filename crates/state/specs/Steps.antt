@@ -1,19 +1,19 @@
 -- The changes that steps are made of, in the words of rules' Step: what a function of src/steps leaves holds the job that the
 -- definition of its name makes. Assumes nothing.
-use mathlib.Core.Path.{_≡_, refl, sym, _∙_, ap, subst}
-use mathlib.Core.Bool.{Bool, true, false, cond}
-use mathlib.Core.List.{List, [], _∷_, _++_}
-use Prim.Native.Nat.{ℕ, suc, _+_, _-_, _<_, _≤_, max}
+use mathlib.Core.Path.{_≡_, refl, _∙_, ap, subst}
+use mathlib.Core.Bool.{cond}
+use mathlib.Core.List.{List}
+use Prim.Native.Nat.{ℕ, _+_, _<_, _≤_}
 use native.Mathlib.Omega.{arith}
-use lib.ListN.{length, set}
+use lib.ListN.{set}
 use Rattle.rules.specs.Limits.{most-ops, absent}
 use Rattle.rules.specs.Sheet.{Sheet, op, N-of, P-of, rank-of}
-use Rattle.rules.specs.Job.{Job, Entry, Place, job, entry, bare-entry, place, place-at, with-entries, with-messages, with-receives}
-use Rattle.rules.specs.Step.{splice, without, is-cut, with-place, with-state, matched-rows, pend-message, pend-receive, charged, released, one-finished, now-waiting}
+use Rattle.rules.specs.Job.{Job, Entry, Place, job, entry, bare-entry, place-at, with-entries, with-messages, with-receives}
+use Rattle.rules.specs.Step.{splice, without, is-cut, with-place, with-state, matched-rows, pend-message, pend-receive}
 use Rattle.rules.specs.Report.{low-two, op-row}
 use Rattle.state.specs.declared.Tally.{Tally}
 use Rattle.state.specs.Layout.{row-at, seat-at, word-at, messages-at, receives-at}
-use Rattle.state.specs.Decoded.{place-in, place-row, Fits-row, Fits-place}
+use Rattle.state.specs.Decoded.{place-in, place-row, Fits-place}
 use Rattle.state.specs.Lists.{behind, First-at}
 use Rattle.state.specs.Tallied.{counted}
 use Rattle.state.specs.Decodes.{Decodes, decodes-as, place-is, entry-put, state-put, place-put, message-append, receive-append, message-remove, receive-remove}
@@ -76,25 +76,25 @@ module _ (s : Sheet) (c : List ℕ) (t : Tally) (x : Job) (d : Decodes s c t x) 
       let got : Entry = entry 3 cut m source tag long in
       let y : Job = with-entries (set (x .entries) m sent) x in
       let one : Decodes s a t y =
-            decodes-as s a (splice c (row-at m) (op-row sent)) t t y e refl
-            (entry-put s c t x d m sent
-            (record {
-              partner-fits = omega arith;
-              source-fits = omega arith;
-              tag-fits = omega arith;
-              long-fits = omega arith;
-            })
-            lm) in
+      decodes-as s a (splice c (row-at m) (op-row sent)) t t y e refl
+      (entry-put s c t x d m sent
+      (record {
+        partner-fits = omega arith;
+        source-fits = omega arith;
+        tag-fits = omega arith;
+        long-fits = omega arith;
+      })
+      lm) in
       let two : Decodes s b t (with-entries (set (y .entries) r got) y) =
-            decodes-as s b (splice a (row-at r) (op-row got)) t t (with-entries (set (y .entries) r got) y) f refl
-            (entry-put s a t y one r got
-            (record {
-              partner-fits = omega arith;
-              source-fits = q .source-fits;
-              tag-fits = q .tag-fits;
-              long-fits = q .long-fits;
-            })
-            lr) in
+      decodes-as s b (splice a (row-at r) (op-row got)) t t (with-entries (set (y .entries) r got) y) f refl
+      (entry-put s a t y one r got
+      (record {
+        partner-fits = omega arith;
+        source-fits = q .source-fits;
+        tag-fits = q .tag-fits;
+        long-fits = q .long-fits;
+      })
+      lr) in
       let same : got ≡ entry 3 (cond (is-cut s m r) 1 0) m (rank-of s m) (op s m .tag) (op s m .long) = cc (q .cut-is, q .source-is, q .tag-is, q .long-is) in
       subst (λ (g : Entry). Decodes s b t (with-entries (set (y .entries) r g) y)) same two
 

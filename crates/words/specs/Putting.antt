@@ -1,8 +1,8 @@
 -- Bytes put one by one, from the front: what holds of the slice after the first i of them. Zeros, a copy and a move down are
 -- loops of this one kind. Assumes nothing.
-use mathlib.Core.Path.{_≡_, refl, sym, _∙_, ap, subst}
+use mathlib.Core.Path.{_≡_, refl, sym, _∙_, ap}
 use mathlib.Core.List.{List, [], _∷_, _++_}
-use Prim.Native.Nat.{ℕ, zero, suc, _+_, _-_, _<_, _≤_, min}
+use Prim.Native.Nat.{ℕ, _+_, _<_, _≤_}
 use native.Mathlib.Omega.{arith}
 use native.Mathlib.Numerals.{add-one}
 use lib.ListN.{length, getD, take, drop, set, length-set, length-drop}
@@ -35,9 +35,9 @@ module _ (c : List ℕ) (at : ℕ) (xs s : List ℕ) (i : ℕ) (q : Putting c at
         room = room;
         size = length-set s (at + i) b ∙ q .size;
         is =
-          ap (λ (z : List ℕ). set z (at + i) b) (q .is)
-          ∙ (splice-more c at (take i xs) i b (length-take-le i xs (q .upper)) (omega arith)
-          ∙ ap (λ (vs : List ℕ). splice c at vs)
+            ap (λ (z : List ℕ). set z (at + i) b) (q .is)
+            ∙ (splice-more c at (take i xs) i b (length-take-le i xs (q .upper)) (omega arith)
+            ∙ ap (λ (vs : List ℕ). splice c at vs)
             (ap (λ (z : ℕ). take i xs ++ (z ∷ [])) e ∙ (sym (take-suc xs i 0 l) ∙ ap (λ (k : ℕ). take k xs) (sym (add-one i)))));
       }
 

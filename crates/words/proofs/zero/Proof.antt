@@ -7,19 +7,13 @@ use lib.ListN.{length, replicate, length-replicate}
 use Rattle.words.specs.Splice.{splice-whole}
 use Rattle.words.proofs.zero.Statement.{statement}
 use Rattle.words.proofs.zero.Tie as tie
-use Rattle.words.proofs.zero.Reads as reads
-use Rattle.words.proofs.zero.Lts as lts
-use Rattle.words.proofs.put_zeros.Reads as put-zeros-reads
 
--- src/lib.rt:77:5
 put-zeros-requires : tie.Need-put-zeros-requires
 put-zeros-requires c κs = omega arith
 
--- src/lib.rt:73:1
 same-length : tie.Need-same-length
 same-length c = search needs
 
--- src/lib.rt:73:1
 returns : tie.Need-returns
 returns c =
     let s = c .before .before .before .before .before .args .s .now in

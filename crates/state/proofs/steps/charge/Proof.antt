@@ -5,54 +5,37 @@ use native.Mathlib.Omega.{arith}
 use Rattle.rules.specs.Step.{charged}
 use Rattle.rules.specs.Job.{Place, place, place-at}
 use Rattle.state.specs.Layout.{seat-at}
-use Rattle.state.specs.Decoded.{place-in, Fits-place}
+use Rattle.state.specs.Decoded.{place-in}
 use Rattle.state.specs.Decodes.{place-is}
 use Rattle.state.specs.Steps.{place-change}
 use borrow.Author.Needs.{needs}
 use Rattle.state.proofs.steps.charge.Statement.{statement}
 use Rattle.state.proofs.steps.charge.Tie as tie
-use Rattle.state.proofs.steps.charge.Reads as reads
-use Rattle.state.proofs.steps.charge.Lts as lts
-use Rattle.state.proofs.places.finished_of.Reads as finished-of-reads
-use Rattle.state.proofs.places.in_use_of.Reads as in-use-of-reads
-use Rattle.state.proofs.places.peak_of.Reads as peak-of-reads
-use Rattle.state.proofs.places.put_place.Reads as put-place-reads
-use Rattle.state.proofs.places.waiting_of.Reads as waiting-of-reads
-use Rattle.state.proofs.steps.larger.Reads as larger-reads
 
--- src/steps.rt:98:9
 finished-of-requires : tie.Need-finished-of-requires
 finished-of-requires c κs = search needs
 
--- src/steps.rt:99:9
 waiting-of-requires : tie.Need-waiting-of-requires
 waiting-of-requires c κs = search needs
 
--- src/steps.rt:100:13
 in-use-of-requires : tie.Need-in-use-of-requires
 in-use-of-requires c κs = search needs
 
--- src/steps.rt:100:13
 add-u : tie.Need-add-u
 add-u c = search needs
 
--- src/steps.rt:101:20
 peak-of-requires : tie.Need-peak-of-requires
 peak-of-requires c κs = search needs
 
--- src/steps.rt:101:9
 larger-requires : tie.Need-larger-requires
 larger-requires c κs = search needs
 
--- src/steps.rt:102:5
 put-place-requires : tie.Need-put-place-requires
 put-place-requires c κs = search needs
 
--- src/steps.rt:94:1
 same-length : tie.Need-same-length
 same-length c = search needs
 
--- src/steps.rt:94:1
 returns : tie.Need-returns
 unfolding charged place
 returns c =

@@ -8,44 +8,31 @@ use native.Mathlib.Numerals.{add-one}
 use Rattle.rules.specs.Step.{one-finished}
 use Rattle.rules.specs.Job.{Place, place, place-at}
 use Rattle.state.specs.Layout.{seat-at}
-use Rattle.state.specs.Decoded.{place-in, Fits-place}
+use Rattle.state.specs.Decoded.{place-in}
 use Rattle.state.specs.Decodes.{place-is}
 use Rattle.state.specs.Steps.{place-change}
 use borrow.Author.Needs.{needs}
 use Rattle.state.proofs.steps.finish_one.Statement.{statement}
 use Rattle.state.proofs.steps.finish_one.Tie as tie
-use Rattle.state.proofs.steps.finish_one.Reads as reads
-use Rattle.state.proofs.steps.finish_one.Lts as lts
-use Rattle.state.proofs.places.finished_of.Reads as finished-of-reads
-use Rattle.state.proofs.places.in_use_of.Reads as in-use-of-reads
-use Rattle.state.proofs.places.peak_of.Reads as peak-of-reads
-use Rattle.state.proofs.places.put_place.Reads as put-place-reads
 
--- src/steps.rt:122:13
 finished-of-requires : tie.Need-finished-of-requires
 finished-of-requires c κs = search needs
 
--- src/steps.rt:122:13
 add-f : tie.Need-add-f
 add-f c = search needs
 
--- src/steps.rt:123:9
 in-use-of-requires : tie.Need-in-use-of-requires
 in-use-of-requires c κs = search needs
 
--- src/steps.rt:124:9
 peak-of-requires : tie.Need-peak-of-requires
 peak-of-requires c κs = search needs
 
--- src/steps.rt:125:5
 put-place-requires : tie.Need-put-place-requires
 put-place-requires c κs = search needs
 
--- src/steps.rt:118:1
 same-length : tie.Need-same-length
 same-length c = search needs
 
--- src/steps.rt:118:1
 returns : tie.Need-returns
 unfolding one-finished place
 returns c =

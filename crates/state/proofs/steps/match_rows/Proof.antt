@@ -3,24 +3,16 @@ use Rattle.state.specs.Steps.{rows-match}
 use borrow.Author.Needs.{needs}
 use Rattle.state.proofs.steps.match_rows.Statement.{statement}
 use Rattle.state.proofs.steps.match_rows.Tie as tie
-use Rattle.state.proofs.steps.match_rows.Reads as reads
-use Rattle.state.proofs.steps.match_rows.Lts as lts
-use Rattle.state.proofs.rows.put_received.Reads as put-received-reads
-use Rattle.state.proofs.rows.put_sent.Reads as put-sent-reads
 
--- src/steps.rt:55:5
 put-sent-requires : tie.Need-put-sent-requires
 put-sent-requires c κs = search needs
 
--- src/steps.rt:56:5
 put-received-requires : tie.Need-put-received-requires
 put-received-requires c κs = search needs
 
--- src/steps.rt:51:1
 same-length : tie.Need-same-length
 same-length c = search needs
 
--- src/steps.rt:51:1
 returns : tie.Need-returns
 returns c =
     λ t s x d q.

@@ -4,33 +4,22 @@ use Rattle.state.specs.Steps.{message-pend}
 use borrow.Author.Needs.{needs}
 use Rattle.state.proofs.steps.pend_message.Statement.{statement}
 use Rattle.state.proofs.steps.pend_message.Tie as tie
-use Rattle.state.proofs.steps.pend_message.Reads as reads
-use Rattle.state.proofs.steps.pend_message.Lts as lts
-use Rattle.state.proofs.lists.append.Reads as append-reads
-use Rattle.state.proofs.rows.put_bare.Reads as put-bare-reads
-use Rattle.state.proofs.tallies.counting.Reads as counting-reads
 
--- src/steps.rt:34:5
 put-bare-requires : tie.Need-put-bare-requires
 put-bare-requires c κs = search needs
 
--- src/steps.rt:35:5
 append-requires : tie.Need-append-requires
 append-requires c κs = search needs
 
--- src/steps.rt:36:26
 add-counting : tie.Need-add-counting
 add-counting c = search needs
 
--- src/steps.rt:36:5
 counting-requires : tie.Need-counting-requires
 counting-requires c κs = search needs
 
--- src/steps.rt:29:1
 same-length : tie.Need-same-length
 same-length c = search needs
 
--- src/steps.rt:29:1
 returns : tie.Need-returns
 returns c =
     λ s x d l.

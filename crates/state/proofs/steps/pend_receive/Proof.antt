@@ -4,33 +4,22 @@ use Rattle.state.specs.Steps.{receive-pend}
 use borrow.Author.Needs.{needs}
 use Rattle.state.proofs.steps.pend_receive.Statement.{statement}
 use Rattle.state.proofs.steps.pend_receive.Tie as tie
-use Rattle.state.proofs.steps.pend_receive.Reads as reads
-use Rattle.state.proofs.steps.pend_receive.Lts as lts
-use Rattle.state.proofs.lists.append.Reads as append-reads
-use Rattle.state.proofs.rows.put_bare.Reads as put-bare-reads
-use Rattle.state.proofs.tallies.counting.Reads as counting-reads
 
--- src/steps.rt:45:5
 put-bare-requires : tie.Need-put-bare-requires
 put-bare-requires c κs = search needs
 
--- src/steps.rt:46:5
 append-requires : tie.Need-append-requires
 append-requires c κs = search needs
 
--- src/steps.rt:47:38
 add-counting : tie.Need-add-counting
 add-counting c = search needs
 
--- src/steps.rt:47:5
 counting-requires : tie.Need-counting-requires
 counting-requires c κs = search needs
 
--- src/steps.rt:40:1
 same-length : tie.Need-same-length
 same-length c = search needs
 
--- src/steps.rt:40:1
 returns : tie.Need-returns
 returns c =
     λ s x d l.

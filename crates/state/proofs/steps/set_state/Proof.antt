@@ -8,19 +8,13 @@ use Rattle.state.specs.Decodes.{decodes-as, state-put}
 use borrow.Author.Needs.{needs}
 use Rattle.state.proofs.steps.set_state.Statement.{statement}
 use Rattle.state.proofs.steps.set_state.Tie as tie
-use Rattle.state.proofs.steps.set_state.Reads as reads
-use Rattle.state.proofs.steps.set_state.Lts as lts
-use Rattle.state.proofs.rows.put_bare.Reads as put-bare-reads
 
--- src/steps.rt:25:5
 put-bare-requires : tie.Need-put-bare-requires
 put-bare-requires c κs = search needs
 
--- src/steps.rt:21:1
 same-length : tie.Need-same-length
 same-length c = search needs
 
--- src/steps.rt:21:1
 returns : tie.Need-returns
 returns c =
     λ t s x d l.

@@ -1,42 +1,27 @@
 -- `state::steps::start_waiting` meets its contract: the three figures that were read make the waiting place. Assumes nothing.
 use mathlib.Core.Bool.{true}
 use Rattle.rules.specs.Step.{now-waiting}
-use Rattle.rules.specs.Job.{Place, place, place-at}
-use Rattle.state.specs.Layout.{seat-at}
-use Rattle.state.specs.Decoded.{place-in, Fits-place}
-use Rattle.state.specs.Decodes.{place-is}
+use Rattle.rules.specs.Job.{place}
 use Rattle.state.specs.Steps.{place-change}
 use borrow.Author.Needs.{needs}
 use Rattle.state.proofs.steps.start_waiting.Statement.{statement}
 use Rattle.state.proofs.steps.start_waiting.Tie as tie
-use Rattle.state.proofs.steps.start_waiting.Reads as reads
-use Rattle.state.proofs.steps.start_waiting.Lts as lts
-use Rattle.state.proofs.places.finished_of.Reads as finished-of-reads
-use Rattle.state.proofs.places.in_use_of.Reads as in-use-of-reads
-use Rattle.state.proofs.places.peak_of.Reads as peak-of-reads
-use Rattle.state.proofs.places.put_place.Reads as put-place-reads
 
--- src/steps.rt:133:9
 finished-of-requires : tie.Need-finished-of-requires
 finished-of-requires c κs = search needs
 
--- src/steps.rt:134:9
 in-use-of-requires : tie.Need-in-use-of-requires
 in-use-of-requires c κs = search needs
 
--- src/steps.rt:135:9
 peak-of-requires : tie.Need-peak-of-requires
 peak-of-requires c κs = search needs
 
--- src/steps.rt:136:5
 put-place-requires : tie.Need-put-place-requires
 put-place-requires c κs = search needs
 
--- src/steps.rt:129:1
 same-length : tie.Need-same-length
 same-length c = search needs
 
--- src/steps.rt:129:1
 returns : tie.Need-returns
 unfolding now-waiting place
 returns c =

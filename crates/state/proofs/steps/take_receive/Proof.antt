@@ -5,28 +5,19 @@ use Rattle.state.specs.Steps.{receive-take}
 use borrow.Author.Needs.{needs}
 use Rattle.state.proofs.steps.take_receive.Statement.{statement}
 use Rattle.state.proofs.steps.take_receive.Tie as tie
-use Rattle.state.proofs.steps.take_receive.Reads as reads
-use Rattle.state.proofs.steps.take_receive.Lts as lts
-use Rattle.state.proofs.lists.remove.Reads as remove-reads
-use Rattle.state.proofs.tallies.counting.Reads as counting-reads
 
--- src/steps.rt:74:16
 sub-left : tie.Need-sub-left
 sub-left c = search needs
 
--- src/steps.rt:75:5
 remove-requires : tie.Need-remove-requires
 remove-requires c κs = search needs
 
--- src/steps.rt:76:5
 counting-requires : tie.Need-counting-requires
 counting-requires c κs = search needs
 
--- src/steps.rt:70:1
 same-length : tie.Need-same-length
 same-length c = search needs
 
--- src/steps.rt:70:1
 returns : tie.Need-returns
 returns c =
     λ s x d f.
