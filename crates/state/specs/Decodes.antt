@@ -5,19 +5,20 @@ use mathlib.Core.Bool.{false}
 use mathlib.Core.List.{List, [], _∷_, _++_}
 use Prim.Native.Nat.{ℕ, _+_, _-_, _*_, _<_, _≤_}
 use native.Mathlib.Omega.{arith}
-use lib.ListN.{length, getD, set}
+use lib.ListN.{length, getD, set, take}
 use Rattle.rules.specs.Limits.{most-ops, most-boards, scratch-size}
 use Rattle.rules.specs.Sheet.{Sheet, N-of, P-of, two}
 use Rattle.rules.specs.Job.{Job, Entry, Place, job, entry, bare-entry, place, entry-at, place-at, with-entries, with-places, with-messages, with-receives, with-memory, with-stop, with-steps}
 use Rattle.rules.specs.Step.{splice, without, with-place, with-state, stopped}
-use Rattle.rules.specs.Report.{low-two, op-row}
-use Rattle.words.specs.Splice.{Apart, splice-length, splice-apart}
+use Rattle.rules.specs.Report.{low-two, op-row, op-rows}
+use Rattle.words.specs.Splice.{Apart, splice-length, splice-apart, splice-take, splice-take-before}
 use Rattle.words.specs.Putting.{part-length}
 use Rattle.words.specs.Tab.{drop-at}
 use Rattle.state.specs.declared.Tally.{Tally}
 use Rattle.state.specs.Layout.{row-at, seat-at, word-at, places-at, messages-at, receives-at, ranks-at}
 use Rattle.state.specs.Decoded.{entry-in, entries-in, place-in, places-in, place-row, words-in, Fits-row, Fits-place}
-use Rattle.state.specs.Rows.{row-length, entries-same, entries-put, entries-at}
+use Rattle.state.specs.Rows.{row-length, entries-same, entries-put, entries-at, entries-length}
+use Rattle.state.specs.Written.{rows-put}
 use Rattle.state.specs.Places.{seat-length, places-same, places-put, places-at-rank}
 use Rattle.state.specs.Lists.{behind, words-same, words-at, words-length, words-append, words-remove, First-at, without-at}
 use Rattle.state.specs.Indexed.{Indexed, indexed-kept}
@@ -30,6 +31,7 @@ pub record Decodes (s : Sheet) (c : List ℕ) (t : Tally) (x : Job) : Type 0 whe
   pub few-receives : t .receives ≤ most-ops
   pub roomy : scratch-size ≤ length c
   pub entries-are : x .entries ≡ entries-in c (N-of s)
+  pub rows-are : take (row-at (N-of s)) c ≡ op-rows (x .entries)
   pub places-are : x .places ≡ places-in c (P-of s)
   pub messages-are : x .messages ≡ words-in c messages-at (t .messages)
   pub receives-are : x .receives ≡ words-in c receives-at (t .receives)
@@ -77,9 +79,9 @@ module _ (c : List ℕ) (at : ℕ) (vs : List ℕ) (h : at + length vs ≤ lengt
 
 module _ (s : Sheet) (c : List ℕ) (t : Tally) (x : Job) (d : Decodes s c t x) where
   -- a splice, with what each part then decodes to
-  spliced : (at : ℕ) (vs : List ℕ) (m r : ℕ) (es : List Entry) (ps : List Place) (ms rs : List ℕ) → at + length vs ≤ ranks-at → m ≤ most-ops → r ≤ most-ops → entries-in (splice c at vs) (N-of s) ≡ es → places-in (splice c at vs) (P-of s) ≡ ps → words-in (splice c at vs) messages-at m ≡ ms → words-in (splice c at vs) receives-at r ≡ rs → Decodes s (splice c at vs) (counted m r t) (job es ps ms rs (x .memory) (x .stop) (x .steps))
+  spliced : (at : ℕ) (vs : List ℕ) (m r : ℕ) (es : List Entry) (ps : List Place) (ms rs : List ℕ) → at + length vs ≤ ranks-at → m ≤ most-ops → r ≤ most-ops → entries-in (splice c at vs) (N-of s) ≡ es → take (row-at (N-of s)) (splice c at vs) ≡ op-rows es → places-in (splice c at vs) (P-of s) ≡ ps → words-in (splice c at vs) messages-at m ≡ ms → words-in (splice c at vs) receives-at r ≡ rs → Decodes s (splice c at vs) (counted m r t) (job es ps ms rs (x .memory) (x .stop) (x .steps))
   unfolding job
-  spliced at vs m r es ps ms rs h lm lr e p q w =
+  spliced at vs m r es ps ms rs h lm lr e k p q w =
       let roomy : scratch-size ≤ length c = d .roomy in
       let size = splice-length c at vs (omega arith) in
       record {
@@ -89,6 +91,7 @@ module _ (s : Sheet) (c : List ℕ) (t : Tally) (x : Job) (d : Decodes s c t x) 
         few-receives = lr;
         roomy = omega arith;
         entries-are = sym e;
+        rows-are = k;
         places-are = sym p;
         messages-are = sym q;
         receives-are = sym w;
@@ -98,12 +101,12 @@ module _ (s : Sheet) (c : List ℕ) (t : Tally) (x : Job) (d : Decodes s c t x) 
       }
 
   -- a splice inside one region changes that part of the job alone
-  rows-spliced : (at : ℕ) (vs : List ℕ) (es : List Entry) → at + length vs ≤ places-at → entries-in (splice c at vs) (N-of s) ≡ es → Decodes s (splice c at vs) t (with-entries es x)
+  rows-spliced : (at : ℕ) (vs : List ℕ) (es : List Entry) → at + length vs ≤ places-at → entries-in (splice c at vs) (N-of s) ≡ es → take (row-at (N-of s)) (splice c at vs) ≡ op-rows es → Decodes s (splice c at vs) t (with-entries es x)
   unfolding with-entries
-  rows-spliced at vs es h e =
+  rows-spliced at vs es h e k =
       let roomy : scratch-size ≤ length c = d .roomy in
       let fits : at + length vs ≤ length c = omega arith in
-      spliced at vs (t .messages) (t .receives) es (x .places) (x .messages) (x .receives) (omega arith) (d .few-messages) (d .few-receives) e
+      spliced at vs (t .messages) (t .receives) es (x .places) (x .messages) (x .receives) (omega arith) (d .few-messages) (d .few-receives) e k
       (places-kept c at vs fits (P-of s) (d .few-boards) (omega arith) ∙ sym (d .places-are))
       (words-kept c at vs fits messages-at (t .messages) (d .few-messages) (omega arith) ∙ sym (d .messages-are))
       (words-kept c at vs fits receives-at (t .receives) (d .few-receives) (omega arith) ∙ sym (d .receives-are))
@@ -115,6 +118,7 @@ module _ (s : Sheet) (c : List ℕ) (t : Tally) (x : Job) (d : Decodes s c t x) 
       let fits : at + length vs ≤ length c = omega arith in
       spliced at vs (t .messages) (t .receives) (x .entries) ps (x .messages) (x .receives) (omega arith) (d .few-messages) (d .few-receives)
       (entries-kept c at vs fits (N-of s) (d .few-ops) (omega arith) ∙ sym (d .entries-are))
+      (splice-take-before c (row-at (N-of s)) at vs (omega (arith, d .few-ops)) (omega arith) ∙ d .rows-are)
       e
       (words-kept c at vs fits messages-at (t .messages) (d .few-messages) (omega arith) ∙ sym (d .messages-are))
       (words-kept c at vs fits receives-at (t .receives) (d .few-receives) (omega arith) ∙ sym (d .receives-are))
@@ -126,6 +130,7 @@ module _ (s : Sheet) (c : List ℕ) (t : Tally) (x : Job) (d : Decodes s c t x) 
       let fits : at + length vs ≤ length c = omega arith in
       spliced at vs m (t .receives) (x .entries) (x .places) ms (x .receives) (omega arith) lm (d .few-receives)
       (entries-kept c at vs fits (N-of s) (d .few-ops) (omega arith) ∙ sym (d .entries-are))
+      (splice-take-before c (row-at (N-of s)) at vs (omega (arith, d .few-ops)) (omega arith) ∙ d .rows-are)
       (places-kept c at vs fits (P-of s) (d .few-boards) (omega arith) ∙ sym (d .places-are))
       e
       (words-kept c at vs fits receives-at (t .receives) (d .few-receives) (omega arith) ∙ sym (d .receives-are))
@@ -137,6 +142,7 @@ module _ (s : Sheet) (c : List ℕ) (t : Tally) (x : Job) (d : Decodes s c t x) 
       let fits : at + length vs ≤ length c = omega arith in
       spliced at vs (t .messages) r (x .entries) (x .places) (x .messages) rs (omega arith) (d .few-messages) lr
       (entries-kept c at vs fits (N-of s) (d .few-ops) (omega arith) ∙ sym (d .entries-are))
+      (splice-take-before c (row-at (N-of s)) at vs (omega (arith, d .few-ops)) (omega arith) ∙ d .rows-are)
       (places-kept c at vs fits (P-of s) (d .few-boards) (omega arith) ∙ sym (d .places-are))
       (words-kept c at vs fits messages-at (t .messages) (d .few-messages) (omega arith) ∙ sym (d .messages-are))
       e
@@ -148,6 +154,8 @@ module _ (s : Sheet) (c : List ℕ) (t : Tally) (x : Job) (d : Decodes s c t x) 
       let long = row-length e in
       rows-spliced (row-at i) (op-row e) (set (x .entries) i e) (omega arith)
       (entries-put c i (N-of s) e f l few (d .roomy) ∙ ap (λ (es : List Entry). set es i e) (sym (d .entries-are)))
+      (splice-take c (row-at (N-of s)) (row-at i) (op-row e) (omega arith) (omega (arith, d .roomy))
+      ∙ (ap (λ (b : List ℕ). splice b (row-at i) (op-row e)) (d .rows-are) ∙ rows-put (x .entries) i e (omega (arith, ap length (d .entries-are), entries-length c (N-of s)))))
 
   pub state-put : (i v : ℕ) → i < N-of s → Decodes s (splice c (row-at i) (op-row (bare-entry v))) t (with-state i v x)
   unfolding with-state bare-entry entry
@@ -219,6 +227,7 @@ module _ (s : Sheet) (c : List ℕ) (t : Tally) (x : Job) (d : Decodes s c t x) 
         few-receives = d .few-receives;
         roomy = d .roomy;
         entries-are = d .entries-are;
+        rows-are = d .rows-are;
         places-are = d .places-are;
         messages-are = d .messages-are;
         receives-are = d .receives-are;
@@ -237,6 +246,7 @@ module _ (s : Sheet) (c : List ℕ) (t : Tally) (x : Job) (d : Decodes s c t x) 
         few-receives = d .few-receives;
         roomy = d .roomy;
         entries-are = d .entries-are;
+        rows-are = d .rows-are;
         places-are = d .places-are;
         messages-are = d .messages-are;
         receives-are = d .receives-are;
@@ -255,6 +265,7 @@ module _ (s : Sheet) (c : List ℕ) (t : Tally) (x : Job) (d : Decodes s c t x) 
         few-receives = d .few-receives;
         roomy = d .roomy;
         entries-are = d .entries-are;
+        rows-are = d .rows-are;
         places-are = d .places-are;
         messages-are = d .messages-are;
         receives-are = d .receives-are;
