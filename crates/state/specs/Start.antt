@@ -7,7 +7,7 @@ use native.Mathlib.Omega.{arith}
 use native.Mathlib.Nat.{zero-add}
 use native.Mathlib.Numerals.{add-one}
 use lib.Seq.{take-at}
-use lib.ListN.{drop, length, getD, replicate, length-append, length-replicate, getD-replicate}
+use lib.ListN.{drop, length, getD, replicate, length-replicate, getD-replicate}
 use Rattle.rules.specs.Limits.{most-ops, most-boards, scratch-size}
 use Rattle.rules.specs.Sheet.{Sheet, N-of, P-of, two}
 use Rattle.rules.specs.Job.{Entry, job, entry, bare-entry, place, started}

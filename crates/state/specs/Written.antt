@@ -1,13 +1,13 @@
 -- The rows as they stand in scratch are the report's own operation rows, so that writing them into the report is a copy.
 -- Assumes nothing.
-use mathlib.Core.Path.{_≡_, refl, sym, _∙_, ap, subst}
+use mathlib.Core.Path.{_≡_, refl, sym, _∙_, ap}
 use mathlib.Core.List.{List, [], _∷_, _++_}
 use Prim.Native.Nat.{ℕ, zero, suc, _+_, _*_, _<_, _≤_}
 use native.Mathlib.Omega.{arith}
-use lib.ListN.{length, take, set, length-append}
+use lib.ListN.{length, set, length-append}
 use Rattle.rules.specs.Job.{Entry}
 use Rattle.rules.specs.Step.{splice}
-use Rattle.rules.specs.Report.{low-two, op-row, op-rows}
+use Rattle.rules.specs.Report.{op-row, op-rows}
 use Rattle.words.specs.Splice.{splice-behind, splice-front}
 use Rattle.state.specs.Layout.{row-at}
 use Rattle.state.specs.Rows.{row-length}

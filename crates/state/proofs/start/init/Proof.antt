@@ -12,11 +12,11 @@ use Rattle.state.proofs.start.init.Tie as tie
 put-rows-requires : tie.Need-put-rows-requires
 put-rows-requires c κs = search needs
 
-mul-put-zeros : tie.Need-mul-put-zeros
-mul-put-zeros c = search needs
+mul-fill : tie.Need-mul-fill
+mul-fill c = search needs
 
-put-zeros-requires : tie.Need-put-zeros-requires
-put-zeros-requires c κs = search needs
+fill-requires : tie.Need-fill-requires
+fill-requires c κs = search needs
 
 same-length : tie.Need-same-length
 same-length c = search needs
@@ -24,8 +24,8 @@ same-length c = search needs
 returns : tie.Need-returns
 returns c =
     let a = c .before .before .before .before .before .before .before .before .before .args in
-    c .before .before .put-zeros .ensures ∙ ap (λ (s : List ℕ). splice s places-at (replicate (8 * a .p) 0)) (c .before .before .before .before .before .before .put-rows .ensures)
+    c .before .before .fill .ensures ∙ ap (λ (s : List ℕ). splice s places-at (replicate (8 * a .p) 0)) (c .before .before .before .before .before .before .put-rows .ensures)
 
 pub init-spec : {M : Type 1} → statement M
 init-spec =
-    tie.close (tie.spec put-rows-requires mul-put-zeros put-zeros-requires same-length returns)
+    tie.close (tie.spec put-rows-requires mul-fill fill-requires same-length returns)
