@@ -3,12 +3,13 @@
 use mathlib.Core.Path.{_≡_, refl, sym, _∙_, ap, subst}
 use mathlib.Core.Bool.{false}
 use mathlib.Core.List.{List, [], _∷_, _++_}
+use mathlib.Core.Option.{Option, some}
 use Prim.Native.Nat.{ℕ, _+_, _-_, _*_, _<_, _≤_}
 use native.Mathlib.Omega.{arith}
 use lib.ListN.{length, getD, set, take}
 use Rattle.rules.specs.Limits.{most-ops, most-boards, scratch-size}
 use Rattle.rules.specs.Sheet.{Sheet, N-of, P-of, two}
-use Rattle.rules.specs.Job.{Job, Entry, Place, job, entry, bare-entry, place, entry-at, place-at, with-entries, with-places, with-messages, with-receives, with-memory, with-stop, with-steps}
+use Rattle.rules.specs.Job.{Job, Entry, Place, Stop, job, entry, bare-entry, place, entry-at, place-at, with-entries, with-places, with-messages, with-receives, with-memory, with-stop, with-steps}
 use Rattle.rules.specs.Step.{splice, without, with-place, with-state, stopped}
 use Rattle.rules.specs.Report.{low-two, op-row, op-rows}
 use Rattle.words.specs.Splice.{Apart, splice-length, splice-apart, splice-take, splice-take-before}
@@ -22,7 +23,7 @@ use Rattle.state.specs.Written.{rows-put}
 use Rattle.state.specs.Places.{seat-length, places-same, places-put, places-at-rank}
 use Rattle.state.specs.Lists.{behind, words-same, words-at, words-length, words-append, words-remove, First-at, without-at}
 use Rattle.state.specs.Indexed.{Indexed, indexed-kept}
-use Rattle.state.specs.Tallied.{stop-of, stop-some, counted, stepped, halted}
+use Rattle.state.specs.Tallied.{stop-of, stop-some, tally, counted, stepped, halted}
 
 pub record Decodes (s : Sheet) (c : List ℕ) (t : Tally) (x : Job) : Type 0 where
   pub few-ops : N-of s ≤ most-ops
@@ -216,10 +217,10 @@ module _ (s : Sheet) (c : List ℕ) (t : Tally) (x : Job) (d : Decodes s c t x) 
       ∙ (ap (λ (i : ℕ). drop-at k (words-in c receives-at i)) n
       ∙ (ap (λ (rs : List ℕ). drop-at k rs) (sym (d .receives-are)) ∙ sym (without-at (x .receives) k v f))))
 
-  -- what is kept beside scratch, and what is kept nowhere
-  pub steps-put : (k : ℕ) → Decodes s c (stepped k t) (with-steps k x)
-  unfolding with-steps job
-  steps-put k =
+  -- what is kept beside scratch, and the memory, which is kept nowhere
+  beside : (m : List ℕ) (o : Option Stop) (j k v r i : ℕ) → o ≡ stop-of v r i → j ≡ k → Decodes s c (tally (t .messages) (t .receives) k v r i) (job (x .entries) (x .places) (x .messages) (x .receives) m o j)
+  unfolding job
+  beside m o j k v r i e f =
       record {
         few-ops = d .few-ops;
         few-boards = d .few-boards;
@@ -231,45 +232,27 @@ module _ (s : Sheet) (c : List ℕ) (t : Tally) (x : Job) (d : Decodes s c t x) 
         places-are = d .places-are;
         messages-are = d .messages-are;
         receives-are = d .receives-are;
-        stop-is = d .stop-is;
-        steps-are = refl;
+        stop-is = e;
+        steps-are = f;
         indexed = d .indexed;
       }
+
+  pub steps-put : (k : ℕ) → Decodes s c (stepped k t) (with-steps k x)
+  unfolding with-steps
+  steps-put k = beside (x .memory) (x .stop) k k (t .verdict) (t .rank) (t .op) (d .stop-is) refl
 
   pub stop-put : (v r i : ℕ) → (v ≡ 0 → ⊥) → Decodes s c (halted v r i t) (stopped v r i x)
-  unfolding stopped with-stop job
+  unfolding stopped with-stop
   stop-put v r i h =
-      record {
-        few-ops = d .few-ops;
-        few-boards = d .few-boards;
-        few-messages = d .few-messages;
-        few-receives = d .few-receives;
-        roomy = d .roomy;
-        entries-are = d .entries-are;
-        rows-are = d .rows-are;
-        places-are = d .places-are;
-        messages-are = d .messages-are;
-        receives-are = d .receives-are;
-        stop-is = sym (stop-some v r i h);
-        steps-are = d .steps-are;
-        indexed = d .indexed;
-      }
+      beside (x .memory)
+      (some
+      (record {
+        verdict = v;
+        rank = r;
+        at-op = i;
+      }))
+      (x .steps) (t .steps) v r i (sym (stop-some v r i h)) (d .steps-are)
 
   pub memory-put : (m : List ℕ) → Decodes s c t (with-memory m x)
-  unfolding with-memory job
-  memory-put m =
-      record {
-        few-ops = d .few-ops;
-        few-boards = d .few-boards;
-        few-messages = d .few-messages;
-        few-receives = d .few-receives;
-        roomy = d .roomy;
-        entries-are = d .entries-are;
-        rows-are = d .rows-are;
-        places-are = d .places-are;
-        messages-are = d .messages-are;
-        receives-are = d .receives-are;
-        stop-is = d .stop-is;
-        steps-are = d .steps-are;
-        indexed = d .indexed;
-      }
+  unfolding with-memory
+  memory-put m = beside m (x .stop) (x .steps) (t .steps) (t .verdict) (t .rank) (t .op) (d .stop-is) (d .steps-are)
