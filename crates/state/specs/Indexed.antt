@@ -1,19 +1,19 @@
 -- The tables of ranks and of waits, which are filled once, before the start: what they hold, one entry more, and that a splice
 -- below them leaves them. Assumes nothing.
-use mathlib.Core.Path.{_≡_, refl, sym, _∙_, ap, subst}
-use mathlib.Core.Bool.{Bool, true, false}
+use mathlib.Core.Path.{_≡_, sym, _∙_, ap, subst}
+use mathlib.Core.Bool.{true, false}
 use mathlib.Core.List.{List, [], _∷_}
-use mathlib.Core.Option.{Option, some}
-use Prim.Native.Nat.{ℕ, zero, suc, _+_, _*_, _<_, _≤_}
+use mathlib.Core.Option.{some}
+use Prim.Native.Nat.{ℕ, _+_, _-_, _<_, _≤_}
 use native.Mathlib.Omega.{arith}
-use native.Mathlib.Decide.{ℕ-discrete}
-use lib.ListN.{length, getD}
+use native.Mathlib.Decide.{ℕ-discrete, decLt}
+use lib.ListN.{length, getD, replicate, length-replicate, getD-replicate}
 use Rattle.rules.specs.Limits.{most-ops, scratch-size}
 use Rattle.rules.specs.Sheet.{Sheet, op, N-of, rank-of, is-wait, two}
 use Rattle.rules.specs.Step.{splice, waited}
 use Rattle.rules.specs.Report.{low-two}
 use Rattle.laws.specs.Tests.{true-not-false}
-use Rattle.words.specs.Splice.{Apart, splice-apart, splice-within}
+use Rattle.words.specs.Splice.{Apart, splice-apart, splice-below, splice-within}
 use Rattle.words.specs.Two.{two-same, two-put}
 use Rattle.state.specs.Layout.{rank-at, ranks-at, waits-at, word-at}
 
@@ -45,17 +45,25 @@ indexed-kept s c at vs m h l x =
       wait-is = awaited-kept s c at vs (N-of s) m h (omega arith) (omega arith) (x .wait-is);
     }
 
--- FILLING: one entry more
+-- FILLING: the ranks of a script, of one operation, and the operation of one wait
+pub ranked-script : (s : Sheet) (c : List ℕ) (i n r : ℕ) → i + n ≤ most-ops → scratch-size ≤ length c → ((j : ℕ) → i ≤ j → j < i + n → rank-of s j ≡ r) → Ranked s c i → Ranked s (splice c (rank-at i) (replicate n r)) (i + n)
+ranked-script s c i n r m h e x j l = go (decLt j i)
+  where
+    long : length (replicate n r) ≡ n
+    long = length-replicate n r
+
+    go : Dec (j < i) → getD (splice c (rank-at i) (replicate n r)) (rank-at j) 0 ≡ rank-of s j
+    go (yes q) = splice-below c (rank-at i) (replicate n r) (omega (arith, long)) (rank-at j) (omega arith) ∙ x j q
+    go (no q) =
+        let k = j - i in
+        let at : rank-at i + k ≡ rank-at j = omega arith in
+        ap (λ (a : ℕ). getD (splice c (rank-at i) (replicate n r)) a 0) (sym at)
+        ∙ (splice-within c (rank-at i) (replicate n r) (omega (arith, long)) k (omega (arith, long)) ∙ (getD-replicate n k r 0 (omega arith) ∙ sym (e j (omega arith) l)))
+
 module _ (s : Sheet) (c : List ℕ) (i : ℕ) (m : i < most-ops) (h : scratch-size ≤ length c) where
   pub ranked-more : (r : ℕ) → r ≡ rank-of s i → Ranked s c i → Ranked s (splice c (rank-at i) (r ∷ [])) (i + 1)
-  ranked-more r e x j l = go (ℕ-discrete j i)
-    where
-      go : Dec (j ≡ i) → getD (splice c (rank-at i) (r ∷ [])) (rank-at j) 0 ≡ rank-of s j
-      go (yes q) =
-          subst (λ (k : ℕ). getD (splice c (rank-at i) (r ∷ [])) (rank-at k) 0 ≡ rank-of s k) (sym q)
-          (ap (λ (k : ℕ). getD (splice c (rank-at i) (r ∷ [])) k 0) (omega arith) ∙ (splice-within c (rank-at i) (r ∷ []) (omega arith) 0 (omega arith) ∙ e))
-      go (no q) =
-          splice-apart c (rank-at i) (r ∷ []) (omega arith) (rank-at j) (rank-at j + 1) (omega arith) (rank-at j) (omega arith) (omega arith) ∙ x j (omega arith)
+  ranked-more r e x =
+      ranked-script s c i 1 r (omega arith) h (λ j l u. let q : j ≡ i = omega arith in ap (λ (k : ℕ). rank-of s k) q ∙ sym e) x
 
   -- an operation that is no wait has no entry
   pub awaited-skip : is-wait (op s i) ≡ false → Awaited s c i → Awaited s c (i + 1)

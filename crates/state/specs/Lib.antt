@@ -2,6 +2,7 @@
 --   Layout   where each part stands
 --   Decoded  what the bytes decode to
 --   Rows     operation rows put and read
+--   Written  the rows as they stand are the report's rows
 --   Places   board places put and read
 --   Lists    the waiting lists: searched, an entry appended, an entry removed
 --   Indexed  the tables of ranks and of waits
@@ -12,6 +13,7 @@
 pub mod Layout
 pub mod Decoded
 pub mod Rows
+pub mod Written
 pub mod Places
 pub mod Lists
 pub mod Indexed

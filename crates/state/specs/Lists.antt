@@ -1,20 +1,19 @@
 -- The waiting lists: an operation appended, the k-th one removed, and the first one that passes a test. Assumes nothing.
-use mathlib.Core.Path.{_≡_, refl, sym, _∙_, ap, subst}
-use mathlib.Core.Bool.{Bool, true, false, cond}
+use mathlib.Core.Path.{_≡_, refl, sym, _∙_, ap}
+use mathlib.Core.Bool.{Bool, true, false}
 use mathlib.Core.List.{List, [], _∷_, _++_}
-use mathlib.Core.Option.{Option, none, some}
+use mathlib.Core.Option.{none, some}
 use Prim.Native.Nat.{ℕ, zero, suc, _+_, _-_, _*_, _<_, _≤_}
 use native.Mathlib.Omega.{arith}
 use native.Mathlib.Numerals.{add-one}
 use native.Mathlib.Decide.{ℕ-discrete}
-use lib.Dec.{eqb}
 use lib.ListN.{length, getD, take, drop}
 use borrow.Author.Tests.{eq-eqb, ne-eqb}
 use Rattle.rules.specs.Sheet.{two}
 use Rattle.rules.specs.Step.{splice, without, first-by}
 use Rattle.rules.specs.Report.{low-two}
 use Rattle.laws.specs.Tests.{true-not-false}
-use Rattle.words.specs.Splice.{Same, splice-within, splice-apart}
+use Rattle.words.specs.Splice.{Same, splice-apart}
 use Rattle.words.specs.Two.{two-same, two-within, two-put}
 use Rattle.words.specs.Putting.{part-length, part-at}
 use Rattle.words.specs.Tab.{tab, drop-at, tab-same, tab-snoc, tab-out, tab-at, tab-length}
