@@ -12,14 +12,13 @@ use lib.Dec.{eqb}
 use lib.ListN.{length}
 use Rattle.rules.specs.Limits.{any, most-ops, most-boards, scratch-size}
 use Rattle.rules.specs.Sheet.{Sheet, sheet-in, op, N-of, rank-of, two}
-use Rattle.rules.specs.Step.{first-by, fits-with, splice}
+use Rattle.rules.specs.Step.{first-by, fits-with}
 use Rattle.laws.specs.Laid.{Laid}
 use Rattle.laws.specs.Tests.{cond-true, cond-false}
 use Rattle.words.specs.Tab.{tab}
-use Rattle.words.specs.Splice.{splice-length}
-use Rattle.state.specs.Layout.{word-at, ranks-at}
+use Rattle.state.specs.Layout.{word-at}
 use Rattle.state.specs.Decoded.{words-in}
-use Rattle.state.specs.Indexed.{Indexed, indexed-kept}
+use Rattle.state.specs.Indexed.{Indexed}
 
 -- what a reader of ranks and fields asks
 pub record Readable (bs c : List ℕ) : Type 0 where
@@ -90,14 +89,3 @@ module _ (f : ℕ → Bool) (c : List ℕ) (base count k : ℕ) (h : First (λ j
   first-missing e =
       let g : ℕ → ℕ = λ j. two c (word-at base j) in
       tab-first-none f g 0 count (λ j q. subst (λ (m : ℕ). f (g m) ≡ false) (sym (zero-add j)) (h .before j (omega arith)))
-
--- a splice below the tables leaves the sheet as readable
-pub readable-kept : (bs c : List ℕ) (at : ℕ) (vs : List ℕ) → at + length vs ≤ ranks-at → Readable bs c → Readable bs (splice c at vs)
-readable-kept bs c at vs l q =
-    record {
-      laid = q .laid;
-      few = q .few;
-      roomy = omega (arith, q .roomy, splice-length c at vs (omega (arith, q .roomy)));
-      tables = indexed-kept (sheet-in bs) c at vs (q .few) (q .roomy) l (q .tables);
-      ranked = q .ranked;
-    }
