@@ -80,7 +80,10 @@ module _ (c : List ℕ) (at : ℕ) (vs : List ℕ) (h : at + length vs ≤ lengt
 
 module _ (s : Sheet) (c : List ℕ) (t : Tally) (x : Job) (d : Decodes s c t x) where
   -- a splice, with what each part then decodes to
-  spliced : (at : ℕ) (vs : List ℕ) (m r : ℕ) (es : List Entry) (ps : List Place) (ms rs : List ℕ) → at + length vs ≤ ranks-at → m ≤ most-ops → r ≤ most-ops → entries-in (splice c at vs) (N-of s) ≡ es → take (row-at (N-of s)) (splice c at vs) ≡ op-rows es → places-in (splice c at vs) (P-of s) ≡ ps → words-in (splice c at vs) messages-at m ≡ ms → words-in (splice c at vs) receives-at r ≡ rs → Decodes s (splice c at vs) (counted m r t) (job es ps ms rs (x .memory) (x .stop) (x .steps))
+  spliced : (at : ℕ) (vs : List ℕ) (m r : ℕ) (es : List Entry) (ps : List Place) (ms rs : List ℕ) → at + length vs ≤ ranks-at → m ≤ most-ops →
+      r ≤ most-ops → entries-in (splice c at vs) (N-of s) ≡ es → take (row-at (N-of s)) (splice c at vs) ≡ op-rows es →
+      places-in (splice c at vs) (P-of s) ≡ ps → words-in (splice c at vs) messages-at m ≡ ms → words-in (splice c at vs) receives-at r ≡ rs →
+      Decodes s (splice c at vs) (counted m r t) (job es ps ms rs (x .memory) (x .stop) (x .steps))
   unfolding job
   spliced at vs m r es ps ms rs h lm lr e k p q w =
       let roomy : scratch-size ≤ length c = d .roomy in
@@ -124,7 +127,8 @@ module _ (s : Sheet) (c : List ℕ) (t : Tally) (x : Job) (d : Decodes s c t x) 
       (words-kept c at vs fits messages-at (t .messages) (d .few-messages) (omega arith) ∙ sym (d .messages-are))
       (words-kept c at vs fits receives-at (t .receives) (d .few-receives) (omega arith) ∙ sym (d .receives-are))
 
-  messages-spliced : (at : ℕ) (vs : List ℕ) (m : ℕ) (ms : List ℕ) → messages-at ≤ at → at + length vs ≤ receives-at → m ≤ most-ops → words-in (splice c at vs) messages-at m ≡ ms → Decodes s (splice c at vs) (counted m (t .receives) t) (with-messages ms x)
+  messages-spliced : (at : ℕ) (vs : List ℕ) (m : ℕ) (ms : List ℕ) → messages-at ≤ at → at + length vs ≤ receives-at → m ≤ most-ops →
+      words-in (splice c at vs) messages-at m ≡ ms → Decodes s (splice c at vs) (counted m (t .receives) t) (with-messages ms x)
   unfolding with-messages
   messages-spliced at vs m ms l h lm e =
       let roomy : scratch-size ≤ length c = d .roomy in
@@ -136,7 +140,8 @@ module _ (s : Sheet) (c : List ℕ) (t : Tally) (x : Job) (d : Decodes s c t x) 
       e
       (words-kept c at vs fits receives-at (t .receives) (d .few-receives) (omega arith) ∙ sym (d .receives-are))
 
-  receives-spliced : (at : ℕ) (vs : List ℕ) (r : ℕ) (rs : List ℕ) → receives-at ≤ at → at + length vs ≤ ranks-at → r ≤ most-ops → words-in (splice c at vs) receives-at r ≡ rs → Decodes s (splice c at vs) (counted (t .messages) r t) (with-receives rs x)
+  receives-spliced : (at : ℕ) (vs : List ℕ) (r : ℕ) (rs : List ℕ) → receives-at ≤ at → at + length vs ≤ ranks-at → r ≤ most-ops →
+      words-in (splice c at vs) receives-at r ≡ rs → Decodes s (splice c at vs) (counted (t .messages) r t) (with-receives rs x)
   unfolding with-receives
   receives-spliced at vs r rs l h lr e =
       let roomy : scratch-size ≤ length c = d .roomy in
@@ -193,7 +198,8 @@ module _ (s : Sheet) (c : List ℕ) (t : Tally) (x : Job) (d : Decodes s c t x) 
       receives-spliced (word-at receives-at (t .receives)) (low-two i) (t .receives + 1) (x .receives ++ (i ∷ [])) (omega arith) (omega arith) (omega arith)
       (words-append c receives-at (t .receives) i f (omega arith) ∙ ap (λ (rs : List ℕ). rs ++ (i ∷ [])) (sym (d .receives-are)))
 
-  pub message-remove : (left k v : ℕ) → left + 1 ≡ t .messages → First-at (x .messages) k v → Decodes s (splice c (word-at messages-at k) (behind c messages-at left k)) (counted left (t .receives) t) (with-messages (without v (x .messages)) x)
+  pub message-remove : (left k v : ℕ) → left + 1 ≡ t .messages → First-at (x .messages) k v →
+      Decodes s (splice c (word-at messages-at k) (behind c messages-at left k)) (counted left (t .receives) t) (with-messages (without v (x .messages)) x)
   message-remove left k v n f =
       let inside : k < length (x .messages) = f .inside in
       let size = messages-length s c t x d in
@@ -205,7 +211,8 @@ module _ (s : Sheet) (c : List ℕ) (t : Tally) (x : Job) (d : Decodes s c t x) 
       ∙ (ap (λ (i : ℕ). drop-at k (words-in c messages-at i)) n
       ∙ (ap (λ (ms : List ℕ). drop-at k ms) (sym (d .messages-are)) ∙ sym (without-at (x .messages) k v f))))
 
-  pub receive-remove : (left k v : ℕ) → left + 1 ≡ t .receives → First-at (x .receives) k v → Decodes s (splice c (word-at receives-at k) (behind c receives-at left k)) (counted (t .messages) left t) (with-receives (without v (x .receives)) x)
+  pub receive-remove : (left k v : ℕ) → left + 1 ≡ t .receives → First-at (x .receives) k v →
+      Decodes s (splice c (word-at receives-at k) (behind c receives-at left k)) (counted (t .messages) left t) (with-receives (without v (x .receives)) x)
   receive-remove left k v n f =
       let inside : k < length (x .receives) = f .inside in
       let size = receives-length s c t x d in

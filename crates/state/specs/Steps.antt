@@ -40,7 +40,8 @@ pub record Status (s : Sheet) (m r cut source tag long : ℕ) : Type 0 where
 
 module _ (s : Sheet) (c : List ℕ) (t : Tally) (x : Job) (d : Decodes s c t x) where
   -- an operation that nothing fits becomes pending: its row, then its entry in the waiting list
-  pub message-pend : (i v : ℕ) (a b : List ℕ) (u : Tally) → i < N-of s → t .messages < most-ops → a ≡ splice c (row-at i) (op-row (bare-entry v)) → b ≡ splice a (word-at messages-at (t .messages)) (low-two i) → u ≡ counted (t .messages + 1) (t .receives) t → Decodes s b u (pend-message i v x)
+  pub message-pend : (i v : ℕ) (a b : List ℕ) (u : Tally) → i < N-of s → t .messages < most-ops → a ≡ splice c (row-at i) (op-row (bare-entry v)) →
+      b ≡ splice a (word-at messages-at (t .messages)) (low-two i) → u ≡ counted (t .messages + 1) (t .receives) t → Decodes s b u (pend-message i v x)
   unfolding pend-message with-state with-entries job
   message-pend i v a b u l m e f g =
       let few : N-of s ≤ most-ops = d .few-ops in
@@ -48,7 +49,8 @@ module _ (s : Sheet) (c : List ℕ) (t : Tally) (x : Job) (d : Decodes s c t x) 
       decodes-as s b (splice a (word-at messages-at (t .messages)) (low-two i)) u (counted (t .messages + 1) (t .receives) t) (pend-message i v x) f g
       (message-append s a t (with-state i v x) one i (omega arith) m)
 
-  pub receive-pend : (i : ℕ) (a b : List ℕ) (u : Tally) → i < N-of s → t .receives < most-ops → a ≡ splice c (row-at i) (op-row (bare-entry 1)) → b ≡ splice a (word-at receives-at (t .receives)) (low-two i) → u ≡ counted (t .messages) (t .receives + 1) t → Decodes s b u (pend-receive i x)
+  pub receive-pend : (i : ℕ) (a b : List ℕ) (u : Tally) → i < N-of s → t .receives < most-ops → a ≡ splice c (row-at i) (op-row (bare-entry 1)) →
+      b ≡ splice a (word-at receives-at (t .receives)) (low-two i) → u ≡ counted (t .messages) (t .receives + 1) t → Decodes s b u (pend-receive i x)
   unfolding pend-receive with-state with-entries job
   receive-pend i a b u l m e f g =
       let few : N-of s ≤ most-ops = d .few-ops in
@@ -57,16 +59,22 @@ module _ (s : Sheet) (c : List ℕ) (t : Tally) (x : Job) (d : Decodes s c t x) 
       (receive-append s a t (with-state i 1 x) one i (omega arith) m)
 
   -- the k-th of a waiting list, which is v, leaves it
-  pub message-take : (left k v : ℕ) (b : List ℕ) (u : Tally) → left + 1 ≡ t .messages → First-at (x .messages) k v → b ≡ splice c (word-at messages-at k) (behind c messages-at left k) → u ≡ counted left (t .receives) t → Decodes s b u (with-messages (without v (x .messages)) x)
+  pub message-take : (left k v : ℕ) (b : List ℕ) (u : Tally) → left + 1 ≡ t .messages → First-at (x .messages) k v →
+      b ≡ splice c (word-at messages-at k) (behind c messages-at left k) → u ≡ counted left (t .receives) t →
+      Decodes s b u (with-messages (without v (x .messages)) x)
   message-take left k v b u n f e g =
       decodes-as s b (splice c (word-at messages-at k) (behind c messages-at left k)) u (counted left (t .receives) t) (with-messages (without v (x .messages)) x) e g (message-remove s c t x d left k v n f)
 
-  pub receive-take : (left k v : ℕ) (b : List ℕ) (u : Tally) → left + 1 ≡ t .receives → First-at (x .receives) k v → b ≡ splice c (word-at receives-at k) (behind c receives-at left k) → u ≡ counted (t .messages) left t → Decodes s b u (with-receives (without v (x .receives)) x)
+  pub receive-take : (left k v : ℕ) (b : List ℕ) (u : Tally) → left + 1 ≡ t .receives → First-at (x .receives) k v →
+      b ≡ splice c (word-at receives-at k) (behind c receives-at left k) → u ≡ counted (t .messages) left t →
+      Decodes s b u (with-receives (without v (x .receives)) x)
   receive-take left k v b u n f e g =
       decodes-as s b (splice c (word-at receives-at k) (behind c receives-at left k)) u (counted (t .messages) left t) (with-receives (without v (x .receives)) x) e g (receive-remove s c t x d left k v n f)
 
   -- both rows of a match
-  pub rows-match : (m r cut source tag long : ℕ) (a b : List ℕ) → Status s m r cut source tag long → a ≡ splice c (row-at m) (op-row (entry 3 0 r absent absent 0)) → b ≡ splice a (row-at r) (op-row (entry 3 cut m source tag long)) → Decodes s b t (matched-rows s m r x)
+  pub rows-match : (m r cut source tag long : ℕ) (a b : List ℕ) → Status s m r cut source tag long →
+      a ≡ splice c (row-at m) (op-row (entry 3 0 r absent absent 0)) → b ≡ splice a (row-at r) (op-row (entry 3 cut m source tag long)) →
+      Decodes s b t (matched-rows s m r x)
   unfolding matched-rows with-entries job entry
   rows-match m r cut source tag long a b q e f =
       let few : N-of s ≤ most-ops = d .few-ops in

@@ -1,7 +1,7 @@
 // The changes that steps are made of (document 01, "How a board steps"). Contracts are in the words of rules: what is left in
 // scratch holds the job that the definition makes of the job that scratch held.
 ghost use mathlib.Core.Path.{_≡_};
-ghost use Prim.Native.Nat.{suc, _+_, _-_, _<_, _≤_, max};
+ghost use Prim.Native.Nat.{ℕ, suc, _+_, _-_, _<_, _≤_, max};
 ghost use lib.ListN.{length};
 ghost use Rattle.rules.specs.Limits.{most-ops, most-boards, scratch-size};
 ghost use Rattle.rules.specs.Sheet.{N-of, P-of};
@@ -56,20 +56,20 @@ pub fn match_rows(c: &mut [u8], m: usize, r: usize, cut: u8, source: usize, tag:
     rows::put_received(c, r, cut, m, source, tag, long);
 }
 
-// The k-th pending message, m, leaves the waiting list.
-pub fn take_message(c: &mut [u8], t: Tally, k: usize, m: usize) -> Tally
+// The k-th pending message leaves the waiting list: the first m in it.
+pub fn take_message(c: &mut [u8], t: Tally, k: usize) -> Tally
     requires { ⌜ (k < t .messages) × (t .messages ≤ most-ops) × (scratch-size ≤ length (now c)) ⌝ }
-    ensures { λ u. ⌜ Becomes (now (c .entry)) t (now (c .exit)) u (λ s x. First-at (x .messages) k m) (λ s x. with-messages (without m (x .messages)) x) ⌝ }
+    ensures { λ u. ⌜ ((m : ℕ) → Becomes (now (c .entry)) t (now (c .exit)) u (λ s x. First-at (x .messages) k m) (λ s x. with-messages (without m (x .messages)) x)) ⌝ }
 {
     let left = t.messages - 1;
     lists::remove(c, MESSAGES, left, k);
     tallies::counting(t, left, t.receives)
 }
 
-// The k-th posted receive, r, leaves the waiting list.
-pub fn take_receive(c: &mut [u8], t: Tally, k: usize, r: usize) -> Tally
+// The k-th posted receive leaves the waiting list: the first r in it.
+pub fn take_receive(c: &mut [u8], t: Tally, k: usize) -> Tally
     requires { ⌜ (k < t .receives) × (t .receives ≤ most-ops) × (scratch-size ≤ length (now c)) ⌝ }
-    ensures { λ u. ⌜ Becomes (now (c .entry)) t (now (c .exit)) u (λ s x. First-at (x .receives) k r) (λ s x. with-receives (without r (x .receives)) x) ⌝ }
+    ensures { λ u. ⌜ ((r : ℕ) → Becomes (now (c .entry)) t (now (c .exit)) u (λ s x. First-at (x .receives) k r) (λ s x. with-receives (without r (x .receives)) x)) ⌝ }
 {
     let left = t.receives - 1;
     lists::remove(c, RECEIVES, left, k);

@@ -20,9 +20,9 @@ same-length c = search needs
 
 returns : tie.Need-returns
 returns c =
-    λ s x d f.
+    λ v s x d f.
     let a = c .before .before .before .before .before .before .before .args in
-    message-take s (a .c .now) (a .t) x d (a .t .messages - 1) (a .k) (a .m) (c .before .before .before .remove .last .0) (c .counting .result) (omega arith) f (c .before .before .before .remove .ensures) (c .counting .ensures)
+    message-take s (a .c .now) (a .t) x d (a .t .messages - 1) (a .k) v (c .before .before .before .remove .last .0) (c .counting .result) (omega arith) f (c .before .before .before .remove .ensures) (c .counting .ensures)
 
 pub take-message-spec : {M : Type 1} → statement M
 take-message-spec =

@@ -20,9 +20,9 @@ same-length c = search needs
 
 returns : tie.Need-returns
 returns c =
-    λ s x d f.
+    λ v s x d f.
     let a = c .before .before .before .before .before .before .before .args in
-    receive-take s (a .c .now) (a .t) x d (a .t .receives - 1) (a .k) (a .r) (c .before .before .before .remove .last .0) (c .counting .result) (omega arith) f (c .before .before .before .remove .ensures) (c .counting .ensures)
+    receive-take s (a .c .now) (a .t) x d (a .t .receives - 1) (a .k) v (c .before .before .before .remove .last .0) (c .counting .result) (omega arith) f (c .before .before .before .remove .ensures) (c .counting .ensures)
 
 pub take-receive-spec : {M : Type 1} → statement M
 take-receive-spec =
