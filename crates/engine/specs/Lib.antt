@@ -10,5 +10,6 @@ pub mod Stands
 pub mod Able
 pub mod Search
 pub mod Moves
+pub mod Initiate
 pub mod SetupTables
 pub mod SetupWalk

@@ -1,5 +1,6 @@
 // The engine: boards step in lent scratch; then deliveries and the report are made from what scratch holds.
 pub mod able;
+pub mod receives;
 pub mod search;
 pub mod setup;
 pub mod step;

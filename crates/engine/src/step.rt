@@ -47,3 +47,25 @@ fn is_cut(capacity: usize, long: usize) -> u8
 {
     if capacity < long { 1 } else { 0 }
 }
+
+// Both rows of a match of message m and receive r: the receive's tells source, tag and length, and whether it is cut.
+fn put_rows(s: &[u8], c: &mut [u8], t: Tally, m: usize, r: usize)
+    requires { ⌜ Ready (now s) (now c) t (λ x. (m < N-of (sheet-in (now s))) × (r < N-of (sheet-in (now s)))) ⌝ }
+    ensures { λ _. ⌜ Turns (sheet-in (now (s .entry))) (now (c .entry)) t (now (c .exit)) t (λ x. (m < N-of (sheet-in (now (s .entry)))) × (r < N-of (sheet-in (now (s .entry))))) (matched-rows (sheet-in (now (s .entry))) m r) ⌝ }
+{
+    let table = 16 + 8 * header::boards(s);
+    let tag = ops::tag(s, table + 16 * m);
+    let long = ops::long(s, table + 16 * m);
+    let cut = is_cut(ops::long(s, table + 16 * r), long);
+    let source = ranks::rank_at(c, m);
+    steps::match_rows(c, m, r, cut, source, tag, long);
+}
+
+// Message m and receive r are matched: a charge goes, and both rows say so.
+pub fn meet(s: &[u8], c: &mut [u8], t: Tally, m: usize, r: usize)
+    requires { ⌜ Ready (now s) (now c) t (λ x. (m < N-of (sheet-in (now s))) × (r < N-of (sheet-in (now s)))) ⌝ }
+    ensures { λ _. ⌜ Turns (sheet-in (now (s .entry))) (now (c .entry)) t (now (c .exit)) t (λ x. (m < N-of (sheet-in (now (s .entry)))) × (r < N-of (sheet-in (now (s .entry))))) (λ x. matched-rows (sheet-in (now (s .entry))) m r (release (sheet-in (now (s .entry))) m x)) ⌝ }
+{
+    release_charge(s, c, t, m);
+    put_rows(s, c, t, m, r);
+}
