@@ -2,6 +2,8 @@
 --   Stands   a job stands in scratch: what every function of the engine is given and keeps
 --   Search   the earliest that fits
 --   Moves    what the parts of a step do to scratch
+--   Initiate what initiating steps ask, and what the invariant gives
+--   Unmatched a send that nothing fits, by its mode
 --   Initiate initiating steps in scratch are those of rules
 --   Able     whether a board is able, test by test
 --   SetupTables   the tables of ranks and waits, filled script by script
@@ -11,5 +13,6 @@ pub mod Able
 pub mod Search
 pub mod Moves
 pub mod Initiate
+pub mod Unmatched
 pub mod SetupTables
 pub mod SetupWalk

@@ -68,7 +68,7 @@ unfolding release
 release-none s m x e = let t = ne-eqb (entry-at x m .state) 2 e in rw t
 
 -- a release changes no count of operations finished
-place-put-finished : (x : Job) (k r : ℕ) (q : Place) → q .finished ≡ place-at x k .finished → place-at (with-place k q x) r .finished ≡ place-at x r .finished
+pub place-put-finished : (x : Job) (k r : ℕ) (q : Place) → q .finished ≡ place-at x k .finished → place-at (with-place k q x) r .finished ≡ place-at x r .finished
 unfolding place-at with-place with-places job
 place-put-finished x k r q e = go (ℕ-discrete r k) (decLt k (length (x .places)))
   where

@@ -2,5 +2,6 @@
 pub mod able;
 pub mod receives;
 pub mod search;
+pub mod sends;
 pub mod setup;
 pub mod step;
