@@ -70,7 +70,7 @@ module _ (bs lent c : List ℕ) (t : Tally) (x : Job) (d : Stands bs lent c t x)
         placed = omega arith;
         members =
             λ k l. subst (λ (n : ℕ). n < N-of s) (sym (message-is s c t x (d .decodes) k l))
-              (message-op (d .good) (d .reached) k (omega (arith, messages-length s c t x (d .decodes))) .0);
+            (message-op (d .good) (d .reached) k (omega (arith, messages-length s c t x (d .decodes))) .0);
       }
 
   pub listed-receives : Listed bs c receives-at (t .receives)
@@ -80,7 +80,7 @@ module _ (bs lent c : List ℕ) (t : Tally) (x : Job) (d : Stands bs lent c t x)
         placed = omega arith;
         members =
             λ k l. subst (λ (n : ℕ). n < N-of s) (sym (receive-is s c t x (d .decodes) k l))
-              (receive-op (d .good) (d .reached) k (omega (arith, receives-length s c t x (d .decodes))) .0);
+            (receive-op (d .good) (d .reached) k (omega (arith, receives-length s c t x (d .decodes))) .0);
       }
 
   pub ready-of : {ok : Job → Type 0} → ok x → Ready bs c t ok
@@ -166,9 +166,9 @@ module _ (s : Sheet) (m q : ℕ) (x : Job) where
   unfolding matched with-messages job
   matched-taken c t kept h =
       memory-put s c t (with-receives (without q (x .receives)) (with-messages (without m (x .messages)) rowed))
-        (receives-as s c t (with-messages (without m (x .messages)) rowed) (without q (x .receives)) (kept ∙ sym rows-receives)
-          (subst (λ (l : List ℕ). Decodes s c t (with-messages (without m l) rowed)) rows-messages h))
-        (delivered s m q (x .memory))
+      (receives-as s c t (with-messages (without m (x .messages)) rowed) (without q (x .receives)) (kept ∙ sym rows-receives)
+      (subst (λ (l : List ℕ). Decodes s c t (with-messages (without m l) rowed)) rows-messages h))
+      (delivered s m q (x .memory))
 
   -- the message m is not entered yet
   pub matched-given : (c : List ℕ) (t : Tally) → without m (x .messages) ≡ x .messages → Decodes s c t (with-receives (without q (rowed .receives)) rowed) → Decodes s c t (matched s m q x)
@@ -177,9 +177,9 @@ module _ (s : Sheet) (m q : ℕ) (x : Job) where
       let y : Job = with-messages (without m (x .messages)) rowed in
       let same : rowed ≡ y = ap (λ (l : List ℕ). with-messages l rowed) (rows-messages ∙ sym kept) in
       memory-put s c t (with-receives (without q (x .receives)) y)
-        (subst (λ (z : Job). Decodes s c t (with-receives (without q (x .receives)) z)) same
-          (subst (λ (l : List ℕ). Decodes s c t (with-receives (without q l) rowed)) rows-receives h))
-        (delivered s m q (x .memory))
+      (subst (λ (z : Job). Decodes s c t (with-receives (without q (x .receives)) z)) same
+      (subst (λ (l : List ℕ). Decodes s c t (with-receives (without q l) rowed)) rows-receives h))
+      (delivered s m q (x .memory))
 
   pub matched-seated : (r : ℕ) → Seated s r x → Seated s r (matched s m q x)
   unfolding matched with-memory with-receives with-messages matched-rows with-entries job place-at

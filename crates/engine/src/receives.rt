@@ -12,7 +12,6 @@ ghost use Rattle.state.specs.Decodes.{Decodes};
 ghost use Rattle.engine.specs.Stands.{Stands};
 ghost use Rattle.engine.specs.Moves.{Turns, Ready};
 ghost use Rattle.engine.specs.Initiate.{Begins, Begins-there, Posting, Taking};
-
 use crate::search;
 use crate::step;
 use state::MESSAGES;

@@ -13,7 +13,6 @@ ghost use Rattle.engine.specs.Stands.{Stands};
 ghost use Rattle.engine.specs.Moves.{Turns, Ready};
 ghost use Rattle.engine.specs.Initiate.{Begins, Begins-there, Fresh, Giving};
 ghost use Rattle.engine.specs.Unmatched.{Charging, buffered-or-stopped};
-
 use crate::search;
 use crate::step;
 use sheet::boards;

@@ -9,7 +9,6 @@ ghost use Rattle.rules.specs.Sheet.{sheet-in, N-of};
 ghost use Rattle.rules.specs.Job.{Job};
 ghost use Rattle.rules.specs.Step.{initiated, release, matched-rows};
 ghost use Rattle.engine.specs.Moves.{Turns, Ready, Seated};
-
 use sheet::header;
 use sheet::ops;
 use state::Tally;

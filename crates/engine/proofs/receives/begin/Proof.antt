@@ -21,17 +21,21 @@ find-message-requires : tie.Need-find-message-requires
 find-message-requires c κs =
     let a = c .before .before .before .args in
     let p = c .before .before .before .pre in
-    let f = begins-fresh (a .s .now) (p .lent) (a .c .now) (a .t) (p .job) (p .stands) (a .r) (a .i) (p .begins) in
-    (ready-reads (ready-of (a .s .now) (p .lent) (a .c .now) (a .t) (p .job) (p .stands) {ok = Posting (sheet-in (a .s .now)) (a .r) (a .i)} f),
-      listed-messages (a .s .now) (p .lent) (a .c .now) (a .t) (p .job) (p .stands), f .inside)
+    let f = begins-fresh (a .s .now) (p .lent) (a .c .now) (a .t) (p .job) (p .stands) (a .r) (a .i) (p .begins) in (
+      ready-reads (ready-of (a .s .now) (p .lent) (a .c .now) (a .t) (p .job) (p .stands) {ok = Posting (sheet-in (a .s .now)) (a .r) (a .i)} f),
+      listed-messages (a .s .now) (p .lent) (a .c .now) (a .t) (p .job) (p .stands),
+      f .inside,
+    )
 
 -- src/receives.rt:53:9
 take-requires : tie.Need-take-requires
 take-requires c κs =
     let a = c .before .before .before .before .before .before .args in
-    let p = c .before .before .before .before .before .before .pre in
-    (ready-of (a .s .now) (p .lent) (a .c .now) (a .t) (p .job) (p .stands) {ok = Taking (sheet-in (a .s .now)) (a .r) (a .i) (c .before .before .find-message .result)}
-      (begins-taking (a .s .now) (p .lent) (a .c .now) (a .t) (p .job) (p .stands) (a .r) (a .i) (p .begins) (c .before .before .find-message .result) (c .before .if1 .taken)), c .before .if1 .taken)
+    let p = c .before .before .before .before .before .before .pre in (
+      ready-of (a .s .now) (p .lent) (a .c .now) (a .t) (p .job) (p .stands) {ok = Taking (sheet-in (a .s .now)) (a .r) (a .i) (c .before .before .find-message .result)}
+          (begins-taking (a .s .now) (p .lent) (a .c .now) (a .t) (p .job) (p .stands) (a .r) (a .i) (p .begins) (c .before .before .find-message .result) (c .before .if1 .taken)),
+      c .before .if1 .taken,
+    )
 
 -- src/receives.rt:53:9
 same-length : tie.Need-same-length
@@ -41,13 +45,13 @@ same-length c = search needs
 returns : tie.Need-returns
 returns c =
     λ lent x d b k.
-      let a = c .before .before .before .before .before .before .before .before .before .args in
-      let s = sheet-in (a .s .now) in
-      let found = c .before .before .before .before .before .find-message in
-      subst (λ (y : Job). Decodes s (c .before .before .take .last .1 .0) (c .before .before .take .result) y)
-        (initiating-taken s (a .r) (a .i) (two (a .c .now) (word-at messages-at (found .result))) x k
-          (message-found (a .s .now) lent (a .c .now) (a .t) x d (a .i) (found .result) (found .ensures) (c .before .before .before .before .if1 .taken)))
-        (c .before .before .take .ensures x (d .decodes) (begins-taking (a .s .now) lent (a .c .now) (a .t) x d (a .r) (a .i) b (found .result) (c .before .before .before .before .if1 .taken)))
+    let a = c .before .before .before .before .before .before .before .before .before .args in
+    let s = sheet-in (a .s .now) in
+    let found = c .before .before .before .before .before .find-message in
+    subst (λ (y : Job). Decodes s (c .before .before .take .last .1 .0) (c .before .before .take .result) y)
+    (initiating-taken s (a .r) (a .i) (two (a .c .now) (word-at messages-at (found .result))) x k
+    (message-found (a .s .now) lent (a .c .now) (a .t) x d (a .i) (found .result) (found .ensures) (c .before .before .before .before .if1 .taken)))
+    (c .before .before .take .ensures x (d .decodes) (begins-taking (a .s .now) lent (a .c .now) (a .t) x d (a .r) (a .i) b (found .result) (c .before .before .before .before .if1 .taken)))
 
 -- src/receives.rt:55:5
 post-requires : tie.Need-post-requires
@@ -55,7 +59,7 @@ post-requires c κs =
     let a = c .before .before .before .before .before .before .args in
     let p = c .before .before .before .before .before .before .pre in
     ready-of (a .s .now) (p .lent) (a .c .now) (a .t) (p .job) (p .stands) {ok = Posting (sheet-in (a .s .now)) (a .r) (a .i)}
-      (begins-fresh (a .s .now) (p .lent) (a .c .now) (a .t) (p .job) (p .stands) (a .r) (a .i) (p .begins))
+    (begins-fresh (a .s .now) (p .lent) (a .c .now) (a .t) (p .job) (p .stands) (a .r) (a .i) (p .begins))
 
 -- src/receives.rt:46:1
 same-length-2 : tie.Need-same-length-2
@@ -65,12 +69,12 @@ same-length-2 c = search needs
 returns-2 : tie.Need-returns-2
 returns-2 c =
     λ lent x d b k.
-      let a = c .before .before .before .before .before .before .before .before .before .args in
-      let s = sheet-in (a .s .now) in
-      let found = c .before .before .before .before .before .find-message in
-      subst (λ (y : Job). Decodes s (c .before .before .post .last .1 .0) (c .before .before .post .result) y)
-        (initiating-posted s (a .r) (a .i) x k (message-missing (a .s .now) lent (a .c .now) (a .t) x d (a .i) (found .result) (found .ensures) (c .before .before .before .before .if1 .left)))
-        (c .before .before .post .ensures x (d .decodes) (begins-fresh (a .s .now) lent (a .c .now) (a .t) x d (a .r) (a .i) b))
+    let a = c .before .before .before .before .before .before .before .before .before .args in
+    let s = sheet-in (a .s .now) in
+    let found = c .before .before .before .before .before .find-message in
+    subst (λ (y : Job). Decodes s (c .before .before .post .last .1 .0) (c .before .before .post .result) y)
+    (initiating-posted s (a .r) (a .i) x k (message-missing (a .s .now) lent (a .c .now) (a .t) x d (a .i) (found .result) (found .ensures) (c .before .before .before .before .if1 .left)))
+    (c .before .before .post .ensures x (d .decodes) (begins-fresh (a .s .now) lent (a .c .now) (a .t) x d (a .r) (a .i) b))
 
 pub begin-spec : {M : Type 1} → statement M
 begin-spec =

@@ -24,14 +24,16 @@ initiate-requires : tie.Need-initiate-requires
 initiate-requires c κs =
     let a = c .before .before .before .before .before .before .before .args in
     let p = c .before .before .before .before .before .before .before .pre in
-    let s = sheet-in (a .s .now) in
-    (record {
-      laid = p .laid;
-      good = p .good;
-      job = pend-receive (a .i) (p .job);
-      decodes = c .before .before .before .pend-receive .ensures s (p .job) (p .decodes) (p .fine .inside);
-      fine = posted-seated s (a .r) (a .i) (p .job) (p .fine .seated);
-    }, p .fine .inside)
+    let s = sheet-in (a .s .now) in (
+      record {
+        laid = p .laid;
+        good = p .good;
+        job = pend-receive (a .i) (p .job);
+        decodes = c .before .before .before .pend-receive .ensures s (p .job) (p .decodes) (p .fine .inside);
+        fine = posted-seated s (a .r) (a .i) (p .job) (p .fine .seated);
+      },
+      p .fine .inside,
+    )
 
 -- src/receives.rt:24:1
 same-length : tie.Need-same-length
@@ -41,9 +43,9 @@ same-length c = search needs
 returns : tie.Need-returns
 returns c =
     λ x d ok.
-      let a = c .before .before .before .before .before .before .before .before .before .before .args in
-      let s = sheet-in (a .s .now) in
-      c .before .before .initiate .ensures (pend-receive (a .i) x) (c .before .before .before .before .before .before .pend-receive .ensures s x d (ok .inside)) (posted-seated s (a .r) (a .i) x (ok .seated))
+    let a = c .before .before .before .before .before .before .before .before .before .before .args in
+    let s = sheet-in (a .s .now) in
+    c .before .before .initiate .ensures (pend-receive (a .i) x) (c .before .before .before .before .before .before .pend-receive .ensures s x d (ok .inside)) (posted-seated s (a .r) (a .i) x (ok .seated))
 
 pub post-spec : {M : Type 1} → statement M
 post-spec = tie.close (tie.spec pend-receive-requires initiate-requires same-length returns)

@@ -60,22 +60,24 @@ module _ (c : tie.After-take-message) (x : Job) (d : Decodes (sheet-in (c .befor
       let s = sheet-in (a .args .s .now) in
       let y : Job = matched-rows s m (a .args .i) (release s m x) in
       matched-taken s m (a .args .i) x (c .take-message .last .0) (c .take-message .result) (ok .fresh .no-receive)
-        (c .take-message .ensures m s y (c .before .before .before .before .meet .ensures x d (inside, ok .fresh .inside))
-          (first-at-as (x .messages) (y .messages) (a .args .k) m (rows-messages s m (a .args .i) x) read (ok .first)))
+      (c .take-message .ensures m s y (c .before .before .before .before .meet .ensures x d (inside, ok .fresh .inside))
+      (first-at-as (x .messages) (y .messages) (a .args .k) m (rows-messages s m (a .args .i) x) read (ok .first)))
 
 -- src/receives.rt:41:5
 initiate-requires : tie.Need-initiate-requires
 initiate-requires c κs =
     let a = c .before .before .before .before .before .before .before .before .before .before .before .before .before .args in
     let p = c .before .before .before .before .before .before .before .before .before .before .before .before .before .pre .0 in
-    let s = sheet-in (a .s .now) in
-    (record {
-      laid = p .laid;
-      good = p .good;
-      job = matched s (c .before .before .before .before .before .before .before .before .before .word-of .result) (a .i) (p .job);
-      decodes = done (c .before .before .before) (p .job) (p .decodes) (p .fine);
-      fine = matched-seated s (c .before .before .before .before .before .before .before .before .before .word-of .result) (a .i) (p .job) (a .r) (p .fine .fresh .seated);
-    }, p .fine .fresh .inside)
+    let s = sheet-in (a .s .now) in (
+      record {
+        laid = p .laid;
+        good = p .good;
+        job = matched s (c .before .before .before .before .before .before .before .before .before .word-of .result) (a .i) (p .job);
+        decodes = done (c .before .before .before) (p .job) (p .decodes) (p .fine);
+        fine = matched-seated s (c .before .before .before .before .before .before .before .before .before .word-of .result) (a .i) (p .job) (a .r) (p .fine .fresh .seated);
+      },
+      p .fine .fresh .inside,
+    )
 
 -- src/receives.rt:34:1
 same-length : tie.Need-same-length
@@ -85,11 +87,11 @@ same-length c = search needs
 returns : tie.Need-returns
 returns c =
     λ x d ok.
-      let a = c .before .before .before .before .before .before .before .before .before .before .before .before .before .before .before .before .args in
-      let s = sheet-in (a .s .now) in
-      let m = c .before .before .before .before .before .before .before .before .before .before .before .before .word-of .result in
-      subst (λ (n : ℕ). Decodes s (c .before .before .initiate .last .1 .0) (c .before .before .before .before .before .before .take-message .result) (initiated s (a .r) (a .i) (matched s n (a .i) x))) (c .before .before .before .before .before .before .before .before .before .before .before .before .word-of .ensures .0)
-        (c .before .before .initiate .ensures (matched s m (a .i) x) (done (c .before .before .before .before .before .before) x d ok) (matched-seated s m (a .i) x (a .r) (ok .fresh .seated)))
+    let a = c .before .before .before .before .before .before .before .before .before .before .before .before .before .before .before .before .args in
+    let s = sheet-in (a .s .now) in
+    let m = c .before .before .before .before .before .before .before .before .before .before .before .before .word-of .result in
+    subst (λ (n : ℕ). Decodes s (c .before .before .initiate .last .1 .0) (c .before .before .before .before .before .before .take-message .result) (initiated s (a .r) (a .i) (matched s n (a .i) x))) (c .before .before .before .before .before .before .before .before .before .before .before .before .word-of .ensures .0)
+    (c .before .before .initiate .ensures (matched s m (a .i) x) (done (c .before .before .before .before .before .before) x d ok) (matched-seated s m (a .i) x (a .r) (ok .fresh .seated)))
 
 pub take-spec : {M : Type 1} → statement M
 take-spec =

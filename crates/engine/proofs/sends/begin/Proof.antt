@@ -1,3 +1,13 @@
+-- `engine::sends::begin` meets its contract: by what the search found, each way is the definition's. Assumes nothing.
+use mathlib.Core.Path.{_≡_, subst}
+use native.Mathlib.Omega.{arith}
+use Rattle.rules.specs.Sheet.{sheet-in, two}
+use Rattle.rules.specs.Job.{Job}
+use Rattle.state.specs.Layout.{word-at, receives-at}
+use Rattle.state.specs.Decodes.{Decodes}
+use Rattle.engine.specs.Moves.{ready-reads}
+use Rattle.engine.specs.Initiate.{Fresh, Giving, listed-receives, ready-of, begins-fresh, begins-giving, receive-found, receive-missing}
+use Rattle.engine.specs.Unmatched.{initiating-given, initiating-left}
 use borrow.Author.Needs.{needs}
 use Rattle.engine.proofs.sends.begin.Statement.{statement}
 use Rattle.engine.proofs.sends.begin.Tie as tie
@@ -9,11 +19,24 @@ use Rattle.engine.proofs.sends.leave.Reads as leave-reads
 
 -- src/sends.rt:95:9
 find-receive-requires : tie.Need-find-receive-requires
-find-receive-requires c κs = ?
+find-receive-requires c κs =
+    let a = c .before .before .before .args in
+    let p = c .before .before .before .pre in
+    let f = begins-fresh (a .s .now) (p .lent) (a .c .now) (a .t) (p .job) (p .stands) (a .r) (a .i) (p .begins) in (
+      ready-reads (ready-of (a .s .now) (p .lent) (a .c .now) (a .t) (p .job) (p .stands) {ok = Fresh (sheet-in (a .s .now)) (a .r) (a .i)} f),
+      listed-receives (a .s .now) (p .lent) (a .c .now) (a .t) (p .job) (p .stands),
+      f .inside,
+    )
 
 -- src/sends.rt:97:9
 give-requires : tie.Need-give-requires
-give-requires c κs = ?
+give-requires c κs =
+    let a = c .before .before .before .before .before .before .args in
+    let p = c .before .before .before .before .before .before .pre in (
+      ready-of (a .s .now) (p .lent) (a .c .now) (a .t) (p .job) (p .stands) {ok = Giving (sheet-in (a .s .now)) (a .r) (a .i) (c .before .before .find-receive .result)}
+          (begins-giving (a .s .now) (p .lent) (a .c .now) (a .t) (p .job) (p .stands) (a .r) (a .i) (p .begins) (c .before .before .find-receive .result) (c .before .if1 .taken)),
+      c .before .if1 .taken,
+    )
 
 -- src/sends.rt:97:9
 same-length : tie.Need-same-length
@@ -21,11 +44,23 @@ same-length c = search needs
 
 -- src/sends.rt:97:9
 returns : tie.Need-returns
-returns c = ?
+returns c =
+    λ lent x d b k.
+    let a = c .before .before .before .before .before .before .before .before .before .args in
+    let s = sheet-in (a .s .now) in
+    let found = c .before .before .before .before .before .find-receive in
+    subst (λ (y : Job). Decodes s (c .before .before .give .last .1 .0) (c .before .before .give .result) y)
+    (initiating-given s (a .r) (a .i) (two (a .c .now) (word-at receives-at (found .result))) x k
+    (receive-found (a .s .now) lent (a .c .now) (a .t) x d (a .i) (found .result) (found .ensures) (c .before .before .before .before .if1 .taken)))
+    (c .before .before .give .ensures x (d .decodes) (begins-giving (a .s .now) lent (a .c .now) (a .t) x d (a .r) (a .i) b (found .result) (c .before .before .before .before .if1 .taken)))
 
 -- src/sends.rt:99:5
 leave-requires : tie.Need-leave-requires
-leave-requires c κs = ?
+leave-requires c κs =
+    let a = c .before .before .before .before .before .before .args in
+    let p = c .before .before .before .before .before .before .pre in
+    ready-of (a .s .now) (p .lent) (a .c .now) (a .t) (p .job) (p .stands) {ok = Fresh (sheet-in (a .s .now)) (a .r) (a .i)}
+    (begins-fresh (a .s .now) (p .lent) (a .c .now) (a .t) (p .job) (p .stands) (a .r) (a .i) (p .begins))
 
 -- src/sends.rt:90:1
 same-length-2 : tie.Need-same-length-2
@@ -33,7 +68,14 @@ same-length-2 c = search needs
 
 -- src/sends.rt:90:1
 returns-2 : tie.Need-returns-2
-returns-2 c = ?
+returns-2 c =
+    λ lent x d b k.
+    let a = c .before .before .before .before .before .before .before .before .before .args in
+    let s = sheet-in (a .s .now) in
+    let found = c .before .before .before .before .before .find-receive in
+    subst (λ (y : Job). Decodes s (c .before .before .leave .last .1 .0) (c .before .before .leave .result) y)
+    (initiating-left s (a .r) (a .i) x k (receive-missing (a .s .now) lent (a .c .now) (a .t) x d (a .i) (found .result) (found .ensures) (c .before .before .before .before .if1 .left)))
+    (c .before .before .leave .ensures x (d .decodes) (begins-fresh (a .s .now) lent (a .c .now) (a .t) x d (a .r) (a .i) b))
 
 pub begin-spec : {M : Type 1} → statement M
 begin-spec =

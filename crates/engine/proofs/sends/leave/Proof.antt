@@ -1,3 +1,13 @@
+-- `engine::sends::leave` meets its contract: by mode, each way is the definition's. Assumes nothing.
+use mathlib.Core.Path.{_≡_, _∙_, sym, ap, subst}
+use native.Mathlib.Omega.{arith}
+use Rattle.rules.specs.Sheet.{Op, sheet-in}
+use Rattle.rules.specs.Job.{Job}
+use Rattle.rules.specs.Step.{stopped}
+use Rattle.laws.specs.Decoded.{op-by, op-within}
+use Rattle.state.specs.declared.Tally.{Tally}
+use Rattle.state.specs.Decodes.{Decodes, stop-put}
+use Rattle.engine.specs.Unmatched.{unmatched-ready, unmatched-buffered, unmatched-pending}
 use borrow.Author.Needs.{needs}
 use Rattle.engine.proofs.sends.leave.Statement.{statement}
 use Rattle.engine.proofs.sends.leave.Tie as tie
@@ -31,7 +41,7 @@ add-kind-2 c = search needs
 
 -- src/sends.rt:79:9
 kind-requires : tie.Need-kind-requires
-kind-requires c κs = ?
+kind-requires c κs = op-within (c .before .before .before .args .s .now) (c .before .before .before .args .i) (c .boards .result) (c .before .before .before .pre .fine .inside) (c .boards .ensures .0) (c .before .before .before .pre .laid .whole)
 
 -- src/sends.rt:81:9
 halting-requires : tie.Need-halting-requires
@@ -39,7 +49,13 @@ halting-requires c κs = search needs
 
 -- src/sends.rt:81:9
 returns : tie.Need-returns
-returns c = ?
+returns c =
+    λ x d ok.
+    let a = c .before .before .before .before .before .before .args in
+    let s = sheet-in (a .s .now) in
+    let kind = c .before .before .kind .ensures .0 ∙ ap (λ (o : Op). o .kind) (op-by (a .s .now) (a .i) (c .before .before .before .boards .result) (ok .inside) (c .before .before .before .boards .ensures .0)) in
+    subst (λ (y : Job). Decodes s (a .c .now) (c .halting .result) y) (unmatched-ready s (a .r) (a .i) (c .before .before .kind .result) x kind (c .before .if1 .taken))
+    (subst (λ (u : Tally). Decodes s (a .c .now) u (stopped 4 (a .r) (a .i) x)) (sym (c .halting .ensures)) (stop-put s (a .c .now) (a .t) x d 4 (a .r) (a .i) (λ e. absurd (omega arith))))
 
 -- src/sends.rt:84:9
 buffer-or-stop-requires : tie.Need-buffer-or-stop-requires
@@ -51,7 +67,13 @@ same-length c = search needs
 
 -- src/sends.rt:84:9
 returns-2 : tie.Need-returns-2
-returns-2 c = ?
+returns-2 c =
+    λ x d ok.
+    let a = c .before .before .before .before .before .before .before .before .before .before .args in
+    let s = sheet-in (a .s .now) in
+    let kind = c .before .before .before .before .before .before .kind .ensures .0 ∙ ap (λ (o : Op). o .kind) (op-by (a .s .now) (a .i) (c .before .before .before .before .before .before .before .boards .result) (ok .inside) (c .before .before .before .before .before .before .before .boards .ensures .0)) in
+    subst (λ (y : Job). Decodes s (c .before .before .buffer-or-stop .last .1 .0) (c .before .before .buffer-or-stop .result) y)
+    (unmatched-buffered s (a .r) (a .i) (c .before .before .before .before .before .before .kind .result) x kind (c .before .before .before .before .before .if1 .left) (c .before .before .before .before .if2 .taken)) (c .before .before .buffer-or-stop .ensures x d ok)
 
 -- src/sends.rt:86:5
 pend-requires : tie.Need-pend-requires
@@ -63,7 +85,13 @@ same-length-2 c = search needs
 
 -- src/sends.rt:75:1
 returns-3 : tie.Need-returns-3
-returns-3 c = ?
+returns-3 c =
+    λ x d ok.
+    let a = c .before .before .before .before .before .before .before .before .before .before .args in
+    let s = sheet-in (a .s .now) in
+    let kind = c .before .before .before .before .before .before .kind .ensures .0 ∙ ap (λ (o : Op). o .kind) (op-by (a .s .now) (a .i) (c .before .before .before .before .before .before .before .boards .result) (ok .inside) (c .before .before .before .before .before .before .before .boards .ensures .0)) in
+    subst (λ (y : Job). Decodes s (c .before .before .pend .last .1 .0) (c .before .before .pend .result) y)
+    (unmatched-pending s (a .r) (a .i) (c .before .before .before .before .before .before .kind .result) x kind (c .before .before .before .before .before .if1 .left) (c .before .before .before .before .if2 .left)) (c .before .before .pend .ensures x d ok)
 
 pub leave-spec : {M : Type 1} → statement M
 leave-spec =

@@ -55,11 +55,11 @@ same-length c = search needs
 returns : tie.Need-returns
 returns c =
     λ x d ok.
-      let a = c .before .before .before .before .before .before .before .before .before .args in
-      let s = sheet-in (a .s .now) in
-      let flag = c .before .before .before .before .before .flag .ensures .0 ∙ ap (λ (o : Op). o .flag) (op-by (a .s .now) (a .i) (c .before .before .before .before .before .before .boards .result) (c .before .before .before .before .before .before .before .before .before .pre .1) (c .before .before .before .before .before .before .boards .ensures .0)) in
-      subst (λ (y : Job). Decodes s (c .before .before .finish-one .last .0) (a .t) y) (initiated-finished s (a .r) (a .i) x (sym flag ∙ c .before .before .before .before .if1 .taken))
-        (c .before .before .finish-one .ensures (a .t) s x d (ok .there, ok .room))
+    let a = c .before .before .before .before .before .before .before .before .before .args in
+    let s = sheet-in (a .s .now) in
+    let flag = c .before .before .before .before .before .flag .ensures .0 ∙ ap (λ (o : Op). o .flag) (op-by (a .s .now) (a .i) (c .before .before .before .before .before .before .boards .result) (c .before .before .before .before .before .before .before .before .before .pre .1) (c .before .before .before .before .before .before .boards .ensures .0)) in
+    subst (λ (y : Job). Decodes s (c .before .before .finish-one .last .0) (a .t) y) (initiated-finished s (a .r) (a .i) x (sym flag ∙ c .before .before .before .before .if1 .taken))
+    (c .before .before .finish-one .ensures (a .t) s x d (ok .there, ok .room))
 
 -- src/step.rt:21:1
 same-length-2 : tie.Need-same-length-2
@@ -69,11 +69,11 @@ same-length-2 c = search needs
 returns-2 : tie.Need-returns-2
 returns-2 c =
     λ x d ok.
-      let a = c .before .before .before .before .before .before .before .before .before .args in
-      let s = sheet-in (a .s .now) in
-      let flag = c .before .before .before .before .before .flag .ensures .0 ∙ ap (λ (o : Op). o .flag) (op-by (a .s .now) (a .i) (c .before .before .before .before .before .before .boards .result) (c .before .before .before .before .before .before .before .before .before .pre .1) (c .before .before .before .before .before .before .boards .ensures .0)) in
-      subst (λ (y : Job). Decodes s (c .before .before .start-waiting .last .0) (a .t) y) (initiated-waiting s (a .r) (a .i) x (λ e. c .before .before .before .before .if1 .left (flag ∙ e)))
-        (c .before .before .start-waiting .ensures (a .t) s x d (ok .there))
+    let a = c .before .before .before .before .before .before .before .before .before .args in
+    let s = sheet-in (a .s .now) in
+    let flag = c .before .before .before .before .before .flag .ensures .0 ∙ ap (λ (o : Op). o .flag) (op-by (a .s .now) (a .i) (c .before .before .before .before .before .before .boards .result) (c .before .before .before .before .before .before .before .before .before .pre .1) (c .before .before .before .before .before .before .boards .ensures .0)) in
+    subst (λ (y : Job). Decodes s (c .before .before .start-waiting .last .0) (a .t) y) (initiated-waiting s (a .r) (a .i) x (λ e. c .before .before .before .before .if1 .left (flag ∙ e)))
+    (c .before .before .start-waiting .ensures (a .t) s x d (ok .there))
 
 pub initiate-spec : {M : Type 1} → statement M
 initiate-spec =

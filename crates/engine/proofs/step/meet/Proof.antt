@@ -34,8 +34,8 @@ same-length c = search needs
 returns : tie.Need-returns
 returns c =
     λ x d ok.
-      let s = sheet-in (c .before .before .before .before .before .before .before .before .before .before .args .s .now) in
-      c .before .before .put-rows .ensures (release s (c .before .before .before .before .before .before .before .before .before .before .args .m) x) (c .before .before .before .before .before .before .release-charge .ensures x d (ok .0)) ok
+    let s = sheet-in (c .before .before .before .before .before .before .before .before .before .before .args .s .now) in
+    c .before .before .put-rows .ensures (release s (c .before .before .before .before .before .before .before .before .before .before .args .m) x) (c .before .before .before .before .before .before .release-charge .ensures x d (ok .0)) ok
 
 pub meet-spec : {M : Type 1} → statement M
 meet-spec = tie.close (tie.spec release-charge-requires put-rows-requires same-length returns)

@@ -88,23 +88,23 @@ returns : tie.Need-returns
 unfolding is-cut
 returns c =
     λ x d ok.
-      let a = c .before .before .before .before .before .before .before .before .before .before .before .before .before .args in
-      let sent = op-by (a .s .now) (a .m) (c .before .before .before .before .before .before .before .before .before .before .boards .result) (ok .0) (c .before .before .before .before .before .before .before .before .before .before .boards .ensures .0) in
-      let posted = op-by (a .s .now) (a .r) (c .before .before .before .before .before .before .before .before .before .before .boards .result) (ok .1) (c .before .before .before .before .before .before .before .before .before .before .boards .ensures .0) in
-      let long = c .before .before .before .before .before .before .before .before .long .ensures .0 ∙ ap (λ (o : Op). o .long) sent in
-      let capacity = c .before .before .before .before .before .before .before .long2 .ensures .0 ∙ ap (λ (o : Op). o .long) posted in
-      c .before .before .match-rows .ensures (a .t) (sheet-in (a .s .now)) x d
-        (record {
-          sent-inside = ok .0;
-          received-inside = ok .1;
-          cut-is = c .before .before .before .before .before .before .is-cut .ensures ∙ ap₂ (λ (m n : ℕ). cond (ltb m n) 1 0) capacity long;
-          source-is = c .before .before .before .before .rank-at .ensures .0 ∙ d .indexed .rank-is (a .m) (ok .0);
-          tag-is = c .before .before .before .before .before .before .before .before .before .tag .ensures .0 ∙ ap (λ (o : Op). o .tag) sent;
-          long-is = long;
-          source-fits = omega (arith, c .before .before .before .before .rank-at .ensures .1);
-          tag-fits = c .before .before .before .before .before .before .before .before .before .tag .ensures .1;
-          long-fits = c .before .before .before .before .before .before .before .before .long .ensures .1;
-        })
+    let a = c .before .before .before .before .before .before .before .before .before .before .before .before .before .args in
+    let sent = op-by (a .s .now) (a .m) (c .before .before .before .before .before .before .before .before .before .before .boards .result) (ok .0) (c .before .before .before .before .before .before .before .before .before .before .boards .ensures .0) in
+    let posted = op-by (a .s .now) (a .r) (c .before .before .before .before .before .before .before .before .before .before .boards .result) (ok .1) (c .before .before .before .before .before .before .before .before .before .before .boards .ensures .0) in
+    let long = c .before .before .before .before .before .before .before .before .long .ensures .0 ∙ ap (λ (o : Op). o .long) sent in
+    let capacity = c .before .before .before .before .before .before .before .long2 .ensures .0 ∙ ap (λ (o : Op). o .long) posted in
+    c .before .before .match-rows .ensures (a .t) (sheet-in (a .s .now)) x d
+    (record {
+      sent-inside = ok .0;
+      received-inside = ok .1;
+      cut-is = c .before .before .before .before .before .before .is-cut .ensures ∙ ap₂ (λ (m n : ℕ). cond (ltb m n) 1 0) capacity long;
+      source-is = c .before .before .before .before .rank-at .ensures .0 ∙ d .indexed .rank-is (a .m) (ok .0);
+      tag-is = c .before .before .before .before .before .before .before .before .before .tag .ensures .0 ∙ ap (λ (o : Op). o .tag) sent;
+      long-is = long;
+      source-fits = omega (arith, c .before .before .before .before .rank-at .ensures .1);
+      tag-fits = c .before .before .before .before .before .before .before .before .before .tag .ensures .1;
+      long-fits = c .before .before .before .before .before .before .before .before .long .ensures .1;
+    })
 
 pub put-rows-spec : {M : Type 1} → statement M
 put-rows-spec =

@@ -65,14 +65,14 @@ same-length c = search needs
 returns : tie.Need-returns
 returns c =
     λ x d ok.
-      let a = c .before .before .before .before .before .before .before .before .before .before .before .before .before .args in
-      let p = c .before .before .before .before .before .before .before .before .before .before .before .before .before .pre in
-      let s = sheet-in (a .s .now) in
-      let state = c .before .before .before .before .before .before .before .before .before .state-of .ensures .0 ∙ ap (λ (e : Entry). e .state) (entry-is s (a .c .now) (a .t) x d (a .m) ok) in
-      let rank = c .before .before .before .before .rank-at .ensures .0 ∙ d .indexed .rank-is (a .m) ok in
-      let long = c .before .before .before .before .before .before .long .ensures .0 ∙ ap (λ (o : Op). o .long) (op-by (a .s .now) (a .m) (c .before .before .before .before .before .before .before .boards .result) ok (c .before .before .before .before .before .before .before .boards .ensures .0)) in
-      subst (λ (y : Job). Decodes s (c .before .before .release .last .0) (a .t) y) (release-charged s (a .m) (c .before .before .before .before .rank-at .result) (c .before .before .before .before .before .before .long .result) x (sym state ∙ c .before .before .before .before .before .before .before .before .if1 .taken) rank long)
-        (c .before .before .release .ensures (a .t) s x d (subst (λ (n : ℕ). n < P-of s) (sym rank) (p .good .rank-small (a .m) ok)))
+    let a = c .before .before .before .before .before .before .before .before .before .before .before .before .before .args in
+    let p = c .before .before .before .before .before .before .before .before .before .before .before .before .before .pre in
+    let s = sheet-in (a .s .now) in
+    let state = c .before .before .before .before .before .before .before .before .before .state-of .ensures .0 ∙ ap (λ (e : Entry). e .state) (entry-is s (a .c .now) (a .t) x d (a .m) ok) in
+    let rank = c .before .before .before .before .rank-at .ensures .0 ∙ d .indexed .rank-is (a .m) ok in
+    let long = c .before .before .before .before .before .before .long .ensures .0 ∙ ap (λ (o : Op). o .long) (op-by (a .s .now) (a .m) (c .before .before .before .before .before .before .before .boards .result) ok (c .before .before .before .before .before .before .before .boards .ensures .0)) in
+    subst (λ (y : Job). Decodes s (c .before .before .release .last .0) (a .t) y) (release-charged s (a .m) (c .before .before .before .before .rank-at .result) (c .before .before .before .before .before .before .long .result) x (sym state ∙ c .before .before .before .before .before .before .before .before .if1 .taken) rank long)
+    (c .before .before .release .ensures (a .t) s x d (subst (λ (n : ℕ). n < P-of s) (sym rank) (p .good .rank-small (a .m) ok)))
 
 -- src/step.rt:33:1
 same-length-2 : tie.Need-same-length-2
@@ -82,10 +82,10 @@ same-length-2 c = search needs
 returns-2 : tie.Need-returns-2
 returns-2 c =
     λ x d ok.
-      let a = c .before .before .before .before .before .args in
-      let s = sheet-in (a .s .now) in
-      let state = c .before .state-of .ensures .0 ∙ ap (λ (e : Entry). e .state) (entry-is s (a .c .now) (a .t) x d (a .m) ok) in
-      subst (λ (y : Job). Decodes s (a .c .now) (a .t) y) (release-none s (a .m) x (λ e. c .if1 .left (state ∙ e))) d
+    let a = c .before .before .before .before .before .args in
+    let s = sheet-in (a .s .now) in
+    let state = c .before .state-of .ensures .0 ∙ ap (λ (e : Entry). e .state) (entry-is s (a .c .now) (a .t) x d (a .m) ok) in
+    subst (λ (y : Job). Decodes s (a .c .now) (a .t) y) (release-none s (a .m) x (λ e. c .if1 .left (state ∙ e))) d
 
 pub release-charge-spec : {M : Type 1} → statement M
 release-charge-spec =
