@@ -4,6 +4,7 @@
 --   Moves    what the parts of a step do to scratch
 --   Initiate what initiating steps ask, and what the invariant gives
 --   Unmatched a send that nothing fits, by its mode
+--   Turn     a whole step
 --   Initiate initiating steps in scratch are those of rules
 --   Able     whether a board is able, test by test
 --   SetupTables   the tables of ranks and waits, filled script by script
@@ -14,5 +15,6 @@ pub mod Search
 pub mod Moves
 pub mod Initiate
 pub mod Unmatched
+pub mod Turn
 pub mod SetupTables
 pub mod SetupWalk

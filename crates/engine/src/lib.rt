@@ -5,3 +5,4 @@ pub mod search;
 pub mod sends;
 pub mod setup;
 pub mod step;
+pub mod turn;

@@ -40,9 +40,9 @@ unfolding refusal
 chain-rest true n rest h = absurd (omega arith)
 chain-rest false n rest h = h
 
-pub passed-accepted : (bs : List ℕ) → passes bs ≡ true → Accepted bs
-unfolding passes sheet-refusal
-passed-accepted bs h =
+pub unrefused-accepted : (bs : List ℕ) → sheet-refusal bs .number ≡ 0 → Accepted bs
+unfolding sheet-refusal
+unrefused-accepted bs h =
     record {
       sizes = not-false (sizes-good bs) (chain-test (not (sizes-good bs)) 1 after-sizes from-sizes);
       layout = not-false (layout-good bs) (chain-test (not (layout-good bs)) 2 after-layout from-layout);
@@ -60,10 +60,15 @@ passed-accepted bs h =
     from-sizes : cond (not (sizes-good bs)) (refusal 2 0) after-sizes .number ≡ 0
     from-sizes =
         chain-rest (ltb (length bs) header-size) 0 (cond (not (sizes-good bs)) (refusal 2 0) after-sizes)
-        (eqb-true (sheet-refusal bs .number) 0 (and-right (all-bytes bs) (eqb (sheet-refusal bs .number) 0) h))
+        h
 
     from-layout : after-sizes .number ≡ 0
     from-layout = chain-rest (not (sizes-good bs)) 1 after-sizes from-sizes
+
+pub passed-accepted : (bs : List ℕ) → passes bs ≡ true → Accepted bs
+unfolding passes
+passed-accepted bs h =
+    unrefused-accepted bs (eqb-true (sheet-refusal bs .number) 0 (and-right (all-bytes bs) (eqb (sheet-refusal bs .number) 0) h))
 
 -- at least one communicator, which `Laid` leaves out
 sizes-comm : (bs : List ℕ) → sizes-good bs ≡ true → 1 ≤ C-in bs
@@ -124,9 +129,12 @@ module _ (s : Sheet) (h : tables-refusal s .number ≡ 0) where
       go zero e k = absurd (omega arith)
       go (suc p) e k = subst (λ (n : ℕ). inbox-start s n ≤ most-inbox) (sym e) (table .inbox-most p (omega arith))
 
-pub good-from-bytes : (bs : List ℕ) → passes bs ≡ true → Good (sheet-in bs)
+pub accepted-laid : (bs : List ℕ) → Accepted bs → Laid bs
+accepted-laid bs A = laid bs (A .sizes) (A .layout)
+
+pub good-from-accepted : (bs : List ℕ) → Accepted bs → Good (sheet-in bs)
 unfolding sheet-in
-good-from-bytes bs h =
+good-from-accepted bs A =
     record {
       some-board = omega (arith, P-decoded bs, L .some-board);
       boards-few = omega (arith, P-decoded bs, L .few-boards);
@@ -151,8 +159,8 @@ good-from-bytes bs h =
     s : Sheet
     s = sheet-in bs
 
-    A : Accepted bs
-    A = passed-accepted bs h
-
     L : Laid bs
-    L = laid bs (A .sizes) (A .layout)
+    L = accepted-laid bs A
+
+pub good-from-bytes : (bs : List ℕ) → passes bs ≡ true → Good (sheet-in bs)
+good-from-bytes bs h = good-from-accepted bs (passed-accepted bs h)

@@ -1,0 +1,30 @@
+use borrow.Author.Needs.{needs}
+use Rattle.engine.proofs.turn.take.Statement.{statement}
+use Rattle.engine.proofs.turn.take.Tie as tie
+use Rattle.engine.proofs.turn.take.Reads as reads
+use Rattle.engine.proofs.turn.take.Lts as lts
+use Rattle.engine.proofs.turn.uncounted.Reads as uncounted-reads
+use Rattle.state.proofs.tallies.stepping.Reads as stepping-reads
+
+-- src/turn.rt:59:16
+add-next : tie.Need-add-next
+add-next c = ?
+
+-- src/turn.rt:60:9
+uncounted-requires : tie.Need-uncounted-requires
+uncounted-requires c κs = search needs
+
+-- src/turn.rt:61:5
+stepping-requires : tie.Need-stepping-requires
+stepping-requires c κs = search needs
+
+-- src/turn.rt:55:1
+same-length : tie.Need-same-length
+same-length c = search needs
+
+-- src/turn.rt:55:1
+returns : tie.Need-returns
+returns c = ?
+
+pub take-spec : {M : Type 1} → statement M
+take-spec = tie.close (tie.spec add-next uncounted-requires stepping-requires same-length returns)
