@@ -10,7 +10,6 @@ ghost use Rattle.engine.specs.Stands.{Stands, Able-there};
 ghost use Rattle.state.specs.Decodes.{Decodes};
 ghost use Rattle.engine.specs.Moves.{Turns, Ready, Seated};
 ghost use Rattle.engine.specs.Turn.{moved};
-
 use crate::receives;
 use crate::sends;
 use sheet::boards;

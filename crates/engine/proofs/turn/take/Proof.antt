@@ -1,3 +1,6 @@
+-- `engine::turn::take` meets its contract: the step, counted. Assumes nothing.
+use native.Mathlib.Omega.{arith}
+use Rattle.engine.specs.Turn.{steps-room, stepped-stands}
 use borrow.Author.Needs.{needs}
 use Rattle.engine.proofs.turn.take.Statement.{statement}
 use Rattle.engine.proofs.turn.take.Tie as tie
@@ -8,7 +11,10 @@ use Rattle.state.proofs.tallies.stepping.Reads as stepping-reads
 
 -- src/turn.rt:59:16
 add-next : tie.Need-add-next
-add-next c = ?
+add-next c =
+    let a = c .before .before .before .args in
+    let p = c .before .before .before .pre in
+    omega (arith, steps-room (a .s .now) (p .lent) (a .c .now) (a .t) (p .job) (p .stands) (a .r) (p .is-able))
 
 -- src/turn.rt:60:9
 uncounted-requires : tie.Need-uncounted-requires
@@ -24,7 +30,11 @@ same-length c = search needs
 
 -- src/turn.rt:55:1
 returns : tie.Need-returns
-returns c = ?
+returns c =
+    λ lent x d e.
+    let a = c .before .before .before .before .before .before .before .before .args in
+    stepped-stands (a .s .now) lent (a .c .now) (a .t) x d (a .r) e (c .before .before .before .uncounted .last .1 .0) (c .before .before .before .uncounted .result) (c .stepping .result)
+    (c .before .before .before .uncounted .ensures lent x d e) (c .stepping .ensures)
 
 pub take-spec : {M : Type 1} → statement M
 take-spec = tie.close (tie.spec add-next uncounted-requires stepping-requires same-length returns)
