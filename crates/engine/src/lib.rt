@@ -1,1 +1,2 @@
 // The engine: boards step in lent scratch; then deliveries and the report are made from what scratch holds.
+pub mod deliveries;
