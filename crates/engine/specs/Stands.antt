@@ -4,24 +4,17 @@
 use mathlib.Core.Path.{_≡_}
 use mathlib.Core.Bool.{true}
 use mathlib.Core.List.{List}
-use mathlib.Core.Option.{some}
-use Prim.Native.Nat.{ℕ, _<_, _≤_}
-use lib.ListN.{length, getD}
-use Rattle.rules.specs.Sheet.{Sheet, sheet-in, op, N-of, rank-of, inbox-total, is-wait, two}
+use Prim.Native.Nat.{ℕ, _≤_}
+use lib.ListN.{length}
+use Rattle.rules.specs.Sheet.{sheet-in, inbox-total}
 use Rattle.rules.specs.Job.{Job}
-use Rattle.rules.specs.Step.{able, waited}
-use Rattle.rules.specs.Claims.{passes}
+use Rattle.rules.specs.Step.{able}
 use Rattle.laws.specs.Laid.{Laid}
 use Rattle.promises.specs.Good.{Good}
 use Rattle.promises.specs.Invariant.{Reached}
 use Rattle.state.specs.declared.Tally.{Tally}
-use Rattle.state.specs.Layout.{rank-at, word-at, waits-at}
 use Rattle.state.specs.Decodes.{Decodes}
-
--- the rank of each operation, and for each wait the operation that it waits for
-pub record Tables (s : Sheet) (c : List ℕ) : Type 0 where
-  pub ranks : (j : ℕ) → j < N-of s → getD c (rank-at j) 0 ≡ rank-of s j
-  pub waits : (j : ℕ) → j < N-of s → is-wait (op s j) ≡ true → waited s j ≡ some (two c (word-at waits-at j))
+use Rattle.state.specs.Indexed.{Indexed}
 
 -- `lent` is the inboxes as they were lent: the engine steps without them
 pub record Stands (bs lent c : List ℕ) (t : Tally) (x : Job) : Type 0 where
@@ -30,7 +23,7 @@ pub record Stands (bs lent c : List ℕ) (t : Tally) (x : Job) : Type 0 where
   pub room : inbox-total (sheet-in bs) ≤ length lent
   pub reached : Reached (sheet-in bs) lent x
   pub decodes : Decodes (sheet-in bs) c t x
-  pub tables : Tables (sheet-in bs) c
+  pub tables : Indexed (sheet-in bs) c
 
 -- some job stands there: what a function asks at its entry
 pub record Standing (bs c : List ℕ) (t : Tally) : Type 0 where

@@ -1,2 +1,3 @@
 // The engine: boards step in lent scratch; then deliveries and the report are made from what scratch holds.
+pub mod able;
 pub mod deliveries;

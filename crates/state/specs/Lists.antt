@@ -36,7 +36,7 @@ unfolding words-in low-two
 words-append c base n v f h =
     let d = splice c (word-at base n) (low-two v) in
     let old : tab (λ k. two d (word-at base k)) 0 n ≡ tab (λ k. two c (word-at base k)) 0 n =
-          words-same d c base n (splice-apart c (word-at base n) (low-two v) h base (word-at base n) (omega arith)) in
+    words-same d c base n (splice-apart c (word-at base n) (low-two v) h base (word-at base n) (omega arith)) in
     ap (λ (k : ℕ). tab (λ j. two d (word-at base j)) 0 k) (add-one n)
     ∙ (tab-snoc (λ k. two d (word-at base k)) n
     ∙ (ap (λ (xs : List ℕ). xs ++ (two d (word-at base n) ∷ [])) old ∙ ap (λ (z : ℕ). tab (λ k. two c (word-at base k)) 0 n ++ (z ∷ [])) (two-put c (word-at base n) v f h)))
@@ -52,15 +52,15 @@ words-remove c base n k l h =
     let d = splice c (word-at base k) vs in
     let long : length vs ≡ 2 * (n - k) = part-length c (word-at base k + 2) (2 * (n - k)) (omega arith) in
     let moved : (j : ℕ) → k ≤ j → j < n → two d (word-at base j) ≡ two c (word-at base (suc j)) =
-          λ j a b.
-            let m = 2 * (j - k) in
-            let e : word-at base k + m ≡ word-at base j = omega arith in
-            let p : (word-at base k + 2) + m ≡ word-at base (suc j) = omega arith in
-            let q : (word-at base k + 2) + (m + 1) ≡ word-at base (suc j) + 1 = omega arith in
-            ap (λ (i : ℕ). two d i) (sym e)
-            ∙ (two-within c (word-at base k) vs (omega arith) m (omega arith)
-            ∙ ((ap (λ (x : ℕ). x + 256 * getD vs (m + 1) 0) (part-at c (word-at base k + 2) (2 * (n - k)) m (omega arith) ∙ ap (λ (i : ℕ). getD c i 0) p))
-            ∙ ap (λ (x : ℕ). getD c (word-at base (suc j)) 0 + 256 * x) (part-at c (word-at base k + 2) (2 * (n - k)) (m + 1) (omega arith) ∙ ap (λ (i : ℕ). getD c i 0) q))) in
+    λ j a b.
+    let m = 2 * (j - k) in
+    let e : word-at base k + m ≡ word-at base j = omega arith in
+    let p : (word-at base k + 2) + m ≡ word-at base (suc j) = omega arith in
+    let q : (word-at base k + 2) + (m + 1) ≡ word-at base (suc j) + 1 = omega arith in
+    ap (λ (i : ℕ). two d i) (sym e)
+    ∙ (two-within c (word-at base k) vs (omega arith) m (omega arith)
+    ∙ ((ap (λ (x : ℕ). x + 256 * getD vs (m + 1) 0) (part-at c (word-at base k + 2) (2 * (n - k)) m (omega arith) ∙ ap (λ (i : ℕ). getD c i 0) p))
+    ∙ ap (λ (x : ℕ). getD c (word-at base (suc j)) 0 + 256 * x) (part-at c (word-at base k + 2) (2 * (n - k)) (m + 1) (omega arith) ∙ ap (λ (i : ℕ). getD c i 0) q))) in
     tab-out (λ j. two d (word-at base j)) (λ j. two c (word-at base j)) n k (omega arith)
     (λ j u. two-same d c (word-at base j) (splice-apart c (word-at base k) vs (omega arith) (word-at base j) (word-at base j + 2) (omega arith)))
     moved

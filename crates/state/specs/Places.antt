@@ -51,11 +51,11 @@ unfolding place-row low-two two place
 seat-put c at q f h =
     let z : at + 0 ≡ at = omega arith in
     let a : two (splice c at (place-row q)) at ≡ q .finished =
-          ap (λ (k : ℕ). two (splice c at (place-row q)) k) (sym z) ∙ (two-within c at (place-row q) h 0 (omega arith) ∙ two-bytes (q .finished) (f .finished-fits)) in
+    ap (λ (k : ℕ). two (splice c at (place-row q)) k) (sym z) ∙ (two-within c at (place-row q) h 0 (omega arith) ∙ two-bytes (q .finished) (f .finished-fits)) in
     let i : two (splice c at (place-row q)) (at + 2) ≡ q .in-use = two-within c at (place-row q) h 2 (omega arith) ∙ two-bytes (q .in-use) (f .in-use-fits) in
     let p : two (splice c at (place-row q)) (at + 4) ≡ q .peak = two-within c at (place-row q) h 4 (omega arith) ∙ two-bytes (q .peak) (f .peak-fits) in
     let w : eqb (getD (splice c at (place-row q)) (at + 6) 0) 1 ≡ q .waiting =
-          ap (λ (k : ℕ). eqb k 1) (splice-within c at (place-row q) h 6 (omega arith)) ∙ waiting-back (q .waiting) in
+    ap (λ (k : ℕ). eqb k 1) (splice-within c at (place-row q) h 6 (omega arith)) ∙ waiting-back (q .waiting) in
     let whole : place-in (splice c at (place-row q)) at ≡ place (q .finished) (q .waiting) (q .in-use) (q .peak) = cc in
     whole
 
@@ -71,3 +71,7 @@ places-put c r p q f l m h =
 pub places-at-rank : (c : List ℕ) (p r : ℕ) → r < p → getD (places-in c p) r (place 0 false 0 0) ≡ place-in c (seat-at r)
 unfolding places-in
 places-at-rank c p r l = tab-at (λ k. place-in c (seat-at k)) p r (place 0 false 0 0) l
+
+-- figures that were read and put again as a place that equals another
+pub seat-as : (c d : List ℕ) (r : ℕ) (q e : Place) → d ≡ splice c (seat-at r) (place-row q) → q ≡ e → d ≡ splice c (seat-at r) (place-row e)
+seat-as c d r q e h same = h ∙ ap (λ (z : Place). splice c (seat-at r) (place-row z)) same

@@ -69,8 +69,8 @@ bare-more c s d n i b l e =
       roomy = roomy;
       size = ap length e ∙ (splice-length s (row-at i) (op-row (bare-entry 0)) (omega arith) ∙ size);
       is =
-        splice-then c s d 0 (12 * i) (bare-rows i) (op-row (bare-entry 0)) (b .is) rows (e ∙ ap (λ (k : ℕ). splice s k (op-row (bare-entry 0))) (sym z)) (omega arith)
-        ∙ ap (λ (vs : List ℕ). splice c 0 vs) (rows-more i (bare-entry 0) ∙ ap bare-rows (sym (add-one i)));
+          splice-then c s d 0 (12 * i) (bare-rows i) (op-row (bare-entry 0)) (b .is) rows (e ∙ ap (λ (k : ℕ). splice s k (op-row (bare-entry 0))) (sym z)) (omega arith)
+          ∙ ap (λ (vs : List ℕ). splice c 0 vs) (rows-more i (bare-entry 0) ∙ ap bare-rows (sym (add-one i)));
     }
 
 -- n rows put one after another are the table
@@ -84,13 +84,13 @@ entries-filled c (suc n) e f m h =
     let size = splice-length c 0 (op-rows (replicate n e)) (omega arith) in
     let z : 0 + 12 * n ≡ 12 * n = zero-add (12 * n) in
     let both : splice d (row-at n) (op-row e) ≡ splice c 0 (op-rows (replicate (suc n) e)) =
-          splice-then c d (splice d (row-at n) (op-row e)) 0 (12 * n) (op-rows (replicate n e)) (op-row e) refl rows (ap (λ (k : ℕ). splice d k (op-row e)) (sym z)) (omega arith)
-          ∙ ap (λ (vs : List ℕ). splice c 0 vs) (rows-more n e) in
+    splice-then c d (splice d (row-at n) (op-row e)) 0 (12 * n) (op-rows (replicate n e)) (op-row e) refl rows (ap (λ (k : ℕ). splice d k (op-row e)) (sym z)) (omega arith)
+    ∙ ap (λ (vs : List ℕ). splice c 0 vs) (rows-more n e) in
     subst (λ (b : List ℕ). entries-in b (suc n) ≡ replicate (suc n) e) both
     (tab-snoc (λ i. entry-in (splice d (row-at n) (op-row e)) (row-at i)) n
     ∙ (ap₂ (λ (xs : List Entry) (y : Entry). xs ++ (y ∷ []))
-      (entries-same (splice d (row-at n) (op-row e)) d n (splice-apart d (row-at n) (op-row e) (omega arith) 0 (row-at n) (omega arith)) ∙ entries-filled c n e f (omega arith) h)
-      (row-put d (row-at n) e f (omega arith))
+    (entries-same (splice d (row-at n) (op-row e)) d n (splice-apart d (row-at n) (op-row e) (omega arith) 0 (row-at n) (omega arith)) ∙ entries-filled c n e f (omega arith) h)
+    (row-put d (row-at n) e f (omega arith))
     ∙ replicate-more n e))
 
 -- zero bytes are places at the start
@@ -112,10 +112,10 @@ places-zero c p m h =
     let zs : List ℕ = replicate (8 * p) 0 in
     let long : length zs ≡ 8 * p = length-replicate {A = ℕ} (8 * p) 0 in
     let byte : (j : ℕ) → places-at ≤ j → j < places-at + 8 * p → getD (splice c places-at zs) j 0 ≡ 0 =
-          λ j l u.
-            let k = j - places-at in
-            let e : places-at + k ≡ j = omega arith in
-            subst (λ (i : ℕ). getD (splice c places-at zs) i 0 ≡ 0) e (splice-within c places-at zs (omega arith) k (omega arith) ∙ getD-replicate (8 * p) k 0 0 (omega arith)) in
+    λ j l u.
+    let k = j - places-at in
+    let e : places-at + k ≡ j = omega arith in
+    subst (λ (i : ℕ). getD (splice c places-at zs) i 0 ≡ 0) e (splice-within c places-at zs (omega arith) k (omega arith) ∙ getD-replicate (8 * p) k 0 0 (omega arith)) in
     tab-all (λ r. place-in (splice c places-at zs) (seat-at r)) p (place 0 false 0 0) (λ r l. seat-zero (splice c places-at zs) (seat-at r) (λ j a b. byte j (omega arith) (omega arith)))
 
 -- what `init` leaves in scratch
@@ -138,9 +138,9 @@ started-decodes s c inboxes n p h =
       few-receives = omega arith;
       roomy = omega arith;
       entries-are =
-        sym
-        (entries-same (splice b places-at zs) b (N-of s) (splice-apart b places-at zs (omega arith) 0 (row-at (N-of s)) (omega arith))
-        ∙ entries-filled c (N-of s) (bare-entry 0)
+          sym
+          (entries-same (splice b places-at zs) b (N-of s) (splice-apart b places-at zs (omega arith) 0 (row-at (N-of s)) (omega arith))
+          ∙ entries-filled c (N-of s) (bare-entry 0)
           (record {
             partner-fits = omega arith;
             source-fits = omega arith;

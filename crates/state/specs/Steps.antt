@@ -38,14 +38,14 @@ module _ (s : Sheet) (c : List ℕ) (t : Tally) (x : Job) (d : Decodes s c t x) 
       let few : N-of s ≤ most-ops = d .few-ops in
       let sent : Entry = entry 3 0 r absent absent 0 in
       let one : Decodes s (splice c (row-at m) (op-row sent)) t (with-entries (set (x .entries) m sent) x) =
-            entry-put s c t x d m sent
-            (record {
-              partner-fits = omega arith;
-              source-fits = omega arith;
-              tag-fits = omega arith;
-              long-fits = omega arith;
-            })
-            lm in
+      entry-put s c t x d m sent
+      (record {
+        partner-fits = omega arith;
+        source-fits = omega arith;
+        tag-fits = omega arith;
+        long-fits = omega arith;
+      })
+      lm in
       let got : entry 3 cut m source tag long ≡ entry 3 (cond (is-cut s m r) 1 0) m (rank-of s m) (op s m .tag) (op s m .long) = cc in
       subst (λ (e : Entry). Decodes s (splice (splice c (row-at m) (op-row sent)) (row-at r) (op-row (entry 3 cut m source tag long))) t (with-entries (set (set (x .entries) m sent) r e) x)) got
       (entry-put s (splice c (row-at m) (op-row sent)) t (with-entries (set (x .entries) m sent) x) one r (entry 3 cut m source tag long)

@@ -45,7 +45,16 @@ fn put_front(c: &mut [u8], at: usize, state: u8, cut: u8, partner: usize)
 }
 
 // The whole row of operation i; its last two bytes are zero.
-fn put_row(c: &mut [u8], i: usize, state: u8, cut: u8, partner: usize, source: usize, tag: usize, long: usize)
+fn put_row(
+    c: &mut [u8],
+    i: usize,
+    state: u8,
+    cut: u8,
+    partner: usize,
+    source: usize,
+    tag: usize,
+    long: usize,
+)
     requires { ⌜ (i < most-ops) × (scratch-size ≤ length (now c)) ⌝ }
     ensures { λ _. ⌜ now (c .exit) ≡ splice (now (c .entry)) (row-at i) (op-row (entry state cut partner source tag long)) ⌝ }
 {
@@ -72,7 +81,15 @@ pub fn put_sent(c: &mut [u8], m: usize, r: usize)
 }
 
 // The row of receive r, matched with message m, with its status.
-pub fn put_received(c: &mut [u8], r: usize, cut: u8, m: usize, source: usize, tag: usize, long: usize)
+pub fn put_received(
+    c: &mut [u8],
+    r: usize,
+    cut: u8,
+    m: usize,
+    source: usize,
+    tag: usize,
+    long: usize,
+)
     requires { ⌜ (r < most-ops) × (scratch-size ≤ length (now c)) ⌝ }
     ensures { λ _. ⌜ now (c .exit) ≡ splice (now (c .entry)) (row-at r) (op-row (entry 3 cut m source tag long)) ⌝ }
 {

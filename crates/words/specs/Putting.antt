@@ -35,9 +35,9 @@ module _ (c : List ℕ) (at : ℕ) (xs s : List ℕ) (i : ℕ) (q : Putting c at
         room = room;
         size = length-set s (at + i) b ∙ q .size;
         is =
-          ap (λ (z : List ℕ). set z (at + i) b) (q .is)
-          ∙ (splice-more c at (take i xs) i b (length-take-le i xs (q .upper)) (omega arith)
-          ∙ ap (λ (vs : List ℕ). splice c at vs)
+            ap (λ (z : List ℕ). set z (at + i) b) (q .is)
+            ∙ (splice-more c at (take i xs) i b (length-take-le i xs (q .upper)) (omega arith)
+            ∙ ap (λ (vs : List ℕ). splice c at vs)
             (ap (λ (z : ℕ). take i xs ++ (z ∷ [])) e ∙ (sym (take-suc xs i 0 l) ∙ ap (λ (k : ℕ). take k xs) (sym (add-one i)))));
       }
 

@@ -38,7 +38,7 @@ add-s-2 c = search needs
 -- src/lib.rt:87:9
 slice-write-s : tie.Need-slice-write-s Inv-loop μ-loop
 slice-write-s c =
-    let a = c  .before .before .before .args in
+    let a = c .before .before .before .args in
     omega (arith, part-length (a .src .now) (a .from) (a .n) (omega arith))
 
 -- src/lib.rt:88:9
@@ -52,8 +52,8 @@ loop-less c = search needs
 -- src/lib.rt:86:5
 loop-again : tie.Need-loop-again Inv-loop μ-loop
 loop-again c =
-    let a = c  .before .before .before .args in
-    let l = c  .before .before .loop in
+    let a = c .before .before .before .args in
+    let l = c .before .before .loop in
     let long = part-length (a .src .now) (a .from) (a .n) (omega arith) in
     putting-more (a .s .now) (a .at) (take (a .n) (drop (a .from) (a .src .now))) (l .s) (l .i) (l .inv) _ (omega arith) (sym (part-at (a .src .now) (a .from) (a .n) (l .i) (c .before .loop-test .taken)))
 
@@ -64,7 +64,7 @@ same-length c = search needs
 -- src/lib.rt:81:1
 returns : tie.Need-returns Inv-loop μ-loop
 returns c =
-    let a = c  .before .before .args in
+    let a = c .before .before .args in
     let l = c .before .loop in
     let long = part-length (a .src .now) (a .from) (a .n) (omega arith) in
     putting-all (a .s .now) (a .at) (take (a .n) (drop (a .from) (a .src .now))) (l .s) (l .i) (l .inv) (omega arith)

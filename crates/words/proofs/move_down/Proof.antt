@@ -35,7 +35,7 @@ add-s c = search needs
 -- src/lib.rt:101:21
 slice-read-s : tie.Need-slice-read-s Inv-loop μ-loop
 slice-read-s c =
-    let a = c  .before .before .before .args in
+    let a = c .before .before .before .args in
     omega (arith, part-length (a .s .now) (a .at + a .gap) (a .n) (omega arith))
 
 -- src/lib.rt:101:11
@@ -45,7 +45,7 @@ add-s-2 c = search needs
 -- src/lib.rt:101:9
 slice-write-s : tie.Need-slice-write-s Inv-loop μ-loop
 slice-write-s c =
-    let a = c  .before .before .before .args in
+    let a = c .before .before .before .args in
     omega (arith, part-length (a .s .now) (a .at + a .gap) (a .n) (omega arith))
 
 -- src/lib.rt:102:9
@@ -59,8 +59,8 @@ loop-less c = search needs
 -- src/lib.rt:100:5
 loop-again : tie.Need-loop-again Inv-loop μ-loop
 loop-again c =
-    let a = c  .before .before .before .args in
-    let l = c  .before .before .loop in
+    let a = c .before .before .before .args in
+    let l = c .before .before .loop in
     let from = a .at + a .gap in
     let xs = take (a .n) (drop from (a .s .now)) in
     let long = part-length (a .s .now) from (a .n) (omega arith) in
@@ -74,7 +74,7 @@ same-length c = search needs
 -- src/lib.rt:94:1
 returns : tie.Need-returns Inv-loop μ-loop
 returns c =
-    let a = c  .before .before .args in
+    let a = c .before .before .args in
     let l = c .before .loop in
     let long = part-length (a .s .now) (a .at + a .gap) (a .n) (omega arith) in
     putting-all (a .s .now) (a .at) (take (a .n) (drop (a .at + a .gap) (a .s .now))) (l .s) (l .i) (l .inv) (omega arith)

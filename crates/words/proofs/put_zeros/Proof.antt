@@ -30,7 +30,7 @@ add-s c = search needs
 -- src/lib.rt:67:9
 slice-write-s : tie.Need-slice-write-s Inv-loop μ-loop
 slice-write-s c =
-    let a = c  .before .before .args in
+    let a = c .before .before .args in
     omega (arith, length-replicate {A = ℕ} (a .n) 0)
 
 -- src/lib.rt:68:9
@@ -44,7 +44,7 @@ loop-less c = search needs
 -- src/lib.rt:66:5
 loop-again : tie.Need-loop-again Inv-loop μ-loop
 loop-again c =
-    let a = c  .before .before .args in
+    let a = c .before .before .args in
     let l = c .before .loop in
     putting-more (a .s .now) (a .at) (replicate (a .n) 0) (l .s) (l .i) (l .inv) 0 (omega (arith, length-replicate {A = ℕ} (a .n) 0)) (sym (getD-replicate (a .n) (l .i) 0 0 (c .loop-test .taken)))
 
@@ -55,7 +55,7 @@ same-length c = search needs
 -- src/lib.rt:61:1
 returns : tie.Need-returns Inv-loop μ-loop
 returns c =
-    let a = c  .before .before .args in
+    let a = c .before .before .args in
     let l = c .before .loop in
     putting-all (a .s .now) (a .at) (replicate (a .n) 0) (l .s) (l .i) (l .inv) (omega (arith, length-replicate {A = ℕ} (a .n) 0))
 

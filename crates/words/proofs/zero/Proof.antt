@@ -22,8 +22,8 @@ same-length c = search needs
 -- src/lib.rt:73:1
 returns : tie.Need-returns
 returns c =
-    let s = c  .before .before .before .before .before .args .s .now in
-    c  .before .before .put-zeros .ensures ∙ splice-whole s (replicate {A = ℕ} (length s) 0) (length-replicate {A = ℕ} (length s) 0)
+    let s = c .before .before .before .before .before .args .s .now in
+    c .before .before .put-zeros .ensures ∙ splice-whole s (replicate {A = ℕ} (length s) 0) (length-replicate {A = ℕ} (length s) 0)
 
 pub zero-spec : {M : Type 1} → statement M
 zero-spec = tie.close (tie.spec put-zeros-requires same-length returns)

@@ -51,12 +51,12 @@ same-length c = search needs
 returns : tie.Need-returns
 unfolding low-two place place-row
 returns c =
-    let a = c  .before .before .before .before .before .before .before .before .before .before .args in
-    let one = c  .before .before .before .before .before .before .put-pair in
-    let two = c  .before .before .put-pair2 in
+    let a = c .before .before .before .before .before .before .before .before .before .before .args in
+    let one = c .before .before .before .before .before .before .put-pair in
+    let two = c .before .before .put-pair2 in
     let u = low-two (a .finished) ++ low-two (a .in-use) in
-    let w : low-two (c  .before .before .before .before .before .before .before .before .bit .result) ≡ cond (a .waiting) 1 0 ∷ 0 ∷ [] = ap low-two (c  .before .before .before .before .before .before .before .before .bit .ensures) ∙ waiting-bytes (a .waiting) in
-    splice-then (a .c .now) (one .last .0) (two .last .0) (seat-at (a .r)) 4 u (low-two (a .peak) ++ low-two (c  .before .before .before .before .before .before .before .before .bit .result)) (one .ensures) refl (two .ensures) (omega arith)
+    let w : low-two (c .before .before .before .before .before .before .before .before .bit .result) ≡ cond (a .waiting) 1 0 ∷ 0 ∷ [] = ap low-two (c .before .before .before .before .before .before .before .before .bit .ensures) ∙ waiting-bytes (a .waiting) in
+    splice-then (a .c .now) (one .last .0) (two .last .0) (seat-at (a .r)) 4 u (low-two (a .peak) ++ low-two (c .before .before .before .before .before .before .before .before .bit .result)) (one .ensures) refl (two .ensures) (omega arith)
     ∙ ap (λ (vs : List ℕ). splice (a .c .now) (seat-at (a .r)) (u ++ (low-two (a .peak) ++ vs))) w
 
 pub put-place-spec : {M : Type 1} → statement M

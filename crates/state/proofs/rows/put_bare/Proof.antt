@@ -18,7 +18,7 @@ same-length c = search needs
 -- src/rows.rt:59:1
 returns : tie.Need-returns
 unfolding bare-entry
-returns c = c  .before .before .put-row .ensures
+returns c = c .before .before .put-row .ensures
 
 pub put-bare-spec : {M : Type 1} → statement M
 put-bare-spec = tie.close (tie.spec put-row-requires same-length returns)

@@ -41,10 +41,10 @@ same-length c = search needs
 returns : tie.Need-returns
 unfolding low-two
 returns c =
-    let a = c  .before .before .before .before .before .before .before .before .before .before .before .before .before .args in
-    let one = c  .before .before .before .before .before .before .before .before .before .before .put-byte in
-    let two = c  .before .before .before .before .before .before .put-byte2 in
-    let three = c  .before .before .put-two in
+    let a = c .before .before .before .before .before .before .before .before .before .before .before .before .before .args in
+    let one = c .before .before .before .before .before .before .before .before .before .before .put-byte in
+    let two = c .before .before .before .before .before .before .put-byte2 in
+    let three = c .before .before .put-two in
     let both = splice-then (a .c .now) (one .last .0) (two .last .0) (a .at) 1 (a .state ∷ []) (a .cut ∷ []) (one .ensures) refl (two .ensures) (omega arith) in
     splice-then (a .c .now) (two .last .0) (three .last .0) (a .at) 2 (a .state ∷ a .cut ∷ []) (low-two (a .partner)) both refl (three .ensures) (omega arith)
 

@@ -46,10 +46,10 @@ same-length c = search needs
 returns : tie.Need-returns
 unfolding low-two op-row entry
 returns c =
-    let a = c  .before .before .before .before .before .before .before .before .before .before .before .before .before .args in
-    let one = c  .before .before .before .before .before .before .before .before .before .before .put-front in
-    let two = c  .before .before .before .before .before .before .put-pair in
-    let three = c  .before .before .put-pair2 in
+    let a = c .before .before .before .before .before .before .before .before .before .before .before .before .before .args in
+    let one = c .before .before .before .before .before .before .before .before .before .before .put-front in
+    let two = c .before .before .before .before .before .before .put-pair in
+    let three = c .before .before .put-pair2 in
     let u = a .state ∷ a .cut ∷ low-two (a .partner) in
     let v = low-two (a .source) ++ low-two (a .tag) in
     let both = splice-then (a .c .now) (one .last .0) (two .last .0) (row-at (a .i)) 4 u v (one .ensures) refl (two .ensures) (omega arith) in
