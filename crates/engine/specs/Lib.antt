@@ -7,3 +7,4 @@ pub mod Stands
 pub mod Able
 pub mod Search
 pub mod Deliveries
+pub mod ReportRows

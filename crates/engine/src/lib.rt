@@ -1,3 +1,4 @@
 // The engine: boards step in lent scratch; then deliveries and the report are made from what scratch holds.
 pub mod able;
 pub mod deliveries;
+pub mod report;
