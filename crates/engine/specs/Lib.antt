@@ -8,3 +8,5 @@ pub mod Able
 pub mod Search
 pub mod Deliveries
 pub mod ReportRows
+pub mod ReportCounts
+pub mod Report

@@ -93,27 +93,27 @@ op-rows-joined c n = go 0 n
     go i zero = refl
     go i (suc n) = ap (λ (z : List ℕ). op-row (entry-in c (row-at i)) ++ z) (go (suc i) n)
 
+-- two bytes as one number
+pub low-of : (a b : ℕ) → a < 256 → b < 256 → low-two (a + 256 * b) ≡ a ∷ b ∷ []
+unfolding low-two
+low-of a b h l =
+    let e : (a + 256 * b) % 256 ≡ a = omega arith in
+    let q : (a + 256 * b) / 256 ≡ b = omega arith in
+    let m : b % 256 ≡ b = omega arith in
+    ap₂ (λ (u v : ℕ). u ∷ v ∷ []) e (ap (λ (v : ℕ). v % 256) q ∙ m)
+
 -- A COPY of a row: bytes are below 256
 module _ (c : List ℕ) (bytes : (k : ℕ) → getD c k 0 < 256) where
   part-one : (n at next : ℕ) → at < length c → at + 1 ≡ next → take (suc n) (drop at c) ≡ getD c at 0 ∷ take n (drop next c)
   part-one n at next l e =
       ap (λ (z : List ℕ). take (suc n) z) (drop-cons c at 0 l) ∙ ap (λ (k : ℕ). getD c at 0 ∷ take n (drop k c)) (sym (add-one at) ∙ e)
 
-  low : (a b : ℕ) → a < 256 → b < 256 → low-two (a + 256 * b) ≡ a ∷ b ∷ []
-  unfolding low-two
-  low a b h l =
-      let e : (a + 256 * b) % 256 ≡ a = omega arith in
-      let q : (a + 256 * b) / 256 ≡ b = omega arith in
-      let m : b % 256 ≡ b = omega arith in
-      let f : (a + 256 * b) / 256 % 256 ≡ b = ap (λ (v : ℕ). v % 256) q ∙ m in
-      ap₂ (λ (u v : ℕ). u ∷ v ∷ []) e f
-
   part-two : (n at next : ℕ) → at + 1 < length c → at + 2 ≡ next → take (suc (suc n)) (drop at c) ≡ low-two (two c at) ++ take n (drop next c)
   unfolding two
   part-two n at next l e =
       part-one (suc n) at (at + 1) (omega arith) refl
       ∙ ap (λ (z : List ℕ). getD c at 0 ∷ z) (part-one n (at + 1) next l (omega arith))
-      ∙ ap (λ (z : List ℕ). z ++ take n (drop next c)) (sym (low (getD c at 0) (getD c (at + 1) 0) (bytes at) (bytes (at + 1))))
+      ∙ ap (λ (z : List ℕ). z ++ take n (drop next c)) (sym (low-of (getD c at 0) (getD c (at + 1) 0) (bytes at) (bytes (at + 1))))
 
   pub row-copied : (i : ℕ) → row-at i + 12 ≤ length c → take 10 (drop (row-at i) c) ++ low-two 0 ≡ row-in c i
   unfolding row-in op-row low-two
