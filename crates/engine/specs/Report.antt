@@ -203,7 +203,7 @@ module _ (bs lent c : List ℕ) (t : Tally) (x : Job) (d : Stands bs lent c t x)
   verdict-going h e f = sym (going h ∙ cc (e, f))
 
   -- THE STOP
-  rank-small : rank-told t < 256
+  pub rank-small : rank-told t < 256
   rank-small = go (ℕ-discrete (t .verdict) 0)
     where
       go : Dec (t .verdict ≡ 0) → rank-told t < 256

@@ -57,7 +57,7 @@ counted-none n f =
       is = omega (arith, ap (λ (m : ℕ). count-from m 0 f) e);
     }
 
-bit-small : (b : Bool) → cond b 1 0 ≤ 1
+pub bit-small : (b : Bool) → cond b 1 0 ≤ 1
 bit-small true = omega arith
 bit-small false = omega arith
 
