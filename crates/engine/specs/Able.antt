@@ -14,7 +14,7 @@ use Rattle.rules.specs.Sheet.{Sheet, Op, sheet-in, op, op-in, board, P-of, N-of
 use Rattle.rules.specs.Job.{Job, Entry, Place, Stop, entry-at, place-at}
 use Rattle.rules.specs.Step.{able, next-op, is-finished, complete, complete-if, waited, waited-below, half-complete, in-waiting-half, is-none}
 use Rattle.laws.specs.Laid.{Laid}
-use Rattle.laws.specs.Decoded.{P-decoded, N-decoded, op-decoded, board-decoded}
+use Rattle.laws.specs.Decoded.{op-by}
 use Rattle.promises.specs.Good.{Good}
 use Rattle.state.specs.declared.Tally.{Tally}
 use Rattle.state.specs.Layout.{row-at, seat-at, word-at, waits-at}
@@ -76,16 +76,9 @@ module _ (bs lent c : List ℕ) (t : Tally) (x : Job) (d : Stands bs lent c t x)
       let e = n .is-next in
       omega (arith, d .good .script-inside r (n .there))
 
-  -- where its sixteen bytes stand
-  pub op-here : (i p : ℕ) → i < N-of s → p ≡ P-in bs → op-in bs (ops-at p + 16 * i) ≡ op s i
-  op-here i p l e = ap (λ (k : ℕ). op-in bs (ops-at k + 16 * i)) e ∙ sym (op-decoded bs i (omega (arith, N-decoded bs)))
-
-  pub op-within : (i p : ℕ) → i < N-of s → p ≡ P-in bs → ops-at p + 16 * i + 15 < length bs
-  op-within i p l e = omega (arith, N-decoded bs, d .laid .whole)
-
   -- its kind, as it was read
   pub kind-here : (i p k : ℕ) → i < N-of s → p ≡ P-in bs → k ≡ op-in bs (ops-at p + 16 * i) .kind → k ≡ op s i .kind
-  kind-here i p k l e q = q ∙ ap (λ (o : Op). o .kind) (op-here i p l e)
+  kind-here i p k l e q = q ∙ ap (λ (o : Op). o .kind) (op-by bs i p l e)
 
   pub wait-read : (i p k : ℕ) → i < N-of s → p ≡ P-in bs → k ≡ op-in bs (ops-at p + 16 * i) .kind → k ≡ 6 → is-wait (op s i) ≡ true
   unfolding is-wait
@@ -98,7 +91,7 @@ module _ (bs lent c : List ℕ) (t : Tally) (x : Job) (d : Stands bs lent c t x)
   -- what a wait waits for is one of the sheet
   pub wait-target : (i : ℕ) → is-wait (op s i) ≡ true → i < N-of s → two c (word-at waits-at i) < N-of s
   unfolding waited
-  wait-target i w l = let b = waited-before s i i (two c (word-at waits-at i)) (d .tables .wait-is i l w) in omega arith
+  wait-target i w l = let b = waited-before s i i (two c (word-at waits-at i)) (d .decodes .indexed .wait-is i l w) in omega arith
 
   -- NOT ABLE: stopped, no such board, finished
   pub able-stopped : (r : ℕ) → (t .verdict ≡ 0 → ⊥) → false ≡ able s x r
@@ -135,7 +128,7 @@ module _ (bs lent c : List ℕ) (t : Tally) (x : Job) (d : Stands bs lent c t x)
     unfolding in-waiting-half half-complete complete-if complete
     next-wait w =
         let j : ℕ = two c (word-at waits-at i) in
-        let target : waited s i ≡ some j = d .tables .wait-is i (next-below r i n) w in
+        let target : waited s i ≡ some j = d .decodes .indexed .wait-is i (next-below r i n) w in
         let w2 : is-wait (op s (next-op s x r)) ≡ true = ap (λ (k : ℕ). is-wait (op s k)) (sym (n .is-next)) ∙ w in
         ap (λ (v : ℕ). leb 2 v) (state-is j (wait-target i w (next-below r i n))) ∙ rw (w, w2, target) (only (place-at x r .waiting) (leb 2 (entry-at x j .state)))
       where

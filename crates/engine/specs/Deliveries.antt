@@ -8,33 +8,33 @@
 --   memory-is         all of them are the memory of the job that stands there
 use mathlib.Core.Path.{_≡_, refl, sym, ap, subst, _∙_}
 use mathlib.Core.Bool.{Bool, true, false, _&&_, cond}
-use mathlib.Core.List.{List, [], _∷_, _++_, append-assoc}
-use Prim.Native.Nat.{ℕ, zero, suc, _+_, _-_, _*_, _≤_, _<_}
+use mathlib.Core.List.{List, _++_, append-assoc}
+use Prim.Native.Nat.{ℕ, zero, suc, _+_, _-_, _≤_, _<_}
 use native.Mathlib.Omega.{arith}
 use native.Mathlib.Numerals.{add-one}
-use lib.Dec.{eqb, ltb, leb}
-use lib.ListN.{length, take, drop, take-append-drop, length-drop, length-append}
+use lib.Dec.{eqb}
+use lib.ListN.{length, take, drop, take-append-drop, length-drop}
 use lib.Seq.{length-take-le, drop-append-le, drop-drop, take-append-le}
-use borrow.Author.Tests.{lt-ltb, le-ltb, eq-eqb, ne-eqb, eqb-true}
-use borrow.Rule.Slice.PartMut.{midOf, putMid, mid-len}
-use Rattle.rules.specs.Limits.{most-attached, most-inbox, scratch-size, ops-at, payload-at}
-use Rattle.rules.specs.Sheet.{Sheet, Op, op, board, P-of, N-of, sheet-in, rank-of, counts-before, inbox-start, inbox-total, is-send, is-receive, op-in, P-in, N-in, L-in}
-use Rattle.rules.specs.Refusal.{board-good}
+use borrow.Author.Tests.{lt-ltb, le-ltb, eq-eqb, ne-eqb}
+use borrow.Rule.Slice.PartMut.{midOf, putMid}
+use Rattle.rules.specs.Limits.{most-inbox, scratch-size, payload-at}
+use Rattle.rules.specs.Sheet.{Sheet, op, board, P-of, N-of, sheet-in, rank-of, counts-before, inbox-start, inbox-total, is-send, is-receive, P-in, N-in, L-in}
 use Rattle.rules.specs.Job.{Job, Entry, entry-at}
 use Rattle.rules.specs.Step.{splice, area-start, is-cut, copied, delivered}
-use Rattle.laws.specs.Tests.{true-not-false, and-left}
+use Rattle.laws.specs.Tests.{true-not-false}
 use Rattle.laws.specs.Laid.{Laid}
-use Rattle.laws.specs.Decoded.{P-decoded, N-decoded, op-decoded, payload-decoded}
+use Rattle.laws.specs.Decoded.{payload-decoded}
 use Rattle.laws.specs.Ranks.{inbox-start-none, counts-none, inbox-start-more, counts-more}
 use Rattle.words.specs.Splice.{splice-none}
 use Rattle.promises.specs.Good.{Good}
-use Rattle.promises.specs.Invariant.{Reached, state-at, partner-at, paint, painted}
-use Rattle.promises.specs.Extents.{send-inside, receive-inside, send-extent, area-inside}
+use Rattle.promises.specs.Invariant.{paint, painted}
+use Rattle.promises.specs.Extents.{send-extent, area-inside}
 use Rattle.state.specs.declared.Tally.{Tally}
 use Rattle.state.specs.Layout.{row-at}
 use Rattle.state.specs.Decoded.{entry-in}
 use Rattle.state.specs.Decodes.{entry-is}
 use Rattle.engine.specs.Stands.{Stands, Standing}
+use Rattle.engine.specs.SetupWalk.{good-first}
 
 -- what deliveries are given
 pub record Deliverable (bs c : List ℕ) : Type 0 where
@@ -88,25 +88,11 @@ part-splice xs a e vs l h m =
     ∙ ap (λ (z : List ℕ). take a xs ++ (vs ++ z)) (drop-part (length vs) (e - a) (drop a xs) m room)
     ∙ ap (λ (z : List ℕ). take a xs ++ (vs ++ z)) (drop-drop (length vs) a xs)
 
--- READING operation i, with P as it was read
-module _ (bs : List ℕ) (p i : ℕ) (e : p ≡ P-in bs) (l : i < N-in bs) where
-  pub op-read : op-in bs (ops-at p + 16 * i) ≡ op (sheet-in bs) i
-  op-read = ap (λ (k : ℕ). op-in bs (ops-at k + 16 * i)) e ∙ sym (op-decoded bs i l)
-
-  pub op-room : Laid bs → ops-at p + 16 * i + 15 < length bs
-  op-room h = omega (arith, h .whole)
-
 -- ONE MESSAGE m to receive r
 module _ (bs : List ℕ) (l : Laid bs) (g : Good (sheet-in bs)) (m r : ℕ)
     (sends : is-send (op (sheet-in bs) m) ≡ true) (receives : is-receive (op (sheet-in bs) r) ≡ true) where
   abbrev sheet : Sheet
   sheet = sheet-in bs
-
-  pub message-small : m < N-in bs
-  message-small = omega (arith, send-inside sheet m sends, N-decoded bs)
-
-  pub receive-small : r < N-in bs
-  receive-small = omega (arith, receive-inside sheet r receives, N-decoded bs)
 
   -- the message's bytes lie inside the sheet, the area inside the inboxes
   pub message-end : payload-at (P-in bs) (N-in bs) + (op sheet m .offset + op sheet m .long) ≤ length bs
@@ -213,13 +199,6 @@ scripting-more s c r met i inbox after q e h =
       goes = λ lent a. painting-more s c lent i inbox after (q .goes lent a) e h;
     }
 
--- a script starts where the counts before it say (number 5)
-board-first : (s : Sheet) → Good s → (r : ℕ) → r < P-of s → board s r .first ≡ counts-before s r
-unfolding board-good
-board-first s g r l =
-    eqb-true (board s r .first) (counts-before s r)
-    (and-left (eqb (board s r .first) (counts-before s r)) (leb (board s r .attached) most-attached && leb (inbox-start s (suc r)) most-inbox) (g .boards-good r l))
-
 -- before the script of board r: its inbox starts at `start`, and the scripts before it are delivered
 pub record Filling (s : Sheet) (c lent : List ℕ) (r start : ℕ) (inbox : List ℕ) : Type 0 where
   pub upper : r ≤ P-of s
@@ -241,7 +220,7 @@ filling-start {s} {c} {lent} {inbox} {r} {start} g q l = omega (arith, q .start-
 pub filling-more : (s : Sheet) → Good s → (c lent : List ℕ) (r start : ℕ) (inbox after : List ℕ) (more : ℕ) → Filling s c lent r start inbox → r < P-of s → more ≡ board s r .inbox →
     ((i : List ℕ) → Painting s c i (board s r .first) inbox → Painting s c i (board s r .first + board s r .count) after) → Filling s c lent (r + 1) (start + more) after
 filling-more s g c lent r start inbox after more q l e h =
-    let first : board s r .first ≡ counts-before s r = board-first s g r l in
+    let first : board s r .first ≡ counts-before s r = good-first s g r l in
     let next : r + 1 ≡ suc r = add-one r in
     let sum : counts-before s (r + 1) ≡ counts-before s r + board s r .count = ap (λ (k : ℕ). counts-before s k) next ∙ counts-more s r l in
     let box : inbox-start s (r + 1) ≡ inbox-start s r + board s r .inbox = ap (λ (k : ℕ). inbox-start s k) next ∙ inbox-start-more s r l in

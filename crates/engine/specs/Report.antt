@@ -5,17 +5,17 @@
 --   verdict-stopped, ..  the verdict
 --   front-bytes, stop-..  the header's first eight bytes
 --   report-whole      header, board rows and operation rows side by side are the report, in front of what stays
-use mathlib.Core.Path.{_≡_, refl, sym, ap, ap₂, subst, _∙_}
+use mathlib.Core.Path.{_≡_, sym, ap, ap₂, _∙_}
 use mathlib.Core.Logic.{_⊎_, inl, inr}
 use mathlib.Core.Bool.{Bool, true, false, _&&_, cond}
-use mathlib.Core.List.{List, [], _∷_, _++_, append-assoc}
+use mathlib.Core.List.{List, _∷_, _++_, append-assoc}
 use mathlib.Core.Option.{Option, none, some}
-use Prim.Native.Nat.{ℕ, zero, suc, _+_, _-_, _*_, _/_, _%_, _≤_, _<_}
+use Prim.Native.Nat.{ℕ, suc, _+_, _-_, _*_, _/_, _%_, _≤_, _<_}
 use native.Mathlib.Omega.{arith}
 use native.Mathlib.Nat.{zero-add}
 use native.Mathlib.Numerals.{add-one}
 use native.Mathlib.Decide.{ℕ-discrete}
-use lib.Dec.{eqb, leb, ltb}
+use lib.Dec.{eqb}
 use lib.ListN.{length, drop, length-append}
 use borrow.Author.Tests.{le-leb, lt-leb, eq-eqb, ne-eqb}
 use Rattle.rules.specs.Limits.{report-size}
@@ -23,16 +23,15 @@ use Rattle.rules.specs.Sheet.{Sheet, op, board, P-of, N-of, sheet-in}
 use Rattle.rules.specs.Job.{Job, Entry, Place, Stop, place-at}
 use Rattle.rules.specs.Step.{splice, able, is-finished, is-none}
 use Rattle.rules.specs.Order.{lowest-able, next-rank, none-able}
-use Rattle.rules.specs.Report.{low-two, count-from, pending-messages, pending-receives, cut-messages, all-finished, verdict-of, stop-bytes, header-bytes, board-state, board-row, board-rows, op-rows, report}
+use Rattle.rules.specs.Report.{low-two, count-from, pending-messages, pending-receives, cut-messages, all-finished, verdict-of, stop-bytes, header-bytes, board-state, board-row, op-rows, report}
 use Rattle.rules.specs.Service.{in-front}
-use Rattle.promises.specs.Invariant.{Reached, Stopped}
 use Rattle.state.specs.declared.Tally.{Tally}
 use Rattle.state.specs.Layout.{seat-at}
 use Rattle.state.specs.Decoded.{place-in}
 use Rattle.state.specs.Decodes.{place-is}
 use Rattle.state.specs.Tallied.{stop-of, stop-some}
 use Rattle.words.specs.Splice.{splice-then}
-use Rattle.engine.specs.Stands.{Stands, Standing}
+use Rattle.engine.specs.Stands.{Stands}
 use Rattle.engine.specs.Able.{finished-is}
 use Rattle.engine.specs.ReportCounts.{message-row, receive-row, cut-row, messages-are, receives-are, cut-are}
 use Rattle.engine.specs.ReportRows.{low-of, joined, joined-length, row-in, row-in-length, board-rows-joined, board-row-length, op-rows-joined}

@@ -4,8 +4,7 @@
 --   Rowing             the first i rows are written
 --   board-rows-joined  the report's board rows are such rows; op-rows-joined: so are its operation rows
 --   row-copied         ten bytes of scratch and two zeros are an operation row
-use mathlib.Core.Path.{_≡_, refl, sym, ap, ap₂, subst, _∙_}
-use mathlib.Core.Bool.{Bool, true, false, cond}
+use mathlib.Core.Path.{_≡_, refl, sym, ap, ap₂, _∙_}
 use mathlib.Core.List.{List, [], _∷_, _++_, append-assoc, append-nil}
 use Prim.Native.Nat.{ℕ, zero, suc, _+_, _*_, _/_, _%_, _≤_, _<_}
 use native.Mathlib.Omega.{arith}
@@ -14,13 +13,14 @@ use native.Mathlib.Numerals.{add-one}
 use lib.ListN.{length, getD, take, drop, length-append}
 use lib.Seq.{drop-cons}
 use Rattle.rules.specs.Sheet.{Sheet, two}
-use Rattle.rules.specs.Job.{Job, Entry}
+use Rattle.rules.specs.Job.{Job}
 use Rattle.rules.specs.Step.{splice}
 use Rattle.rules.specs.Report.{low-two, board-row, board-rows, op-row, op-rows}
 use Rattle.words.specs.Splice.{splice-none, splice-then, splice-length}
 use Rattle.words.specs.Tab.{tab}
 use Rattle.state.specs.Layout.{row-at}
 use Rattle.state.specs.Decoded.{entry-in, entries-in}
+use Rattle.state.specs.Rows.{row-length}
 
 unfoldable pub joined : (ℕ → List ℕ) → (i n : ℕ) → List ℕ
 joined f i zero = []
@@ -82,8 +82,8 @@ unfoldable pub row-in : (c : List ℕ) → (i : ℕ) → List ℕ
 row-in c i = op-row (entry-in c (row-at i))
 
 pub row-in-length : (c : List ℕ) (i : ℕ) → length (row-in c i) ≡ 12
-unfolding row-in op-row low-two
-row-in-length c i = refl
+unfolding row-in
+row-in-length c i = row-length (entry-in c (row-at i))
 
 pub op-rows-joined : (c : List ℕ) (n : ℕ) → op-rows (entries-in c n) ≡ joined (row-in c) 0 n
 unfolding entries-in op-rows tab joined row-in

@@ -1,17 +1,18 @@
 -- The earliest that fits: what a search over a waiting list in scratch has found is what rules' searches find (document 01,
 -- "How a board steps"). Assumes nothing.
 use mathlib.Core.Path.{_≡_, refl, sym, _∙_, ap, subst}
-use mathlib.Core.Bool.{Bool, true, false, cond}
+use mathlib.Core.Bool.{Bool, true, false, _&&_, _||_, cond}
 use mathlib.Core.List.{List, [], _∷_}
 use mathlib.Core.Option.{Option, none, some}
 use Prim.Native.Nat.{ℕ, zero, suc, _+_, _<_, _≤_}
 use native.Mathlib.Omega.{arith}
 use native.Mathlib.Nat.{add-zero, zero-add}
 use native.Mathlib.Decide.{ℕ-discrete}
+use lib.Dec.{eqb}
 use lib.ListN.{length}
-use Rattle.rules.specs.Limits.{most-ops, scratch-size}
-use Rattle.rules.specs.Sheet.{Sheet, sheet-in, N-of, two}
-use Rattle.rules.specs.Step.{first-by}
+use Rattle.rules.specs.Limits.{any, most-ops, most-boards, scratch-size}
+use Rattle.rules.specs.Sheet.{Sheet, sheet-in, op, N-of, rank-of, two}
+use Rattle.rules.specs.Step.{first-by, fits-with}
 use Rattle.laws.specs.Laid.{Laid}
 use Rattle.laws.specs.Tests.{cond-true, cond-false}
 use Rattle.words.specs.Tab.{tab}
@@ -25,6 +26,12 @@ pub record Readable (bs c : List ℕ) : Type 0 where
   pub few : N-of (sheet-in bs) ≤ most-ops
   pub roomy : scratch-size ≤ length c
   pub tables : Indexed (sheet-in bs) c
+  pub ranked : (i : ℕ) → i < N-of (sheet-in bs) → rank-of (sheet-in bs) i < most-boards
+
+-- a fit, from its fields as they were read
+pub fits-read : (s : Sheet) (m r pm rr cm cr pr rm tr tm : ℕ) → pm ≡ op s m .peer → rr ≡ rank-of s r → cm ≡ op s m .comm → cr ≡ op s r .comm → pr ≡ op s r .peer → rm ≡ rank-of s m → tr ≡ op s r .tag → tm ≡ op s m .tag → ((eqb pm rr && eqb cm cr) && ((eqb pr any || eqb pr rm) && (eqb tr any || eqb tr tm))) ≡ fits-with s m r
+unfolding fits-with
+fits-read s m r pm rr cm cr pr rm tr tm e f g h i j k l = cc
 
 -- a list of `count` operations of the sheet stands at base
 pub record Listed (bs c : List ℕ) (base count : ℕ) : Type 0 where

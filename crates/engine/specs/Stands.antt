@@ -1,5 +1,5 @@
--- A job stands in scratch: the sheet passes check, the job is one that an order leads to (promises' invariant), scratch and the
--- tally decode to it, and the two tables that are written once are right. Every function of the engine is given this and says
+-- A job stands in scratch: the sheet passes check, the job is one that an order leads to (promises' invariant), and scratch and
+-- the tally decode to it. Every function of the engine is given this and says
 -- what it does to every such job. Assumes nothing: these are definitions.
 use mathlib.Core.Path.{_≡_}
 use mathlib.Core.Bool.{true}
@@ -14,7 +14,6 @@ use Rattle.promises.specs.Good.{Good}
 use Rattle.promises.specs.Invariant.{Reached}
 use Rattle.state.specs.declared.Tally.{Tally}
 use Rattle.state.specs.Decodes.{Decodes}
-use Rattle.state.specs.Indexed.{Indexed}
 
 -- `lent` is the inboxes as they were lent: the engine steps without them
 pub record Stands (bs lent c : List ℕ) (t : Tally) (x : Job) : Type 0 where
@@ -23,7 +22,6 @@ pub record Stands (bs lent c : List ℕ) (t : Tally) (x : Job) : Type 0 where
   pub room : inbox-total (sheet-in bs) ≤ length lent
   pub reached : Reached (sheet-in bs) lent x
   pub decodes : Decodes (sheet-in bs) c t x
-  pub tables : Indexed (sheet-in bs) c
 
 -- some job stands there: what a function asks at its entry
 pub record Standing (bs c : List ℕ) (t : Tally) : Type 0 where

@@ -2,12 +2,10 @@
 // a board, a row of 12 an operation. Each function writes one stretch; the room behind the report keeps its bytes.
 ghost use mathlib.Core.Path.{_≡_};
 ghost use mathlib.Core.Bool.{cond};
-ghost use mathlib.Core.List.{List};
-ghost use Prim.Native.Nat.{ℕ, _+_, _*_, _<_, _≤_};
+ghost use Prim.Native.Nat.{_+_, _*_, _<_, _≤_};
 ghost use lib.ListN.{length};
 ghost use Rattle.rules.specs.Limits.{most-ops, scratch-size, ops-at, report-size};
 ghost use Rattle.rules.specs.Sheet.{sheet-in, P-of, N-of, P-in, N-in};
-ghost use Rattle.rules.specs.Job.{Job};
 ghost use Rattle.rules.specs.Step.{splice};
 ghost use Rattle.rules.specs.Order.{none-able};
 ghost use Rattle.rules.specs.Report.{count-from, all-finished, verdict-of, header-bytes, board-state, board-row, report};

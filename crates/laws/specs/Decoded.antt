@@ -59,3 +59,11 @@ module _ (bs : List ℕ) where
   payload-decoded h =
       length-take (L-in bs) (drop (payload-at (P-in bs) (N-in bs)) bs)
       ∙ (ap (λ (k : ℕ). min (L-in bs) k) (length-drop (payload-at (P-in bs) (N-in bs)) bs) ∙ omega arith)
+
+  -- an operation of the sheet, with P as it was read: its sixteen bytes, which lie inside
+  pub op-by : (i p : ℕ) → i < N-of (sheet-in bs) → p ≡ P-in bs → op-in bs (ops-at p + 16 * i) ≡ op (sheet-in bs) i
+  op-by i p l e =
+      ap (λ (k : ℕ). op-in bs (ops-at k + 16 * i)) e ∙ sym (op-decoded i (omega (arith, N-decoded)))
+
+  pub op-within : (i p : ℕ) → i < N-of (sheet-in bs) → p ≡ P-in bs → length bs ≡ sheet-size (P-in bs) (N-in bs) (L-in bs) → ops-at p + 16 * i + 15 < length bs
+  op-within i p l e w = omega (arith, N-decoded)

@@ -1,24 +1,24 @@
--- What a step does to the stop and to where the boards stand, by what was known before it. Assumes nothing.
+-- What a step does to the stop and to where the boards stand, by what was known before it.
 --   stop-after, step-stop    whether and how a step stops the job
 --   After, step-after        the boards' places after a step that goes on, and after one that stops
+-- Assumes nothing.
 use mathlib.Core.Path.{_≡_, refl, sym, ap, subst, _∙_}
 use mathlib.Core.Logic.{_⊎_, inl, inr, _≢_}
 use mathlib.Core.Bool.{Bool, true, false, _||_, not, cond}
 use mathlib.Core.List.{List}
 use mathlib.Core.Option.{Option, none, some}
-use Prim.Native.Nat.{ℕ, zero, suc, _+_, _*_, _≤_, _<_}
+use Prim.Native.Nat.{ℕ, suc, _+_, _*_, _<_}
 use lib.ListN.{getD}
 use native.Mathlib.Omega.{arith}
-use native.Mathlib.Decide.{ℕ-discrete}
 use Rattle.rules.specs.Sheet.{Sheet, op, board, is-receive, is-wait, is-ready, is-buffered, is-nonblocking}
-use Rattle.rules.specs.Job.{Job, Stop, Place, place, job, place-at, with-entries, with-places, with-messages, with-receives, with-memory, with-stop, with-steps}
+use Rattle.rules.specs.Job.{Job, Stop, Place, place, job, place-at, with-entries, with-places, with-messages, with-receives, with-stop, with-steps}
 use Rattle.rules.specs.Step.{able, step, next-op, in-waiting-half, is-none, first-message, first-receive, matched, with-place, with-state, charge, pend-message, pend-receive, stopped, initiated, fits-buffer, unmatched, sent, received, initiating, ended}
 use Rattle.promises.specs.Good.{Good}
-use Rattle.promises.specs.Kinds.{clash, send-no-wait, receive-no-wait}
+use Rattle.promises.specs.Kinds.{send-no-wait, receive-no-wait}
 use Rattle.promises.specs.Invariant.{Reached}
-use Rattle.promises.specs.Changes.{Matches}
 use Rattle.promises.specs.Moves.{Next, Moved, able-next, moved-finished, moved-waiting, moved-finished-other, moved-waiting-other}
-use Rattle.promises.specs.Outcome.{Outcome, ends-half, ends-wait, posts, pends, meets, stops, matched-is}
+use Rattle.promises.specs.Used.{matched-is}
+use Rattle.promises.specs.Outcome.{Outcome, ends-half, ends-wait, posts, pends, meets, stops}
 use Rattle.promises.specs.Effects.{outcome}
 use Rattle.promises.specs.Behind.{stand, stand-finished, stand-waiting}
 
@@ -57,13 +57,17 @@ module _ (s : Sheet) (r i : ℕ) (x : Job) where
   received-stop (some m) = matched-stop m i
 
   sent-stop : (o : Option ℕ) →
-      sent s r i o x .stop ≡ cond (is-none o) (cond (is-ready (op s i)) (some (stop-at-op 4 r i)) (cond (is-buffered (op s i)) (cond (fits-buffer s r i x) (x .stop) (some (stop-at-op 3 r i))) (x .stop))) (x .stop)
-  unfolding sent unmatched initiated charge pend-message with-messages with-place with-places with-state with-entries stopped with-stop stop-at-op is-none job
+      sent s r i o x .stop ≡ cond (is-none o)
+      (cond (is-ready (op s i)) (some (stop-at-op 4 r i))
+      (cond (is-buffered (op s i)) (cond (fits-buffer s r i x) (x .stop) (some (stop-at-op 3 r i))) (x .stop))) (x .stop)
+  unfolding sent unmatched initiated charge pend-message with-messages with-place with-places with-state with-entries stopped
+      with-stop stop-at-op is-none job
   sent-stop (some q) = matched-stop i q
   sent-stop none = go (is-ready (op s i)) (is-buffered (op s i)) (fits-buffer s r i x)
     where
       go : (a b c : Bool) →
-          cond a (stopped 4 r i x) (cond b (cond c (initiated s r i (charge s r i (pend-message i 2 x))) (stopped 3 r i x)) (initiated s r i (pend-message i 1 x))) .stop
+          cond a (stopped 4 r i x) (cond b (cond c (initiated s r i (charge s r i (pend-message i 2 x))) (stopped 3 r i x))
+          (initiated s r i (pend-message i 1 x))) .stop
           ≡ cond a (some (stop-at-op 4 r i)) (cond b (cond c (x .stop) (some (stop-at-op 3 r i))) (x .stop))
       go true b c = refl
       go false true true = refl
@@ -73,7 +77,8 @@ module _ (s : Sheet) (r i : ℕ) (x : Job) where
 pub step-stop : (s : Sheet) (r : ℕ) (x : Job) →
     step s r x .stop
     ≡ stop-after r (next-op s x r) (in-waiting-half s x r) (is-receive (op s (next-op s x r)))
-    (is-none (first-receive s (next-op s x r) (x .receives))) (is-ready (op s (next-op s x r))) (is-buffered (op s (next-op s x r)))
+    (is-none (first-receive s (next-op s x r) (x .receives))) (is-ready (op s (next-op s x r)))
+    (is-buffered (op s (next-op s x r)))
     (fits-buffer s r (next-op s x r) x) (x .stop)
 unfolding step initiating stop-after with-steps job
 step-stop s r x = go (in-waiting-half s x r) (is-receive (op s i))
@@ -82,11 +87,13 @@ step-stop s r x = go (in-waiting-half s x r) (is-receive (op s i))
     i = next-op s x r
 
     go : (a b : Bool) →
-        cond a (ended s r i x) (cond b (received s r i (first-message s i (x .messages)) x) (sent s r i (first-receive s i (x .receives)) x)) .stop
+        cond a (ended s r i x) (cond b (received s r i (first-message s i (x .messages)) x)
+        (sent s r i (first-receive s i (x .receives)) x)) .stop
         ≡ cond a (x .stop)
         (cond b (x .stop)
         (cond (is-none (first-receive s i (x .receives)))
-        (cond (is-ready (op s i)) (some (stop-at-op 4 r i)) (cond (is-buffered (op s i)) (cond (fits-buffer s r i x) (x .stop) (some (stop-at-op 3 r i))) (x .stop)))
+        (cond (is-ready (op s i)) (some (stop-at-op 4 r i))
+        (cond (is-buffered (op s i)) (cond (fits-buffer s r i x) (x .stop) (some (stop-at-op 3 r i))) (x .stop)))
         (x .stop)))
     go true b = ended-stop s r i x
     go false true = received-stop s r i x (first-message s i (x .messages))
@@ -116,34 +123,44 @@ module _ {s : Sheet} {x y : Job} {r : ℕ} (n : Next s x r) where
 
   after : Outcome s x y r (next-op s x r) → After s x y r
   unfolding in-waiting-half stopped with-stop with-steps job
-  after (ends-half w m k uses e) =
-      turned true m (sym (ap (λ (b : Bool). (b || is-wait (op s (next-op s x r))) || is-nonblocking (op s (next-op s x r))) w))
-  after (ends-wait w e m k uses E) =
-      turned true m
+  after (ends-half h) =
+      turned true (h .moved)
+      (sym (ap (λ (b : Bool). (b || is-wait (op s (next-op s x r))) || is-nonblocking (op s (next-op s x r))) (h .waiting)))
+  after (ends-wait h) =
+      turned true (h .moved)
       (sym
-      (ap (λ (b : Bool). (b || is-wait (op s (next-op s x r))) || is-nonblocking (op s (next-op s x r))) w
-      ∙ ap (λ (b : Bool). b || is-nonblocking (op s (next-op s x r))) e))
-  after (posts w e m uses E a b c f) = turned (is-nonblocking (op s (next-op s x r))) m (initiates s x r w (receive-no-wait (op s (next-op s x r)) e))
-  after (pends w e m uses E a b c f) = turned (is-nonblocking (op s (next-op s x r))) m (initiates s x r w (send-no-wait (op s (next-op s x r)) e))
-  after (meets m q w v uses M a b c f) = turned (is-nonblocking (op s (next-op s x r))) v (initiates s x r w (not-wait (M .one)))
+      (ap (λ (b : Bool). (b || is-wait (op s (next-op s x r))) || is-nonblocking (op s (next-op s x r))) (h .not-waiting)
+      ∙ ap (λ (b : Bool). b || is-nonblocking (op s (next-op s x r))) (h .waits)))
+  after (posts h) =
+      turned (is-nonblocking (op s (next-op s x r))) (h .moved)
+      (initiates s x r (h .not-waiting) (receive-no-wait (op s (next-op s x r)) (h .is-one)))
+  after (pends h) =
+      turned (is-nonblocking (op s (next-op s x r))) (h .moved)
+      (initiates s x r (h .not-waiting) (send-no-wait (op s (next-op s x r)) (h .is-one)))
+  after (meets m q h) =
+      turned (is-nonblocking (op s (next-op s x r))) (h .moved)
+      (initiates s x r (h .not-waiting) (not-wait (h .rows .one)))
     where
       not-wait : (next-op s x r ≡ m) ⊎ (next-op s x r ≡ q) → is-wait (op s (next-op s x r)) ≡ false
-      not-wait (inl h) = ap (λ (z : ℕ). is-wait (op s z)) h ∙ send-no-wait (op s m) (M .sends)
-      not-wait (inr h) = ap (λ (z : ℕ). is-wait (op s z)) h ∙ receive-no-wait (op s q) (M .receives)
-  after (stops v reason w e f is) =
+      not-wait (inl e) = ap (λ (z : ℕ). is-wait (op s z)) e ∙ send-no-wait (op s m) (h .rows .sends)
+      not-wait (inr e) = ap (λ (z : ℕ). is-wait (op s z)) e ∙ receive-no-wait (op s q) (h .rows .receives)
+  after (stops v h) =
       halts
       (record {
         verdict = v;
         rank = r;
         at-op = next-op s x r;
       })
-      (ap (λ (z : Job). z .stop) is) (ap (λ (z : Job). z .places) is) (ap (λ (z : Job). z .steps) is)
+      (ap (λ (z : Job). z .stop) (h .is-told)) (ap (λ (z : Job). z .places) (h .is-told))
+      (ap (λ (z : Job). z .steps) (h .is-told))
 
-pub step-after : {s : Sheet} (g : Good s) {lent : List ℕ} {x : Job} → Reached s lent x → (r : ℕ) → able s x r ≡ true → After s x (step s r x) r
+pub step-after : {s : Sheet} (g : Good s) {lent : List ℕ} {x : Job} → Reached s lent x → (r : ℕ) → able s x r ≡ true →
+    After s x (step s r x) r
 step-after {s} g {lent} {x} R r a = let n = able-next s g x r a in after n (outcome s g lent x R r n)
 
 -- every step is counted
-pub step-counted : {s : Sheet} (g : Good s) {lent : List ℕ} {x : Job} → Reached s lent x → (r : ℕ) → able s x r ≡ true → step s r x .steps ≡ suc (x .steps)
+pub step-counted : {s : Sheet} (g : Good s) {lent : List ℕ} {x : Job} → Reached s lent x → (r : ℕ) → able s x r ≡ true →
+    step s r x .steps ≡ suc (x .steps)
 step-counted {s} g {lent} {x} R r a = go (step-after g R r a)
   where
     go : After s x (step s r x) r → step s r x .steps ≡ suc (x .steps)
@@ -157,12 +174,14 @@ stand-on last f = 2 * cond last (suc f) f + cond (not last) 1 0
 pub moved-stand : {x y : Job} {r : ℕ} {last : Bool} → Moved x y r last → stand y r ≡ stand-on last (place-at x r .finished)
 unfolding stand stand-on
 moved-stand {x} {y} {r} {last} m =
-    ap (λ (k : ℕ). 2 * k + cond (place-at y r .waiting) 1 0) (moved-finished m) ∙ ap (λ (b : Bool). 2 * cond last (suc (place-at x r .finished)) (place-at x r .finished) + cond b 1 0) (moved-waiting m)
+    ap (λ (k : ℕ). 2 * k + cond (place-at y r .waiting) 1 0) (moved-finished m)
+    ∙ ap (λ (b : Bool). 2 * cond last (suc (place-at x r .finished)) (place-at x r .finished) + cond b 1 0) (moved-waiting m)
 
 pub moved-stand-other : {x y : Job} {r : ℕ} {last : Bool} → Moved x y r last → (q : ℕ) → q ≢ r → stand y q ≡ stand x q
 unfolding stand
 moved-stand-other {x} {y} m q d =
-    ap (λ (k : ℕ). 2 * k + cond (place-at y q .waiting) 1 0) (moved-finished-other m q d) ∙ ap (λ (b : Bool). 2 * place-at x q .finished + cond b 1 0) (moved-waiting-other m q d)
+    ap (λ (k : ℕ). 2 * k + cond (place-at y q .waiting) 1 0) (moved-finished-other m q d)
+    ∙ ap (λ (b : Bool). 2 * place-at x q .finished + cond b 1 0) (moved-waiting-other m q d)
 
 pub places-stand : (x y : Job) → y .places ≡ x .places → (q : ℕ) → stand y q ≡ stand x q
 unfolding stand place-at
@@ -179,13 +198,18 @@ module _ (s : Sheet) (x y : Job) (r : ℕ) (e : stand x r ≡ stand y r) where
 
   pub stand-half : in-waiting-half s x r ≡ in-waiting-half s y r
   unfolding in-waiting-half
-  stand-half = ap (λ (b : Bool). b || is-wait (op s (next-op s x r))) (stand-waiting x y r e) ∙ ap (λ (k : ℕ). place-at y r .waiting || is-wait (op s k)) stand-next
+  stand-half =
+      ap (λ (b : Bool). b || is-wait (op s (next-op s x r))) (stand-waiting x y r e)
+      ∙ ap (λ (k : ℕ). place-at y r .waiting || is-wait (op s k)) stand-next
 
   stand-finishing : finishing s x r ≡ finishing s y r
-  stand-finishing = ap (λ (b : Bool). b || is-nonblocking (op s (next-op s x r))) stand-half ∙ ap (λ (k : ℕ). in-waiting-half s y r || is-nonblocking (op s k)) stand-next
+  stand-finishing =
+      ap (λ (b : Bool). b || is-nonblocking (op s (next-op s x r))) stand-half
+      ∙ ap (λ (k : ℕ). in-waiting-half s y r || is-nonblocking (op s k)) stand-next
 
   -- a step that goes on takes it to the same place
-  pub stand-moved : {x-now y-now : Job} → Moved x x-now r (finishing s x r) → Moved y y-now r (finishing s y r) → stand x-now r ≡ stand y-now r
+  pub stand-moved : {x-now y-now : Job} → Moved x x-now r (finishing s x r) → Moved y y-now r (finishing s y r) →
+      stand x-now r ≡ stand y-now r
   stand-moved m n =
       moved-stand m ∙ ap (λ (k : ℕ). stand-on (finishing s x r) k) (stand-finished x y r e)
       ∙ ap (λ (c : Bool). stand-on c (place-at y r .finished)) stand-finishing ∙ sym (moved-stand n)
@@ -193,7 +217,9 @@ module _ (s : Sheet) (x y : Job) (r : ℕ) (e : stand x r ≡ stand y r) where
 -- and further on
 pub stand-further : (s : Sheet) {x y : Job} {r : ℕ} → Moved x y r (finishing s x r) → stand x r < stand y r
 unfolding stand stand-on in-waiting-half
-stand-further s {x} {y} {r} m = go (place-at x r .waiting) (is-wait (op s (next-op s x r))) (is-nonblocking (op s (next-op s x r))) (moved-stand m)
+stand-further s {x} {y} {r} m =
+    go (place-at x r .waiting) (is-wait (op s (next-op s x r)))
+    (is-nonblocking (op s (next-op s x r))) (moved-stand m)
   where
     f : ℕ
     f = place-at x r .finished
@@ -207,7 +233,9 @@ stand-further s {x} {y} {r} m = go (place-at x r .waiting) (is-wait (op s (next-
 -- a stopped job stays stopped
 pub stop-stays : (s : Sheet) (r : ℕ) (x : Job) (t : Stop) → x .stop ≡ some t → step s r x .stop ≡ none → ⊥
 unfolding stop-after
-stop-stays s r x t e h = go (in-waiting-half s x r) (is-receive (op s i)) (is-none (first-receive s i (x .receives))) (is-ready (op s i)) (is-buffered (op s i)) (fits-buffer s r i x) (sym (step-stop s r x) ∙ h)
+stop-stays s r x t e h =
+    go (in-waiting-half s x r) (is-receive (op s i)) (is-none (first-receive s i (x .receives)))
+    (is-ready (op s i)) (is-buffered (op s i)) (fits-buffer s r i x) (sym (step-stop s r x) ∙ h)
   where
     i : ℕ
     i = next-op s x r

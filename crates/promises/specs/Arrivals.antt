@@ -1,15 +1,15 @@
 -- The order of arrival after a step: the operation that enters is last. Assumes nothing.
-use mathlib.Core.Path.{_≡_, refl, sym, ap, subst, _∙_}
+use mathlib.Core.Path.{_≡_, refl, sym, ap, _∙_}
 use mathlib.Core.Logic.{_≢_}
-use mathlib.Core.Bool.{Bool, true, false, cond}
-use Prim.Native.Nat.{ℕ, suc, _≤_, _<_}
+use mathlib.Core.Bool.{Bool, true, cond}
+use Prim.Native.Nat.{ℕ, suc, _<_}
 use native.Mathlib.Omega.{arith}
 use native.Mathlib.Decide.{ℕ-discrete}
 use lib.Dec.{eqb}
 use borrow.Author.Tests.{eq-eqb, ne-eqb}
 use Rattle.rules.specs.Sheet.{Sheet, op, rank-of, is-send}
 use Rattle.rules.specs.Job.{Job}
-use Rattle.promises.specs.Invariant.{Entered, state-at, Arrived, Placed}
+use Rattle.promises.specs.Invariant.{Entered, Arrived, Placed}
 use Rattle.promises.specs.Changes.{Grows, state-name}
 use Rattle.promises.specs.Stable.{Later}
 use Rattle.promises.specs.Placing.{prefix}
@@ -55,15 +55,18 @@ module _ {s : Sheet} {x y : Job} {i : ℕ} {came : ℕ → ℕ} (A : Arrived s c
       past m h (yes e) = omega (arith, more, ap now e, came-same came i (x .steps))
       past m h (no d) = omega (arith, more, old m d, A .past m (G .back m d h))
 
-      apart : (k m : ℕ) → is-send (op s k) ≡ true → is-send (op s m) ≡ true → Entered y k → Entered y m → now k ≡ now m → Dec (k ≡ i) → Dec (m ≡ i) → k ≡ m
+      apart : (k m : ℕ) → is-send (op s k) ≡ true → is-send (op s m) ≡ true → Entered y k → Entered y m → now k ≡ now m →
+          Dec (k ≡ i) → Dec (m ≡ i) → k ≡ m
       apart k m a b hk hm e (yes c) (yes d) = c ∙ sym d
       apart k m a b hk hm e (yes c) (no d) = absurd (omega (arith, arrives-later .new m (G .back m d hm), ap now c))
       apart k m a b hk hm e (no c) (yes d) = absurd (omega (arith, arrives-later .new k (G .back k c hk), ap now d))
       apart k m a b hk hm e (no c) (no d) = A .apart k m a b (G .back k c hk) (G .back m d hm) (sym (old k c) ∙ e ∙ old m d)
 
-      script : (k m : ℕ) → is-send (op s k) ≡ true → is-send (op s m) ≡ true → Entered y k → Entered y m → rank-of s k ≡ rank-of s m → k < m →
+      script : (k m : ℕ) → is-send (op s k) ≡ true → is-send (op s m) ≡ true → Entered y k → Entered y m →
+          rank-of s k ≡ rank-of s m → k < m →
           Dec (k ≡ i) → Dec (m ≡ i) → now k < now m
       script k m a b hk hm same l (yes c) (yes d) = absurd (omega arith)
       script k m a b hk hm same l (yes c) (no d) = absurd (differ k (prefix s x p k m (G .back m d hm) l same) c)
       script k m a b hk hm same l (no c) (yes d) = omega (arith, arrives-later .new k (G .back k c hk), ap now d)
-      script k m a b hk hm same l (no c) (no d) = omega (arith, old k c, old m d, A .in-script k m a b (G .back k c hk) (G .back m d hm) same l)
+      script k m a b hk hm same l (no c) (no d) =
+          omega (arith, old k c, old m d, A .in-script k m a b (G .back k c hk) (G .back m d hm) same l)

@@ -1,31 +1,31 @@
--- A job that is behind another can only catch up. Let every board of x stand at or before its place in y, and let messages that
--- one receive could take have come in the same order: then what is matched in x is matched alike in y, what is complete in x is
--- complete in y, and a board that stands where it stood and was able is able still. Behind both ways, the rows are the same.
--- Assumes nothing.
+-- A job that is behind another can only catch up. Let every board of x stand at or before its place in y, and let messages
+-- that one receive could take have come in the same order: then what is matched in x is matched alike in y, what is complete
+-- in x is complete in y, and a board that stands where it stood and was able is able still. Behind both ways, the rows are
+-- the same.
 --   stand            where a board stands, as one number
 --   Behind           x is behind y
 --   behind-met, behind-complete, still-able
 --   level-rows       behind both ways: the same rows
-use mathlib.Core.Path.{_≡_, refl, sym, ap, subst, _∙_}
-use mathlib.Core.Logic.{_⊎_, inl, inr, _≢_}
+-- Assumes nothing.
+use mathlib.Core.Path.{_≡_, refl, sym, ap, _∙_}
+use mathlib.Core.Logic.{_≢_}
 use mathlib.Core.Bool.{Bool, true, false, _&&_, _||_, not, cond}
 use mathlib.Core.List.{List}
-use mathlib.Core.Option.{Option, none, some}
-use Prim.Native.Nat.{ℕ, zero, suc, _+_, _*_, _≤_, _<_}
+use mathlib.Core.Option.{none}
+use Prim.Native.Nat.{ℕ, _+_, _*_, _≤_, _<_}
 use native.Mathlib.Omega.{arith}
 use native.Mathlib.Decide.{ℕ-discrete}
 use lib.Dec.{ltb, leb}
-use borrow.Author.Tests.{lt-ltb, not-true}
-use Rattle.rules.specs.Sheet.{Sheet, op, board, P-of, N-of, rank-of, is-send, is-receive, is-wait}
-use Rattle.rules.specs.Job.{Job, Stop, Entry, bare-entry, entry-at, place-at}
+use Rattle.rules.specs.Sheet.{Sheet, op, board, P-of, rank-of, is-receive, is-wait}
+use Rattle.rules.specs.Job.{Job, bare-entry, entry-at, place-at}
 use Rattle.rules.specs.Step.{able, next-op, is-finished, in-waiting-half, half-complete, is-none}
+use Rattle.laws.specs.Tests.{and-both, and-left, and-right}
 use Rattle.promises.specs.Good.{Good}
-use Rattle.promises.specs.Kinds.{clash, and-left, and-right, and-both, kind-send}
-use Rattle.promises.specs.Invariant.{Entered, state-at, partner-at, reach, row-of, unmatched-state, Met, Placed, Reached}
-use Rattle.promises.specs.Keep.{Within, Same-order, keep}
+use Rattle.promises.specs.Kinds.{kind-send}
+use Rattle.promises.specs.Invariant.{Entered, state-at, partner-at, reach, row-of, Met, Placed, Reached}
+use Rattle.promises.specs.Keep.{Same-order, keep}
 use Rattle.promises.specs.Shaping.{row-bare}
 use Rattle.promises.specs.Placing.{prefix, half-complete-on}
-use Rattle.promises.specs.Moves.{Next, able-next}
 
 -- a board goes from operation to operation, by way of a waiting half
 unfoldable pub stand : Job → (r : ℕ) → ℕ
@@ -35,7 +35,8 @@ pub stand-finished : (x y : Job) (r : ℕ) → stand x r ≡ stand y r → place
 unfolding stand
 stand-finished x y r = go (place-at x r .waiting) (place-at y r .waiting)
   where
-    go : (a b : Bool) → 2 * place-at x r .finished + cond a 1 0 ≡ 2 * place-at y r .finished + cond b 1 0 → place-at x r .finished ≡ place-at y r .finished
+    go : (a b : Bool) → 2 * place-at x r .finished + cond a 1 0 ≡ 2 * place-at y r .finished + cond b 1 0 →
+        place-at x r .finished ≡ place-at y r .finished
     go true true e = omega arith
     go true false e = omega arith
     go false true e = omega arith
@@ -67,11 +68,17 @@ pub record Behind {s : Sheet} {i j : List ℕ} {x y : Job} (X : Reached s i x) (
   pub order : Same-order s (X .came) x (Y .came) y
 
 -- what is entered goes by the places
-pub places-entered : {s : Sheet} → Good s → {x y : Job} → Placed s x → Placed s y → ((r : ℕ) → r < P-of s → stand x r ≤ stand y r) →
+pub places-entered : {s : Sheet} → Good s → {x y : Job} → Placed s x → Placed s y →
+    ((r : ℕ) → r < P-of s → stand x r ≤ stand y r) →
     (k : ℕ) → Entered x k → Entered y k
 places-entered {s} g {x} {y} p q l k h =
     let only = p .entered-only k h in
-    q .entered-if k (only .0) (omega (arith, only .1, stand-reach s x y (rank-of s k) (l (rank-of s k) (g .rank-small k (only .0)))))
+    q .entered-if k (only .0) (omega (
+      arith,
+      only .1,
+      stand-reach s x y (rank-of s k)
+          (l (rank-of s k) (g .rank-small k (only .0))),
+    ))
 
 module _ {s : Sheet} (g : Good s) {i j : List ℕ} {x y : Job} (X : Reached s i x) (Y : Reached s j y) (B : Behind X Y) where
   pub behind-entered : (k : ℕ) → Entered x k → Entered y k
@@ -89,7 +96,8 @@ module _ {s : Sheet} (g : Good s) {i j : List ℕ} {x y : Job} (X : Reached s i 
   pub behind-matched : (k : ℕ) → state-at x k ≡ 3 → (state-at y k ≡ 3) × (partner-at y k ≡ partner-at x k)
   behind-matched k e = go (is-wait (op s k)) refl (is-receive (op s k)) refl
     where
-      go : (a : Bool) → is-wait (op s k) ≡ a → (b : Bool) → is-receive (op s k) ≡ b → (state-at y k ≡ 3) × (partner-at y k ≡ partner-at x k)
+      go : (a : Bool) → is-wait (op s k) ≡ a → (b : Bool) → is-receive (op s k) ≡ b → (state-at y k ≡ 3)
+          × (partner-at y k ≡ partner-at x k)
       go true w b r = absurd (X .shaped .wait-unmatched k w e)
       go false w true r =
           let met = behind-met (partner-at x k) k (X .stable .receive-met k r e) in
@@ -106,12 +114,19 @@ module _ {s : Sheet} (g : Good s) {i j : List ℕ} {x y : Job} (X : Reached s i 
       go : Dec (state-at x k ≡ 3) → Dec (state-at y k ≡ 3) → 2 ≤ state-at y k
       go (yes e) _ = omega (arith, behind-matched k e .0)
       go (no d) (yes e) = omega arith
-      go (no d) (no c) = omega (arith, X .shaped .unmatched k (omega arith) d, Y .shaped .unmatched k (behind-entered k (omega arith)) c)
+      go (no d) (no c) = omega (
+        arith,
+        X .shaped .unmatched k (omega arith) d,
+        Y .shaped .unmatched k
+            (behind-entered k (omega arith)) c,
+      )
 
   -- a board that stands where it stood, and was able
   pub still-able : (r : ℕ) → stand x r ≡ stand y r → able s x r ≡ true → y .stop ≡ none → able s y r ≡ true
   unfolding able is-finished in-waiting-half next-op is-none
-  still-able r e a going = and-both (and-both (ap is-none going) unfinished) (last-part (place-at x r .waiting || is-wait (op s k)) refl (and-right first-part second-part a))
+  still-able r e a going =
+      and-both (and-both (ap is-none going) unfinished)
+      (last-part (place-at x r .waiting || is-wait (op s k)) refl (and-right first-part second-part a))
     where
       same-finished : place-at y r .finished ≡ place-at x r .finished
       same-finished = sym (stand-finished x y r e)
@@ -134,13 +149,16 @@ module _ {s : Sheet} (g : Good s) {i j : List ℕ} {x y : Job} (X : Reached s i 
       unfinished : ltb r (P-of s) && not (leb (board s r .count) (place-at y r .finished)) ≡ true
       unfinished =
           ap (λ (n : ℕ). ltb r (P-of s) && not (leb (board s r .count) n)) same-finished
-          ∙ and-right (is-none (x .stop)) (ltb r (P-of s) && not (leb (board s r .count) (place-at x r .finished))) (and-left first-part second-part a)
+          ∙ and-right (is-none (x .stop)) (ltb r (P-of s) && not (leb (board s r .count) (place-at x r .finished)))
+          (and-left first-part second-part a)
 
       -- in its waiting half alike, and what it waits for complete
       last-part : (b : Bool) → place-at x r .waiting || is-wait (op s k) ≡ b → not b || half-complete s x k ≡ true →
-          not (place-at y r .waiting || is-wait (op s (board s r .first + place-at y r .finished))) || half-complete s y (board s r .first + place-at y r .finished) ≡ true
+          not (place-at y r .waiting || is-wait (op s (board s r .first + place-at y r .finished))) || half-complete s y
+          (board s r .first + place-at y r .finished) ≡ true
       last-part b told h =
-          ap (λ (w : Bool). not (w || is-wait (op s (board s r .first + place-at y r .finished))) || half-complete s y (board s r .first + place-at y r .finished)) same-waiting
+          ap (λ (w : Bool). not (w || is-wait (op s (board s r .first + place-at y r .finished))) || half-complete s y
+          (board s r .first + place-at y r .finished)) same-waiting
           ∙ ap (λ (n : ℕ). not (place-at x r .waiting || is-wait (op s n)) || half-complete s y n) same-next
           ∙ ap (λ (w : Bool). not w || half-complete s y k) told ∙ go b h
         where
@@ -149,19 +167,24 @@ module _ {s : Sheet} (g : Good s) {i j : List ℕ} {x y : Job} (X : Reached s i 
           go false h = refl
 
 -- BEHIND BOTH WAYS
-module _ {s : Sheet} (g : Good s) {i j : List ℕ} {x y : Job} (X : Reached s i x) (Y : Reached s j y) (B : Behind X Y) (C : Behind Y X) where
-  level-row : (k : ℕ) → (state-at y k ≡ state-at x k) × (row-of s k (state-at y k) (partner-at y k) ≡ row-of s k (state-at x k) (partner-at x k))
+module _ {s : Sheet} (g : Good s) {i j : List ℕ} {x y : Job} (X : Reached s i x) (Y : Reached s j y) (B : Behind X Y)
+    (C : Behind Y X) where
+  level-row : (k : ℕ) → (state-at y k ≡ state-at x k)
+      × (row-of s k (state-at y k) (partner-at y k) ≡ row-of s k (state-at x k) (partner-at x k))
   level-row k = go (ℕ-discrete (state-at x k) 3) (ℕ-discrete (state-at y k) 3) (ℕ-discrete (state-at x k) 0)
     where
       bare : state-at y k ≡ state-at x k → state-at x k ≢ 3 →
-          (state-at y k ≡ state-at x k) × (row-of s k (state-at y k) (partner-at y k) ≡ row-of s k (state-at x k) (partner-at x k))
+          (state-at y k ≡ state-at x k) × (row-of s k (state-at y k) (partner-at y k) ≡ row-of s k (state-at x k)
+          (partner-at x k))
       bare e d = (
         e,
-        row-bare s k (state-at y k) (partner-at y k) (λ c. d (sym e ∙ c)) ∙ ap bare-entry e ∙ sym (row-bare s k (state-at x k) (partner-at x k) d),
+        row-bare s k (state-at y k) (partner-at y k) (λ c. d (sym e ∙ c)) ∙ ap bare-entry e
+            ∙ sym (row-bare s k (state-at x k) (partner-at x k) d),
       )
 
       go : Dec (state-at x k ≡ 3) → Dec (state-at y k ≡ 3) → Dec (state-at x k ≡ 0) →
-          (state-at y k ≡ state-at x k) × (row-of s k (state-at y k) (partner-at y k) ≡ row-of s k (state-at x k) (partner-at x k))
+          (state-at y k ≡ state-at x k) × (row-of s k (state-at y k) (partner-at y k) ≡ row-of s k (state-at x k)
+          (partner-at x k))
       go (yes e) _ _ =
           let m = behind-matched g X Y B k e in
           let same : state-at y k ≡ state-at x k = m .0 ∙ sym e in

@@ -1,9 +1,10 @@
 -- What a call of follow or run on a sheet that passes has said, once number 8 does not refuse it: the rooms suffice, the
--- answer is the order's, and on success inbox and report hold what the job left. Assumes nothing.
+-- answer is the order's, and on success inbox and report hold what the job left.
 --   Follow-answer, follow-answer     of a call of follow
 --   follow-accepted ..               and of one that answered 0
 --   Run-answer, run-answer           of a call of run
 --   front-report                     the report at the front of its room
+-- Assumes nothing.
 use mathlib.Core.Path.{_≡_, refl, sym, ap, _∙_}
 use mathlib.Core.Logic.{_≢_}
 use mathlib.Core.Bool.{Bool, true, false, cond}
@@ -50,8 +51,12 @@ unfolding room-refusal refusal
 rooms s i r o c h =
     record {
       accepts-all = all (ltb i (inbox-total s)) (ltb r size) (ltb o (order-room (N-of s))) (ltb c scratch-size) h;
-      inbox = ltb-false i (inbox-total s) (first (ltb i (inbox-total s)) (ltb r size) (ltb o (order-room (N-of s))) (ltb c scratch-size) h);
-      report-room = ltb-false r size (second (ltb i (inbox-total s)) (ltb r size) (ltb o (order-room (N-of s))) (ltb c scratch-size) h);
+      inbox =
+          ltb-false i (inbox-total s) (first (ltb i (inbox-total s)) (ltb r size) (ltb o (order-room (N-of s)))
+          (ltb c scratch-size) h);
+      report-room =
+          ltb-false r size (second (ltb i (inbox-total s)) (ltb r size) (ltb o (order-room (N-of s)))
+          (ltb c scratch-size) h);
     }
   where
     size : ℕ
@@ -93,7 +98,9 @@ pub record Follow-answer {bs o : List ℕ} (f : Follow-call bs o) : Type 0 where
 
 module _ {bs o : List ℕ} (p : passes bs ≡ true) (f : Follow-call bs o) where
   abbrev follow-rooms : Refusal
-  follow-rooms = room-refusal (sheet-in bs) (length (f .inbox)) (length (f .report)) (order-room (N-of (sheet-in bs))) (length (f .scratch))
+  follow-rooms =
+      room-refusal (sheet-in bs) (length (f .inbox)) (length (f .report)) (order-room (N-of (sheet-in bs)))
+      (length (f .scratch))
 
   abbrev follow-order : Refusal
   follow-order = order-refusal (follow (sheet-in bs) o (f .inbox) .refused-at)
@@ -109,15 +116,19 @@ module _ {bs o : List ℕ} (p : passes bs ≡ true) (f : Follow-call bs o) where
   unfolding follow-refusal
   after-sheet = or-else-next (sheet-refusal bs) (or-else follow-rooms follow-order) (passed-number bs p)
 
-  follow-enough : Rooms (sheet-in bs) (length (f .inbox)) (length (f .report)) (order-room (N-of (sheet-in bs))) (length (f .scratch))
+  follow-enough : Rooms (sheet-in bs) (length (f .inbox)) (length (f .report)) (order-room (N-of (sheet-in bs)))
+      (length (f .scratch))
   unfolding told
   follow-enough =
       rooms (sheet-in bs) (length (f .inbox)) (length (f .report)) (order-room (N-of (sheet-in bs))) (length (f .scratch))
-      (λ e. f .not-short (follow-told .0 ∙ ap (λ (z : Refusal). z .number) (after-sheet ∙ or-else-here follow-rooms follow-order (λ z. omega arith)) ∙ e))
+      (λ e. f .not-short (follow-told .0 ∙ ap (λ (z : Refusal). z .number)
+      (after-sheet ∙ or-else-here follow-rooms follow-order (λ z. omega arith)) ∙ e))
 
   after-rooms : follow-number ≡ follow-order
   unfolding refusal
-  after-rooms = after-sheet ∙ or-else-next follow-rooms follow-order (ap (λ (z : Refusal). z .number) (follow-enough .accepts-all))
+  after-rooms =
+      after-sheet ∙ or-else-next follow-rooms follow-order
+      (ap (λ (z : Refusal). z .number) (follow-enough .accepts-all))
 
   pub follow-answer : Follow-answer f
   unfolding told

@@ -1,29 +1,31 @@
--- Calm sheets never stop, and messages that one receive could take come in script order. The charges in use on a board are of
--- its buffered sends that are entered, so together with the one that enters they come to at most the charges of all of them,
--- which the attached buffer covers. Assumes nothing.
+-- Calm sheets never stop, and messages that one receive could take come in script order. The charges in use on a board are
+-- of its buffered sends that are entered, so together with the one that enters they come to at most the charges of all of
+-- them, which the attached buffer covers.
 --   calm-tame        no any-source receive, no ready send
 --   calm-covered     the attached buffer covers the charges of a board's script
 --   calm-going       an able step goes on
 --   calm-order       one order of arrival
-use mathlib.Core.Path.{_≡_, refl, sym, ap, subst, _∙_}
+-- Assumes nothing.
+use mathlib.Core.Path.{_≡_, refl, sym, ap, _∙_}
 use mathlib.Core.Logic.{_⊎_, inl, inr, _≢_}
-use mathlib.Core.Bool.{Bool, true, false, _&&_, _||_, not, cond}
+use mathlib.Core.Bool.{Bool, true, false, _&&_, not, cond}
 use mathlib.Core.List.{List, [], _∷_, _++_}
-use mathlib.Core.Option.{Option, none, some}
+use mathlib.Core.Option.{none}
 use Prim.Native.Nat.{ℕ, zero, suc, _+_, _-_, _≤_, _<_}
 use native.Mathlib.Omega.{arith}
-use native.Mathlib.Decide.{ℕ-discrete, decLt}
+use native.Mathlib.Decide.{decLt}
 use lib.Dec.{eqb, leb}
 use lib.ListN.{length, getD, take, drop, length-drop, List·getD-eq-default}
 use lib.Seq.{take-suc, getD-drop}
 use borrow.Author.Tests.{leb-true, le-leb, eq-eqb, ne-eqb, eqb-true, not-true}
 use Rattle.rules.specs.Limits.{any}
-use Rattle.rules.specs.Sheet.{Sheet, Op, Board, op, board, no-op, no-board, P-of, N-of, rank-of, is-send, is-receive, is-wait, is-ready, is-buffered}
-use Rattle.rules.specs.Job.{Job, Stop, place-at}
+use Rattle.rules.specs.Sheet.{Sheet, Op, Board, op, board, no-op, no-board, P-of, N-of, rank-of, is-receive, is-wait, is-ready, is-buffered}
+use Rattle.rules.specs.Job.{Job, place-at}
 use Rattle.rules.specs.Step.{able, step, next-op, in-waiting-half, is-none, first-receive, fits-buffer, fits-with, charge-of}
 use Rattle.rules.specs.Claims.{calm, none-wild, is-any-source, all-charges, script, all-covered}
+use Rattle.laws.specs.Tests.{and-both, and-left, and-right, or-false-left, true-not-false}
 use Rattle.promises.specs.Good.{Good}
-use Rattle.promises.specs.Kinds.{clash, and-left, and-right, and-both, is-false, fit-source, or-left-none}
+use Rattle.promises.specs.Kinds.{fit-source}
 use Rattle.promises.specs.Sums.{sum-below, sum-gap, sum-rest, sum-more, sum-zero}
 use Rattle.promises.specs.Invariant.{Entered, state-at, charge-in, unmatched-state, Reached}
 use Rattle.promises.specs.Keep.{Same-order}
@@ -33,20 +35,30 @@ use Rattle.promises.specs.Moves.{Next, able-next, next-fresh}
 use Rattle.promises.specs.After.{stop-after, step-stop}
 
 -- TAME
-wild-none : (os : List Op) → none-wild os ≡ true → (k : ℕ) → k < length os → (is-any-source (getD os k no-op) ≡ false) × (is-ready (getD os k no-op) ≡ false)
+wild-none : (os : List Op) → none-wild os ≡ true → (k : ℕ) → k < length os → (is-any-source (getD os k no-op) ≡ false)
+    × (is-ready (getD os k no-op) ≡ false)
 unfolding none-wild
 wild-none [] h k l = absurd (omega arith)
 wild-none (o ∷ os) h zero l =
-    let both = and-left (not (is-any-source o) && not (is-ready o)) (none-wild os) h in
-    (not-true (is-any-source o) (and-left (not (is-any-source o)) (not (is-ready o)) both), not-true (is-ready o) (and-right (not (is-any-source o)) (not (is-ready o)) both))
-wild-none (o ∷ os) h (suc k) l = wild-none os (and-right (not (is-any-source o) && not (is-ready o)) (none-wild os) h) k (omega arith)
+    let both = and-left (not (is-any-source o) && not (is-ready o)) (none-wild os) h in (
+      not-true (is-any-source o) (and-left (not (is-any-source o)) (not (is-ready o)) both),
+      not-true (is-ready o)
+          (and-right (not (is-any-source o)) (not (is-ready o)) both),
+    )
+wild-none (o ∷ os) h (suc k) l =
+    wild-none os (and-right (not (is-any-source o) && not (is-ready o)) (none-wild os) h) k
+    (omega arith)
 
-covered-all : (bs : List Board) (os : List Op) → all-covered bs os ≡ true → (r : ℕ) → r < length bs → all-charges (script (getD bs r no-board) os) ≤ getD bs r no-board .attached
+covered-all : (bs : List Board) (os : List Op) → all-covered bs os ≡ true → (r : ℕ) → r < length bs →
+    all-charges (script (getD bs r no-board) os) ≤ getD bs r no-board .attached
 unfolding all-covered
 covered-all [] os h r l = absurd (omega arith)
 covered-all (b ∷ bs) os h zero l =
-    leb-true (all-charges (script b os)) (b .attached) (and-left (leb (all-charges (script b os)) (b .attached)) (all-covered bs os) h)
-covered-all (b ∷ bs) os h (suc r) l = covered-all bs os (and-right (leb (all-charges (script b os)) (b .attached)) (all-covered bs os) h) r (omega arith)
+    leb-true (all-charges (script b os)) (b .attached)
+    (and-left (leb (all-charges (script b os)) (b .attached)) (all-covered bs os) h)
+covered-all (b ∷ bs) os h (suc r) l =
+    covered-all bs os
+    (and-right (leb (all-charges (script b os)) (b .attached)) (all-covered bs os) h) r (omega arith)
 
 module _ (s : Sheet) (c : calm s ≡ true) where
   pub calm-tame : (k : ℕ) → k < N-of s → (is-any-source (op s k) ≡ false) × (is-ready (op s k) ≡ false)
@@ -92,18 +104,33 @@ module _ (s : Sheet) (g : Good s) (r : ℕ) (l : r < P-of s) where
   count = board s r .count
 
   before-none : (j : ℕ) → j < from → covered s r j ≡ 0
-  before-none j h = covered-other s r j (λ e. omega (arith, g .rank-low j (omega (arith, g .script-inside r l)), ap (λ (q : ℕ). board s q .first) e))
+  before-none j h =
+      covered-other s r j (λ e. omega
+      (arith, g .rank-low j (omega (arith, g .script-inside r l)), ap (λ (q : ℕ). board s q .first) e))
 
   after-none : (j : ℕ) → from + count ≤ j → j < N-of s → covered s r j ≡ 0
   after-none j h k =
-      covered-other s r j (λ e. omega (arith, g .rank-high j k, ap (λ (q : ℕ). board s q .first) e, ap (λ (q : ℕ). board s q .count) e))
+      covered-other s r j (λ e. omega (
+        arith,
+        g .rank-high j k,
+        ap (λ (q : ℕ). board s q .first) e,
+        ap
+            (λ (q : ℕ). board s q .count) e,
+      ))
 
   sum-from : (k : ℕ) → k ≤ count → sum-below (from + k) (covered s r) ≡ all-charges (take k (drop from (s .ops)))
   unfolding all-charges op N-of
   sum-from zero h = ap (λ (z : ℕ). sum-below z (covered s r)) (omega arith) ∙ sum-zero from (covered s r) before-none
   sum-from (suc k) h =
       ap (λ (z : ℕ). sum-below z (covered s r)) next ∙ sum-more (from + k) (covered s r)
-      ∙ omega (arith, sum-from k (omega arith), covered-mine s r (from + k) mine, all-charges-more (take k rest) (getD rest k no-op), ap charged-op (getD-drop from (s .ops) k no-op))
+      ∙ omega (
+        arith,
+        sum-from k (omega arith),
+        covered-mine s r (from + k) mine,
+        all-charges-more (take k rest)
+            (getD rest k no-op),
+        ap charged-op (getD-drop from (s .ops) k no-op),
+      )
       ∙ sym (ap all-charges (take-suc rest k no-op inside))
     where
       rest : List Op
@@ -133,7 +160,8 @@ module _ (s : Sheet) (g : Good s) (r : ℕ) (l : r < P-of s) where
       split = omega (arith, g .script-inside r l)
 
 -- NEVER STOPS
-module _ {s : Sheet} (g : Good s) (c : calm s ≡ true) {lent : List ℕ} {x : Job} (R : Reached s lent x) (r : ℕ) (a : able s x r ≡ true) where
+module _ {s : Sheet} (g : Good s) (c : calm s ≡ true) {lent : List ℕ} {x : Job} (R : Reached s lent x) (r : ℕ)
+    (a : able s x r ≡ true) where
   n : Next s x r
   n = able-next s g x r a
 
@@ -145,11 +173,14 @@ module _ {s : Sheet} (g : Good s) (c : calm s ≡ true) {lent : List ℕ} {x : J
   unfolding charge-in covered unmatched-state
   charge-most j = go (eqb (rank-of s j) r) (eqb (state-at x j) 2) refl (is-buffered (op s j)) refl
     where
-      go : (a b : Bool) → eqb (state-at x j) 2 ≡ b → (d : Bool) → is-buffered (op s j) ≡ d → cond (a && b) (charge-of (op s j)) 0 ≤ cond (a && d) (charge-of (op s j)) 0
+      go : (a b : Bool) → eqb (state-at x j) 2 ≡ b → (d : Bool) → is-buffered (op s j) ≡ d →
+          cond (a && b) (charge-of (op s j)) 0 ≤ cond (a && d) (charge-of (op s j)) 0
       go false b e d f = omega arith
       go true false e d f = omega arith
       go true true e true f = omega arith
-      go true true e false f = absurd (unbuffered (is-wait (op s j)) (R .shaped .unmatched j (omega (arith, two)) (λ h. omega (arith, two))))
+      go true true e false f =
+          absurd (unbuffered (is-wait (op s j))
+          (R .shaped .unmatched j (omega (arith, two)) (λ h. omega (arith, two))))
         where
           two : state-at x j ≡ 2
           two = eqb-true (state-at x j) 2 e
@@ -166,34 +197,43 @@ module _ {s : Sheet} (g : Good s) (c : calm s ≡ true) {lent : List ℕ} {x : J
       (omega (
         arith,
         sum-gap (N-of s) i (charge-of (op s i)) (charge-in s x r) (covered s r) (n .inside) (λ j l. charge-most j)
-            (omega (arith, charge-none s x r i (λ e. omega (arith, fresh)), covered-mine s r i (n .ranked), ap (λ (z : Bool). cond z (charge-of (op s i)) 0) b)),
+            (omega (
+              arith,
+              charge-none s x r i (λ e. omega (arith, fresh)),
+              covered-mine s r i (n .ranked),
+              ap
+                  (λ (z : Bool). cond z (charge-of (op s i)) 0) b,
+            )),
         R .in-use-sum r (n .rank-small),
         covered-sum s g r (n .rank-small),
         calm-covered s c r (n .rank-small),
       ))
     where
       fresh : state-at x i ≡ 0
-      fresh = next-fresh s x r (R .placed) n (or-left-none (place-at x r .waiting) (is-wait (op s i)) half)
+      fresh = next-fresh s x r (R .placed) n (or-false-left (place-at x r .waiting) (is-wait (op s i)) half)
 
   pub calm-going : step s r x .stop ≡ none
   unfolding stop-after
-  calm-going = step-stop s r x ∙ go (in-waiting-half s x r) refl (is-receive (op s i)) (is-none (first-receive s i (x .receives))) (is-ready (op s i)) (calm-tame s c i (n .inside) .1) (is-buffered (op s i)) refl ∙ n .going
+  calm-going =
+      step-stop s r x ∙ go (in-waiting-half s x r) refl (is-receive (op s i)) (is-none (first-receive s i (x .receives)))
+      (is-ready (op s i)) (calm-tame s c i (n .inside) .1) (is-buffered (op s i)) refl ∙ n .going
     where
       go : (h : Bool) → in-waiting-half s x r ≡ h → (b d e : Bool) → e ≡ false → (k : Bool) → is-buffered (op s i) ≡ k →
           stop-after r i h b d e k (fits-buffer s r i x) (x .stop) ≡ x .stop
       go true p b d e q k o = refl
       go false p true d e q k o = refl
       go false p false false e q k o = refl
-      go false p false true true q k o = absurd (clash refl q)
+      go false p false true true q k o = true-not-false refl q
       go false p false true false q false o = refl
       go false p false true false q true o = fits (fits-buffer s r i x) (room-left p o)
         where
           fits : (z : Bool) → z ≡ true → stop-after r i false false true false true z (x .stop) ≡ x .stop
           fits true t = refl
-          fits false t = absurd (clash t refl)
+          fits false t = true-not-false t refl
 
 -- ONE ORDER OF ARRIVAL
-pub calm-order : {s : Sheet} → calm s ≡ true → {i j : List ℕ} {x y : Job} (X : Reached s i x) (Y : Reached s j y) → Same-order s (X .came) x (Y .came) y
+pub calm-order : {s : Sheet} → calm s ≡ true → {i j : List ℕ} {x y : Job} (X : Reached s i x) (Y : Reached s j y) →
+    Same-order s (X .came) x (Y .came) y
 unfolding is-any-source
 calm-order {s} c {i} {j} {x} {y} X Y k m r sk sm rr fk fm hm hk l = go (decLt k m) (decLt m k)
   where
@@ -201,7 +241,7 @@ calm-order {s} c {i} {j} {x} {y} X Y k m r sk sm rr fk fm hm hk l = go (decLt k 
     source q f = told (fit-source s q r f)
       where
         told : (op s r .peer ≡ any) ⊎ (op s r .peer ≡ rank-of s q) → op s r .peer ≡ rank-of s q
-        told (inl e) = absurd (clash (and-both rr (eq-eqb (op s r .peer) any e)) (calm-tame-all s c r))
+        told (inl e) = true-not-false (and-both rr (eq-eqb (op s r .peer) any e)) (calm-tame-all s c r)
         told (inr e) = e
 
     same : rank-of s k ≡ rank-of s m
@@ -211,5 +251,10 @@ calm-order {s} c {i} {j} {x} {y} X Y k m r sk sm rr fk fm hm hk l = go (decLt k 
     go (yes h) _ =
         let there = prefix s x (X .placed) k m hm h same in
         (there, X .arrived .in-script k m sk sm there hm same h)
-    go (no h) (yes o) = absurd (omega (arith, l, Y .arrived .in-script m k sm sk (prefix s y (Y .placed) m k hk o (sym same)) hk (sym same) o))
+    go (no h) (yes o) = absurd (omega (
+      arith,
+      l,
+      Y .arrived .in-script m k sm sk (prefix s y (Y .placed) m k hk o (sym same)) hk
+          (sym same) o,
+    ))
     go (no h) (no o) = absurd (omega (arith, l, ap (Y .came) (let e : k ≡ m = omega arith in e)))

@@ -1,13 +1,13 @@
 -- What a step does to the rows, said relationally. Every initiating step and every wait enters its operation i: unmatched
 -- (`Enters`), or matched with a pending one (`Matches`). Either way the rows grow (`Grows`), which is what most proofs ask.
--- Assumes nothing.
 --   Grows           matched rows stay, i enters, nothing else does
 --   Enters          operation i enters unmatched
 --   Matches         message m and receive r are matched; one of them is i, which enters
-use mathlib.Core.Path.{_≡_, refl, sym, ap, subst, _∙_}
+-- Assumes nothing.
+use mathlib.Core.Path.{_≡_, sym, ap, _∙_}
 use mathlib.Core.Logic.{_⊎_, inl, inr, _≢_}
-use mathlib.Core.Bool.{true, false, cond}
-use Prim.Native.Nat.{ℕ, zero, suc, _≤_, _<_}
+use mathlib.Core.Bool.{true, cond}
+use Prim.Native.Nat.{ℕ, _≤_}
 use native.Mathlib.Omega.{arith}
 use native.Mathlib.Decide.{ℕ-discrete}
 use Rattle.rules.specs.Limits.{absent}
@@ -61,7 +61,8 @@ pub state-name : (x : Job) {j i : ℕ} → j ≡ i → state-at x j ≡ state-at
 state-name x e = ap (λ (z : ℕ). state-at x z) e
 
 -- a pair is matched in y as in x where neither row changed
-pub met-same : {s : Sheet} {x y : Job} {m r : ℕ} → entry-at y m ≡ entry-at x m → entry-at y r ≡ entry-at x r → Met s x m r → Met s y m r
+pub met-same : {s : Sheet} {x y : Job} {m r : ℕ} → entry-at y m ≡ entry-at x m → entry-at y r ≡ entry-at x r → Met s x m r →
+    Met s y m r
 met-same a b h =
     record {
       sends = h .sends;
@@ -144,10 +145,14 @@ module _ {s : Sheet} {x y : Job} {m r i : ℕ} (M : Matches s x y m r i) where
 
   -- a row that was matched before is neither of the two
   matches-kept : (j : ℕ) → state-at x j ≡ 3 → entry-at y j ≡ entry-at x j
-  matches-kept j h = M .other j (λ e. M .message-free (state-name x (sym e) ∙ h)) (λ e. M .receive-free (state-name x (sym e) ∙ h))
+  matches-kept j h =
+      M .other j (λ e. M .message-free (state-name x (sym e) ∙ h))
+      (λ e. M .receive-free (state-name x (sym e) ∙ h))
 
   matches-same : (j : ℕ) → state-at y j ≢ 3 → entry-at y j ≡ entry-at x j
-  matches-same j h = M .other j (λ e. h (state-name y e ∙ matches-message-state)) (λ e. h (state-name y e ∙ matches-receive-state))
+  matches-same j h =
+      M .other j (λ e. h (state-name y e ∙ matches-message-state))
+      (λ e. h (state-name y e ∙ matches-receive-state))
 
   pub matches-grows : Grows x y i
   matches-grows =

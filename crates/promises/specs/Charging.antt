@@ -1,30 +1,32 @@
--- In use is the sum of the pending charges, after a step as before. Assumes nothing.
+-- In use is the sum of the pending charges, after a step as before.
 --   charge-none       an operation that is not buffered and pending has no charge
 --   charging-other    no operation's charge changed
 --   charging-enters   a send entered; charging-matches: a message was matched
-use mathlib.Core.Path.{_≡_, refl, sym, ap, subst, _∙_}
+-- Assumes nothing.
+use mathlib.Core.Path.{_≡_, refl, sym, ap, _∙_}
 use mathlib.Core.Logic.{_≢_}
 use mathlib.Core.Bool.{Bool, true, false, _&&_, cond}
-use Prim.Native.Nat.{ℕ, _+_, _-_, _≤_, _<_}
+use Prim.Native.Nat.{ℕ, _+_, _-_, _<_}
 use native.Mathlib.Omega.{arith}
 use native.Mathlib.Decide.{ℕ-discrete}
 use lib.Dec.{eqb}
 use borrow.Author.Tests.{eq-eqb, ne-eqb, eqb-true}
-use Rattle.rules.specs.Sheet.{Sheet, op, N-of, rank-of, is-send, is-receive, is-wait, is-buffered}
-use Rattle.rules.specs.Job.{Job, place-at}
+use Rattle.rules.specs.Sheet.{Sheet, op, N-of, rank-of, is-send, is-buffered}
+use Rattle.rules.specs.Job.{Job}
 use Rattle.rules.specs.Step.{charge-of}
-use Rattle.promises.specs.Kinds.{clash, send-no-wait, receive-no-buffered, receive-no-wait, is-false}
+use Rattle.laws.specs.Tests.{true-not-false}
 use Rattle.promises.specs.Sums.{sum-below, sum-same, sum-change}
-use Rattle.promises.specs.Invariant.{Entered, state-at, unmatched-state, charge-in, Shaped}
+use Rattle.promises.specs.Invariant.{state-at, unmatched-state, charge-in, Shaped}
+use Rattle.promises.specs.States.{unmatched-send, unmatched-receive}
 use Rattle.promises.specs.Changes.{Enters, Matches, state-same, state-name, enters-state, matches-message-state, matches-receive-state}
-use Rattle.promises.specs.Outcome.{use-charged, use-released}
+use Rattle.promises.specs.Used.{use-charged, use-released}
 
 pub charge-none : (s : Sheet) (x : Job) (r j : ℕ) → state-at x j ≢ 2 → charge-in s x r j ≡ 0
 unfolding charge-in
 charge-none s x r j d = go (eqb (rank-of s j) r) (eqb (state-at x j) 2) (ne-eqb (state-at x j) 2 d)
   where
     go : (a b : Bool) → b ≡ false → cond (a && b) (charge-of (op s j)) 0 ≡ 0
-    go true true e = absurd (clash refl e)
+    go true true e = true-not-false refl e
     go true false e = refl
     go false b e = refl
 
@@ -40,19 +42,17 @@ charging-other s {x} {y} {i} {v} E d r = sum-same (N-of s) (charge-in s x r) (ch
   where
     at : (j : ℕ) → Dec (j ≡ i) → charge-in s x r j ≡ charge-in s y r j
     at j (yes e) =
-        charge-none s x r j (λ c. omega (arith, E .fresh, state-name x e)) ∙ sym (charge-none s y r j (λ c. d (sym (enters-state E) ∙ state-name y (sym e) ∙ c)))
+        charge-none s x r j (λ c. omega (arith, E .fresh, state-name x e))
+        ∙ sym (charge-none s y r j (λ c. d (sym (enters-state E) ∙ state-name y (sym e) ∙ c)))
     at j (no c) = charge-same s x y r j (state-same (E .other j c))
-
-pub unmatched-send : (s : Sheet) (i : ℕ) → is-send (op s i) ≡ true → unmatched-state (op s i) ≡ cond (is-buffered (op s i)) 2 1
-unfolding unmatched-state
-unmatched-send s i e = ap (λ (c : Bool). cond c 5 (cond (is-buffered (op s i)) 2 1)) (send-no-wait (op s i) e)
 
 -- the charge of an operation by its two tests
 charge-was : (s : Sheet) (x : Job) (q m : ℕ) (a b : Bool) → eqb (rank-of s m) q ≡ a → eqb (state-at x m) 2 ≡ b →
     charge-in s x q m ≡ cond (a && b) (charge-of (op s m)) 0
 unfolding charge-in
 charge-was s x q m a b ea eb =
-    ap (λ (z : Bool). cond (z && eqb (state-at x m) 2) (charge-of (op s m)) 0) ea ∙ ap (λ (z : Bool). cond (a && z) (charge-of (op s m)) 0) eb
+    ap (λ (z : Bool). cond (z && eqb (state-at x m) 2) (charge-of (op s m)) 0) ea
+    ∙ ap (λ (z : Bool). cond (a && z) (charge-of (op s m)) 0) eb
 
 charge-told : (s : Sheet) (y : Job) (q i : ℕ) (a b : Bool) → eqb (rank-of s i) q ≡ a → state-at y i ≡ cond b 2 1 →
     charge-in s y q i ≡ cond (a && b) (charge-of (op s i)) 0
@@ -63,7 +63,8 @@ charge-told s y q i a b ea eb = charge-was s y q i a b ea (ap (λ (v : ℕ). eqb
     go false = refl
 
 -- a send of board r entered, buffered or not: n is in use before, q any board
-pub charging-enters : (s : Sheet) {x y : Job} {i : ℕ} (r q n : ℕ) → Enters x y i (unmatched-state (op s i)) → i < N-of s → rank-of s i ≡ r → is-send (op s i) ≡ true →
+pub charging-enters : (s : Sheet) {x y : Job} {i : ℕ} (r q n : ℕ) → Enters x y i (unmatched-state (op s i)) → i < N-of s →
+    rank-of s i ≡ r → is-send (op s i) ≡ true →
     n ≡ sum-below (N-of s) (charge-in s x q) → use-charged s r i q n ≡ sum-below (N-of s) (charge-in s y q)
 unfolding use-charged
 charging-enters s {x} {y} {i} r q n E l mine e told =
@@ -76,9 +77,10 @@ charging-enters s {x} {y} {i} r q n E l mine e told =
 
     rank-test : (b : Bool) → eqb q r ≡ b → eqb (rank-of s i) q ≡ b
     rank-test true c = eq-eqb (rank-of s i) q (mine ∙ sym (eqb-true q r c))
-    rank-test false c = ne-eqb (rank-of s i) q (λ k. clash (eq-eqb q r (sym k ∙ mine)) c)
+    rank-test false c = ne-eqb (rank-of s i) q (λ k. true-not-false (eq-eqb q r (sym k ∙ mine)) c)
 
-    charge-now : (a : Bool) → eqb q r ≡ a → (b : Bool) → is-buffered (op s i) ≡ b → charge-in s y q i ≡ cond (a && b) (charge-of (op s i)) 0
+    charge-now : (a : Bool) → eqb q r ≡ a → (b : Bool) → is-buffered (op s i) ≡ b →
+        charge-in s y q i ≡ cond (a && b) (charge-of (op s i)) 0
     charge-now a ea b eb = charge-told s y q i a b (rank-test a ea) (state b eb)
 
     go : (a : Bool) → eqb q r ≡ a → (b : Bool) → is-buffered (op s i) ≡ b →
@@ -88,15 +90,6 @@ charging-enters s {x} {y} {i} r q n E l mine e told =
     go true ea true eb sums zero-before = omega (arith, sums, zero-before, charge-now true ea true eb, told)
     go true ea false eb sums zero-before = omega (arith, sums, zero-before, charge-now true ea false eb, told)
     go false ea b eb sums zero-before = omega (arith, sums, zero-before, charge-now false ea b eb, told)
-
-pub unmatched-wait : (s : Sheet) (i : ℕ) → is-wait (op s i) ≡ true → unmatched-state (op s i) ≡ 5
-unfolding unmatched-state
-unmatched-wait s i e = ap (λ (c : Bool). cond c 5 (cond (is-buffered (op s i)) 2 1)) e
-
-pub unmatched-receive : (s : Sheet) (r : ℕ) → is-receive (op s r) ≡ true → unmatched-state (op s r) ≡ 1
-unfolding unmatched-state
-unmatched-receive s r e =
-    ap (λ (c : Bool). cond c 5 (cond (is-buffered (op s r)) 2 1)) (receive-no-wait (op s r) e) ∙ ap (λ (c : Bool). cond c 2 1) (receive-no-buffered (op s r) e)
 
 -- message m was matched with receive r, which has no charge
 pub charging-matches : {s : Sheet} {x y : Job} {m r i : ℕ} (q n : ℕ) → Matches s x y m r i → Shaped s x → m < N-of s →
@@ -119,7 +112,7 @@ charging-matches {s} {x} {y} {m} {r} {i} q n M h l told =
 
     rank-test : (b : Bool) → eqb q (rank-of s m) ≡ b → eqb (rank-of s m) q ≡ b
     rank-test true c = eq-eqb (rank-of s m) q (sym (eqb-true q (rank-of s m) c))
-    rank-test false c = ne-eqb (rank-of s m) q (λ k. clash (eq-eqb q (rank-of s m) (sym k)) c)
+    rank-test false c = ne-eqb (rank-of s m) q (λ k. true-not-false (eq-eqb q (rank-of s m) (sym k)) c)
 
     go : (a : Bool) → eqb q (rank-of s m) ≡ a → (b : Bool) → eqb (state-at x m) 2 ≡ b →
         sum-below (N-of s) (charge-in s x q) + charge-in s y q m ≡ sum-below (N-of s) (charge-in s y q) + charge-in s x q m →

@@ -1,13 +1,14 @@
 -- Steps are counted by where the boards stand: a step that goes on adds one to the sum of the steps that each operation has
--- taken, and no operation takes more than two. Assumes nothing.
+-- taken, and no operation takes more than two.
 --   steps-step      one more
 --   steps-most      at most two an operation; able-room, steps-bound: so a job takes at most 2N
+-- Assumes nothing.
 use mathlib.Core.Path.{_≡_, refl, sym, ap, subst, _∙_}
 use mathlib.Core.Logic.{_≢_}
 use mathlib.Core.Bool.{Bool, true, false, _||_, cond}
 use mathlib.Core.List.{List}
 use mathlib.Core.Option.{Option, none, some}
-use Prim.Native.Nat.{ℕ, zero, suc, _+_, _*_, _≤_, _<_}
+use Prim.Native.Nat.{ℕ, suc, _+_, _*_, _≤_, _<_}
 use native.Mathlib.Omega.{arith}
 use native.Mathlib.Decide.{ℕ-discrete, decLt}
 use lib.Dec.{ltb}
@@ -19,7 +20,7 @@ use Rattle.promises.specs.Good.{Good}
 use Rattle.promises.specs.Sums.{sum-below, sum-change, sum-gap, sum-most}
 use Rattle.promises.specs.Invariant.{state-at, Placed, Reached, reach, steps-of, steps-done}
 use Rattle.promises.specs.Moves.{Next, able-next}
-use Rattle.promises.specs.Placing.{Turn, here, waits, waits-most, next-other, reach-other, reach-mine, reach-mine-before, next-mine, next-mine-before}
+use Rattle.promises.specs.Placing.{Turn, waits, waits-most, next-other, reach-other, reach-mine, reach-mine-before, next-mine, next-mine-before}
 
 -- the steps of operation j, where its board has finished those below a and entered those below b
 unfoldable told : (j a b all : ℕ) → ℕ
@@ -31,13 +32,18 @@ told-finished j a b all l = ap (λ (c : Bool). cond c all (cond (ltb j b) 1 0)) 
 
 told-entered : (j a b all : ℕ) → a ≤ j → j < b → told j a b all ≡ 1
 unfolding told
-told-entered j a b all l h = ap (λ (c : Bool). cond c all (cond (ltb j b) 1 0)) (le-ltb j a l) ∙ ap (λ (c : Bool). cond c 1 0) (lt-ltb j b h)
+told-entered j a b all l h =
+    ap (λ (c : Bool). cond c all (cond (ltb j b) 1 0)) (le-ltb j a l)
+    ∙ ap (λ (c : Bool). cond c 1 0) (lt-ltb j b h)
 
 told-none : (j a b all : ℕ) → a ≤ j → b ≤ j → told j a b all ≡ 0
 unfolding told
-told-none j a b all l h = ap (λ (c : Bool). cond c all (cond (ltb j b) 1 0)) (le-ltb j a l) ∙ ap (λ (c : Bool). cond c 1 0) (le-ltb j b h)
+told-none j a b all l h =
+    ap (λ (c : Bool). cond c all (cond (ltb j b) 1 0)) (le-ltb j a l)
+    ∙ ap (λ (c : Bool). cond c 1 0) (le-ltb j b h)
 
-steps-told : (s : Sheet) (x : Job) (j : ℕ) → steps-done s x j ≡ told j (next-op s x (rank-of s j)) (reach s x (rank-of s j)) (steps-of (op s j))
+steps-told : (s : Sheet) (x : Job) (j : ℕ) → steps-done s x j ≡ told j (next-op s x (rank-of s j)) (reach s x (rank-of s j))
+    (steps-of (op s j))
 unfolding steps-done told
 steps-told s x j = refl
 
@@ -91,20 +97,28 @@ module _ {s : Sheet} {x y : Job} {r : ℕ} {last : Bool} (g : Good s) (p : Place
 
       go : Dec (rank-of s j ≡ r) → Dec (j < mine) → told j a b all ≡ told j a-now b-now all
       go (no c) _ =
-          ap (λ (k : ℕ). told j k b all) (sym (next-other g p T (rank-of s j) c)) ∙ ap (λ (k : ℕ). told j a-now k all) (sym (reach-other g p T (rank-of s j) c))
+          ap (λ (k : ℕ). told j k b all) (sym (next-other g p T (rank-of s j) c))
+          ∙ ap (λ (k : ℕ). told j a-now k all) (sym (reach-other g p T (rank-of s j) c))
       go (yes e) (yes l) =
           told-finished j a b all (omega (arith, next-mine-before g p T j e))
           ∙ sym (told-finished j a-now b-now all (omega (arith, next-near last (next-mine g p T j e) .0)))
       go (yes e) (no l) =
-          told-none j a b all (omega (arith, next-mine-before g p T j e)) (omega (arith, reach-mine-before g p T j e, waits-most g p T))
-          ∙ sym (told-none j a-now b-now all (omega (arith, next-near last (next-mine g p T j e) .1)) (omega (arith, reach-mine g p T j e)))
+          told-none j a b all (omega (arith, next-mine-before g p T j e))
+          (omega (arith, reach-mine-before g p T j e, waits-most g p T))
+          ∙ sym (told-none j a-now b-now all (omega (arith, next-near last (next-mine g p T j e) .1))
+          (omega (arith, reach-mine g p T j e)))
 
   steps-here-before : steps-done s x mine ≡ waits g p T
   steps-here-before = steps-told s x mine ∙ go (place-at x r .waiting) (reach-mine-before g p T mine (T .next .ranked))
     where
-      go : (b : Bool) → reach s x (rank-of s mine) ≡ mine + cond b 1 0 → told mine (next-op s x (rank-of s mine)) (reach s x (rank-of s mine)) (steps-of (op s mine)) ≡ cond b 1 0
-      go true e = told-entered mine _ (reach s x (rank-of s mine)) (steps-of (op s mine)) (omega (arith, next-mine-before g p T mine (T .next .ranked))) (omega (arith, e))
-      go false e = told-none mine _ (reach s x (rank-of s mine)) (steps-of (op s mine)) (omega (arith, next-mine-before g p T mine (T .next .ranked))) (omega (arith, e))
+      go : (b : Bool) → reach s x (rank-of s mine) ≡ mine + cond b 1 0 →
+          told mine (next-op s x (rank-of s mine)) (reach s x (rank-of s mine)) (steps-of (op s mine)) ≡ cond b 1 0
+      go true e =
+          told-entered mine _ (reach s x (rank-of s mine)) (steps-of (op s mine))
+          (omega (arith, next-mine-before g p T mine (T .next .ranked))) (omega (arith, e))
+      go false e =
+          told-none mine _ (reach s x (rank-of s mine)) (steps-of (op s mine))
+          (omega (arith, next-mine-before g p T mine (T .next .ranked))) (omega (arith, e))
 
   steps-here : steps-done s y mine ≡ suc (waits g p T)
   steps-here = steps-told s y mine ∙ go last refl (next-mine g p T mine (T .next .ranked))
@@ -117,14 +131,22 @@ module _ {s : Sheet} {x y : Job} {r : ℕ} {last : Bool} (g : Good s) (p : Place
 
       go : (c : Bool) → last ≡ c → a ≡ cond last (suc mine) mine → told mine a b (steps-of (op s mine)) ≡ suc (waits g p T)
       go true q e =
-          told-finished mine a b (steps-of (op s mine)) (omega (arith, e, ap (λ (c : Bool). cond c (suc mine) mine) q)) ∙ omega (arith, T .steps-left q)
+          told-finished mine a b (steps-of (op s mine)) (omega (arith, e, ap (λ (c : Bool). cond c (suc mine) mine) q))
+          ∙ omega (arith, T .steps-left q)
       go false q e =
-          told-entered mine a b (steps-of (op s mine)) (omega (arith, e, ap (λ (c : Bool). cond c (suc mine) mine) q)) (omega (arith, reach-mine g p T mine (T .next .ranked)))
+          told-entered mine a b (steps-of (op s mine)) (omega (arith, e, ap (λ (c : Bool). cond c (suc mine) mine) q))
+          (omega (arith, reach-mine g p T mine (T .next .ranked)))
           ∙ omega (arith, ap {B = ℕ} (λ (c : Bool). cond c 1 0) (T .goes-waiting q .2))
 
   pub steps-step : sum-below (N-of s) (steps-done s y) ≡ suc (sum-below (N-of s) (steps-done s x))
   steps-step =
-      omega (arith, sum-change (N-of s) mine (steps-done s x) (steps-done s y) (T .next .inside) (λ j l d. steps-other j d), steps-here, steps-here-before)
+      omega (
+        arith,
+        sum-change (N-of s) mine (steps-done s x) (steps-done s y) (T .next .inside)
+            (λ j l d. steps-other j d),
+        steps-here,
+        steps-here-before,
+      )
 
 fresh-unpassed : (s : Sheet) (x : Job) → Placed s x → (i : ℕ) → i < N-of s → state-at x i ≡ 0 → next-op s x (rank-of s i) ≤ i
 unfolding reach
@@ -146,7 +168,9 @@ module _ {s : Sheet} {lent : List ℕ} {x : Job} (R : Reached s lent x) where
 
   unpassed : (i : ℕ) → next-op s x (rank-of s i) ≤ i → steps-done s x i ≤ 1
   unfolding steps-done
-  unpassed i l = subst (λ (b : Bool). cond b (steps-of (op s i)) (cond (ltb i (reach s x (rank-of s i))) 1 0) ≤ 1) (sym (le-ltb i (next-op s x (rank-of s i)) l)) (go (ltb i (reach s x (rank-of s i))))
+  unpassed i l =
+      subst (λ (b : Bool). cond b (steps-of (op s i)) (cond (ltb i (reach s x (rank-of s i))) 1 0) ≤ 1)
+      (sym (le-ltb i (next-op s x (rank-of s i)) l)) (go (ltb i (reach s x (rank-of s i))))
     where
       go : (b : Bool) → cond b 1 0 ≤ 1
       go true = omega arith
@@ -157,7 +181,8 @@ module _ {s : Sheet} {lent : List ℕ} {x : Job} (R : Reached s lent x) where
   able-room g r a =
       omega (
         arith,
-        one-left (next-op s x r) (n .inside) (unpassed (next-op s x r) (omega (arith, ap (λ (q : ℕ). next-op s x q) (n .ranked)))),
+        one-left (next-op s x r) (n .inside) (unpassed (next-op s x r)
+            (omega (arith, ap (λ (q : ℕ). next-op s x q) (n .ranked)))),
         R .steps-sum ∙ ap (λ (o : Option Stop). sum-below (N-of s) (steps-done s x) + cond (is-none o) 0 1) (n .going),
       )
     where
@@ -171,8 +196,12 @@ module _ {s : Sheet} {lent : List ℕ} {x : Job} (R : Reached s lent x) where
     where
       go : (o : Option Stop) → x .stop ≡ o → x .steps ≤ 2 * N-of s
       go none e =
-          omega
-          (arith, steps-most s x, R .steps-sum ∙ ap (λ (o : Option Stop). sum-below (N-of s) (steps-done s x) + cond (is-none o) 0 1) e)
+          omega (
+            arith,
+            steps-most s x,
+            R .steps-sum
+                ∙ ap (λ (o : Option Stop). sum-below (N-of s) (steps-done s x) + cond (is-none o) 0 1) e,
+          )
       go (some t) e =
           let h = R .stop-at t e in
           omega (

@@ -1,13 +1,13 @@
 -- A new match took the earliest on both sides: the search found the earliest on one side, and stability of what was before
 -- gives the other. One law where a receive enters and one where a message does. Assumes nothing.
-use mathlib.Core.Path.{_≡_, refl, sym, ap, subst, _∙_}
-use mathlib.Core.Logic.{_⊎_, inl, inr, _≢_}
-use mathlib.Core.Bool.{Bool, true, false, cond}
-use Prim.Native.Nat.{ℕ, suc, _+_, _≤_, _<_}
+use mathlib.Core.Path.{_≡_, sym, ap, _∙_}
+use mathlib.Core.Logic.{_≢_}
+use mathlib.Core.Bool.{true}
+use Prim.Native.Nat.{ℕ, _≤_, _<_}
 use native.Mathlib.Omega.{arith}
 use native.Mathlib.Decide.{ℕ-discrete, decLt}
-use Rattle.rules.specs.Sheet.{Sheet, op, N-of, rank-of, is-send, is-receive}
-use Rattle.rules.specs.Job.{Job, place-at}
+use Rattle.rules.specs.Sheet.{Sheet, op, rank-of, is-send, is-receive}
+use Rattle.rules.specs.Job.{Job}
 use Rattle.rules.specs.Step.{next-op, fits-with}
 use Rattle.promises.specs.Kinds.{fit-one-board, send-receive-differ}
 use Rattle.promises.specs.Lists.{Holds, Found}
@@ -21,7 +21,8 @@ reach-least : (s : Sheet) (x : Job) (r : ℕ) → next-op s x r ≤ reach s x r
 unfolding reach
 reach-least s x r = omega arith
 
-module _ {s : Sheet} {x y : Job} {m q i : ℕ} {came now : ℕ → ℕ} (X : Stable s came x) (p : Placed s x) (L : Later came now x i) (M : Matches s x y m q i) where
+module _ {s : Sheet} {x y : Job} {m q i : ℕ} {came now : ℕ → ℕ} (X : Stable s came x) (p : Placed s x) (L : Later came now x i)
+    (M : Matches s x y m q i) where
   abbrev G : Grows x y i
   G = matches-grows M
 
@@ -54,7 +55,8 @@ module _ {s : Sheet} {x y : Job} {m q i : ℕ} {came now : ℕ → ℕ} (X : Sta
 
   -- THE RECEIVE ENTERS, and m is the earliest message that fits it
   pub first-for-receive : q ≡ i → (r : ℕ) → Next s x r → i ≡ next-op s x r →
-      Holds (Came-before came) (Pending-message s x) (x .messages) → Found (Came-before came) (λ k. fits-with s k i) (x .messages) m → First s now y m q
+      Holds (Came-before came) (Pending-message s x) (x .messages) →
+      Found (Came-before came) (λ k. fits-with s k i) (x .messages) m → First s now y m q
   first-for-receive new r n mine H F =
       record {
         sent = λ k a there l f. matched-on k (sent k a there l f (ℕ-discrete (state-at x k) 3));
@@ -71,33 +73,40 @@ module _ {s : Sheet} {x y : Job} {m q i : ℕ} {came now : ℕ → ℕ} (X : Sta
       earlier : (o : ℕ) → Entered x o → rank-of s o ≡ rank-of s q → Dec (o < q) → Dec (q < o) → o < q
       earlier o a e (yes l) _ = l
       earlier o a e (no l) (yes k) = absurd (omega (arith, M .fresh, state-name x new, prefix s x p q o a k (sym e)))
-      earlier o a e (no l) (no k) = absurd (let c : o ≡ q = omega arith in omega (arith, M .fresh, state-name x new, state-name x c))
+      earlier o a e (no l) (no k) = absurd (let c : o ≡ q =
+          omega arith in omega (arith, M .fresh, state-name x new, state-name x c))
 
       sent : (k : ℕ) → is-send (op s k) ≡ true → Entered y k → now k < now m → fits-with s k q ≡ true → Dec (state-at x k ≡ 3) →
           (state-at x k ≡ 3) × (partner-at x k < q)
       sent k a there l f (yes e) =
           let met = X .message-met k a e in (
             e,
-            earlier (partner-at x k) (omega (arith, met .receive-matched)) (fit-one-board s k (partner-at x k) q (met .fit) f) (decLt (partner-at x k) q) (decLt q (partner-at x k)),
+            earlier (partner-at x k) (omega (arith, met .receive-matched)) (fit-one-board s k (partner-at x k) q (met .fit) f)
+                (decLt (partner-at x k) q) (decLt q (partner-at x k)),
           )
       sent k a there l f (no d) =
           let b = before k there l m-old in
           absurd
-          (let late = F .earliest k (H .whole k (pending-message k a (G .back k (b .0) there) d)) (fits-new k f) (λ e. omega (arith, b .1, ap came e)) in
+          (let late = F .earliest k (H .whole k (pending-message k a (G .back k (b .0) there) d)) (fits-new k f)
+          (λ e. omega (arith, b .1, ap came e)) in
           omega (arith, late, b .1))
 
       posted : (o : ℕ) → is-receive (op s o) ≡ true → o < q → fits-with s m o ≡ true → Dec (state-at x o ≡ 3) → state-at y o ≡ 3
       posted o a l f (yes e) = state-same (G .kept o e) ∙ e
       posted o a l f (no d) =
-          let mine-too : rank-of s o ≡ r = fit-one-board s m o q f (M .fit) ∙ ap (λ (z : ℕ). rank-of s z) (new ∙ mine) ∙ n .ranked in
-          let there : Entered x o = p .entered-if o (omega (arith, n .inside)) (omega (arith, ap (λ (z : ℕ). reach s x z) mine-too, reached)) in
-          absurd (X .none-fit m o (pending-message m (M .sends) (M .message-there m-old) (M .message-free)) (pending-receive o a there d) f)
+          let mine-too : rank-of s o ≡ r = fit-one-board s m o q f (M .fit) ∙ ap (λ (z : ℕ). rank-of s z) (new ∙ mine)
+          ∙ n .ranked in
+          let there : Entered x o = p .entered-if o (omega (arith, n .inside))
+          (omega (arith, ap (λ (z : ℕ). reach s x z) mine-too, reached)) in
+          absurd (X .none-fit m o (pending-message m (M .sends) (M .message-there m-old) (M .message-free))
+          (pending-receive o a there d) f)
         where
           reached : next-op s x r ≤ reach s x r
           reached = reach-least s x r
 
   -- THE MESSAGE ENTERS, and q is the earliest posted receive that fits it
-  pub first-for-message : m ≡ i → Holds (Posted-before s) (Pending-receive s x) (x .receives) → Found (Posted-before s) (λ k. fits-with s i k) (x .receives) q → First s now y m q
+  pub first-for-message : m ≡ i → Holds (Posted-before s) (Pending-receive s x) (x .receives) →
+      Found (Posted-before s) (λ k. fits-with s i k) (x .receives) q → First s now y m q
   first-for-message new H F =
       record {
         sent = λ k a there l f. matched-on k (sent k a there l f (ℕ-discrete (state-at x k) 3));
@@ -123,7 +132,8 @@ module _ {s : Sheet} {x y : Job} {m q i : ℕ} {came now : ℕ → ℕ} (X : Sta
           least : Dec (partner-at x k < q) → Dec (q < partner-at x k) → partner-at x k < q
           least (yes c) _ = c
           least (no c) (yes h) = absurd (M .receive-free (X .first-posted k (partner-at x k) q met (M .receives) h f))
-          least (no c) (no h) = absurd (let w : partner-at x k ≡ q = omega arith in M .receive-free (state-name x (sym w) ∙ met .receive-matched))
+          least (no c) (no h) = absurd (let w : partner-at x k ≡ q =
+              omega arith in M .receive-free (state-name x (sym w) ∙ met .receive-matched))
 
       posted : (o : ℕ) → is-receive (op s o) ≡ true → o < q → fits-with s m o ≡ true → Dec (state-at x o ≡ 3) → state-at y o ≡ 3
       posted o a l f (yes e) = state-same (G .kept o e) ∙ e
@@ -131,5 +141,6 @@ module _ {s : Sheet} {x y : Job} {m q i : ℕ} {came now : ℕ → ℕ} (X : Sta
           let same : rank-of s o ≡ rank-of s q = fit-one-board s m o q f (M .fit) in
           let there : Entered x o = prefix s x p o q (M .receive-there q-old) l same in
           absurd
-          (let late = F .earliest o (H .whole o (pending-receive o a there d)) (ap (λ (z : ℕ). fits-with s z o) (sym new) ∙ f) (λ e. omega arith) (sym same) in
+          (let late = F .earliest o (H .whole o (pending-receive o a there d)) (ap (λ (z : ℕ). fits-with s z o) (sym new) ∙ f)
+          (λ e. omega arith) (sym same) in
           omega arith)

@@ -1,5 +1,6 @@
--- Two full orders on a calm sheet end alike, and run ends alike with both; so do the calls of the services. Assumes nothing.
+-- Two full orders on a calm sheet end alike, and run ends alike with both; so do the calls of the services.
 --   run-ends, ends-alike, calls-follow-alike, calls-run-alike
+-- Assumes nothing.
 use mathlib.Core.Path.{_≡_, ap, subst, _∙_}
 use mathlib.Core.Bool.{true}
 use mathlib.Core.List.{List}
@@ -8,17 +9,15 @@ use Rattle.rules.specs.Sheet.{Sheet, sheet-in}
 use Rattle.rules.specs.Job.{Job}
 use Rattle.rules.specs.Order.{run, none-able}
 use Rattle.rules.specs.Claims.{left-by, Alike, Given}
-use Rattle.promises.specs.Statements.{Lent, Ends, Run-ends, Ends-alike, Follows-alike, Run-alike}
-use Rattle.promises.specs.Good.{Good}
-use Rattle.promises.specs.Ground.{Ground}
-use Rattle.promises.specs.FromBytes.{good-from-bytes}
+use Rattle.promises.specs.Statements.{Lent, Run-ends, Ends-alike, Follows-alike, Run-alike}
 use Rattle.promises.specs.Delivering.{ground}
 use Rattle.promises.specs.Start.{left-reached}
-use Rattle.promises.specs.Ends.{none-able-all, ends-like}
+use Rattle.promises.specs.Lowest.{next-none}
+use Rattle.promises.specs.Ends.{ends-like}
 use Rattle.promises.specs.Run.{run-ended}
 use Rattle.promises.specs.Likeness.{like-alike}
 use Rattle.promises.specs.Services.{follows-alike, run-alike}
-use Rattle.promises.specs.Kept.{lent-good, entries-long}
+use Rattle.promises.specs.Kept.{lent-good}
 
 pub run-ends : Run-ends
 unfolding Run-ends
@@ -36,12 +35,13 @@ module _ {bs i : List ℕ} (h : Given bs i) where
       }
 
   -- two orders after which no board is able
-  full-alike : (a b : List ℕ) → none-able s (left-by s a i) ≡ true → none-able s (left-by s b i) ≡ true → Alike s (left-by s a i) (left-by s b i)
+  full-alike : (a b : List ℕ) → none-able s (left-by s a i) ≡ true → none-able s (left-by s b i) ≡ true →
+      Alike s (left-by s a i) (left-by s b i)
   full-alike a b full-a full-b =
       let g = lent-good lent in
       let A = ground s g in
       like-alike g
-      (ends-like g A (h .calm-sheet) a b i (h .room) (none-able-all g (left-by s a i) full-a) (none-able-all g (left-by s b i) full-b)
+      (ends-like g A (h .calm-sheet) a b i (h .room) (next-none s g (left-by s a i) full-a) (next-none s g (left-by s b i) full-b)
       (left-reached g A (h .room) a) (left-reached g A (h .room) b))
 
 pub ends-alike : Ends-alike
@@ -49,13 +49,14 @@ unfolding Ends-alike Run-ends
 ends-alike bs i a b h accepted-a accepted-b full-a full-b =
     let E = run-ends bs i (lent h) in
     let order = run (sheet-in bs) i .order in
-    let full-run : none-able (sheet-in bs) (left-by (sheet-in bs) order i) ≡ true = ap (λ (x : Job). none-able (sheet-in bs) x) (E .same-job) ∙ E .none-left in (
+    let full-run : none-able (sheet-in bs) (left-by (sheet-in bs) order i) ≡ true =
+    ap (λ (x : Job). none-able (sheet-in bs) x) (E .same-job) ∙ E .none-left in (
       full-alike h a b full-a full-b,
       subst (λ (x : Job). Alike (sheet-in bs) (left-by (sheet-in bs) a i) x) (E .same-job) (full-alike h a order full-a full-run),
     )
 
 pub calls-follow-alike : Follows-alike
-calls-follow-alike = follows-alike ends-alike entries-long
+calls-follow-alike = follows-alike ends-alike
 
 pub calls-run-alike : Run-alike
-calls-run-alike = run-alike ends-alike run-ends entries-long
+calls-run-alike = run-alike ends-alike run-ends

@@ -1,61 +1,33 @@
--- On a calm sheet every order stays behind every end: let no board of y be able; a board that is able in x, which is behind y,
--- stands before its place in y, so that x stepped is behind y still. Two ends are therefore behind each other, and alike.
--- Assumes nothing.
---   none-able-all     no board is able
+-- On a calm sheet every order stays behind every end: let no board of y be able; a board that is able in x, which is behind
+-- y, stands before its place in y, so that x stepped is behind y still. Two ends are therefore behind each other, and alike.
 --   step-behind       one step; left-behind: a whole order
 --   ends-like         two ends
+-- Assumes nothing.
 use mathlib.Core.Path.{_≡_, refl, sym, ap, subst, _∙_}
-use mathlib.Core.Logic.{_⊎_, inl, inr, _≢_}
-use mathlib.Core.Bool.{Bool, true, false, _&&_, _||_, not, cond}
-use mathlib.Core.List.{List, [], _∷_}
-use mathlib.Core.Option.{Option, none, some}
-use Prim.Native.Nat.{ℕ, zero, suc, _+_, _*_, _≤_, _<_}
+use mathlib.Core.Bool.{Bool, true, false, _||_, cond}
+use mathlib.Core.List.{List}
+use mathlib.Core.Option.{Option, none}
+use Prim.Native.Nat.{ℕ, _+_, _*_, _≤_, _<_}
 use native.Mathlib.Omega.{arith}
-use native.Mathlib.Decide.{ℕ-discrete, decLt}
-use lib.Dec.{ltb}
+use native.Mathlib.Decide.{ℕ-discrete}
 use lib.ListN.{length}
-use borrow.Author.Tests.{le-ltb}
 use Rattle.rules.specs.Sheet.{Sheet, op, board, P-of, N-of, rank-of, inbox-total, is-wait, is-nonblocking}
 use Rattle.rules.specs.Job.{Job, Stop, place-at, started, job}
-use Rattle.rules.specs.Step.{able, step, next-op, in-waiting-half, is-finished, is-none}
-use Rattle.rules.specs.Order.{lowest-able, next-rank, none-able}
+use Rattle.rules.specs.Step.{able, step, next-op, in-waiting-half, is-none}
 use Rattle.rules.specs.Claims.{calm, left-by}
+use Rattle.laws.specs.Tests.{true-not-false}
 use Rattle.promises.specs.Good.{Good}
 use Rattle.promises.specs.Ground.{Ground}
-use Rattle.promises.specs.Kinds.{clash, is-false}
 use Rattle.promises.specs.Sums.{sum-below, sum-same}
-use Rattle.promises.specs.Invariant.{reach, steps-done, steps-of, Placed, Reached}
-use Rattle.promises.specs.Keep.{Same-order}
+use Rattle.promises.specs.Invariant.{reach, steps-done, Reached}
 use Rattle.promises.specs.Moves.{Next, Moved, able-next}
-use Rattle.promises.specs.Sound.{Extended, step-sound}
-use Rattle.promises.specs.Start.{start-reached, start-finished, start-waiting, left-keeps}
+use Rattle.promises.specs.Sound.{step-sound}
+use Rattle.promises.specs.Start.{start-reached, start-stand, left-keeps}
 use Rattle.promises.specs.Behind.{stand, stand-finished, stand-waiting, Behind, still-able}
 use Rattle.promises.specs.After.{finishing, stand-on, moved-stand, moved-stand-other}
 use Rattle.promises.specs.Swap.{step-moved}
 use Rattle.promises.specs.Like.{Like}
 use Rattle.promises.specs.Calm.{calm-going, calm-order}
-
--- NONE ABLE
-lowest-none : (k r : ℕ) (s : Sheet) (x : Job) → is-none (lowest-able k r s x) ≡ true → (q : ℕ) → r ≤ q → q < r + k → able s x q ≡ false
-unfolding lowest-able is-none
-lowest-none zero r s x h q l m = absurd (omega arith)
-lowest-none (suc k) r s x h q l m = go (able s x r) refl (λ e. lowest-none k (suc r) s x e q) (ℕ-discrete q r) h
-  where
-    go : (b : Bool) → able s x r ≡ b → (is-none (lowest-able k (suc r) s x) ≡ true → suc r ≤ q → q < suc r + k → able s x q ≡ false) → Dec (q ≡ r) →
-        is-none (cond b (some r) (lowest-able k (suc r) s x)) ≡ true → able s x q ≡ false
-    go true e rest d h = absurd (clash h refl)
-    go false e rest (yes c) h = ap (λ (z : ℕ). able s x z) c ∙ e
-    go false e rest (no c) h = rest h (omega arith) (omega arith)
-
-pub none-able-all : {s : Sheet} → Good s → (x : Job) → none-able s x ≡ true → (q : ℕ) → able s x q ≡ false
-unfolding none-able next-rank
-none-able-all {s} g x h q =
-    is-false (able s x q) (λ e. clash e (lowest-none (P-of s) 0 s x h q (omega arith) (omega (arith, able-next s g x q e .rank-small))))
-
-start-stand : {s : Sheet} → Good s → (lent : List ℕ) (r : ℕ) → stand (started s lent) r ≡ 0
-unfolding stand
-start-stand {s} g lent r =
-    ap (λ (b : Bool). 2 * place-at (started s lent) r .finished + cond b 1 0) (start-waiting g lent r) ∙ omega (arith, start-finished g lent r)
 
 -- x is reached, and behind y
 record Catching (s : Sheet) (i : List ℕ) (y x : Job) : Type 0 where
@@ -83,7 +55,7 @@ module _ {s : Sheet} (g : Good s) (A : Ground s) (c : calm s ≡ true) (i : List
     before = go (ℕ-discrete (stand x r) (stand y r))
       where
         go : Dec (stand x r ≡ stand y r) → stand x r < stand y r
-        go (yes e) = absurd (clash (still-able g X Y behind r e a going) (end r))
+        go (yes e) = true-not-false (still-able g X Y behind r e a going) (end r)
         go (no d) = omega (arith, C .places r (n .rank-small))
 
     moved : Moved x (step s r x) r (finishing s x r)
@@ -93,7 +65,9 @@ module _ {s : Sheet} (g : Good s) (A : Ground s) (c : calm s ≡ true) (i : List
     not-between : in-waiting-half s x r || is-nonblocking (op s (next-op s x r)) ≡ true → place-at x r .waiting ≡ false →
         place-at y r .finished ≡ place-at x r .finished → place-at y r .waiting ≡ true → ⊥
     unfolding in-waiting-half next-op
-    not-between h w e v = go (is-wait (op s k)) refl (is-nonblocking (op s k)) refl (sym (ap (λ (b : Bool). (b || is-wait (op s k)) || is-nonblocking (op s k)) w) ∙ h)
+    not-between h w e v =
+        go (is-wait (op s k)) refl (is-nonblocking (op s k)) refl
+        (sym (ap (λ (b : Bool). (b || is-wait (op s k)) || is-nonblocking (op s k)) w) ∙ h)
       where
         k : ℕ
         k = board s r .first + place-at x r .finished
@@ -102,9 +76,13 @@ module _ {s : Sheet} (g : Good s) (A : Ground s) (c : calm s ≡ true) (i : List
         same = ap (λ (z : ℕ). board s r .first + z) e
 
         go : (a : Bool) → is-wait (op s k) ≡ a → (b : Bool) → is-nonblocking (op s k) ≡ b → a || b ≡ true → ⊥
-        go true p b q o = clash p (ap (λ (z : ℕ). is-wait (op s z)) (sym same) ∙ Y .placed .waiting-no-wait r (n .rank-small) v)
-        go false p true q o = clash q (ap (λ (z : ℕ). is-nonblocking (op s z)) (sym same) ∙ Y .placed .waiting-blocking r (n .rank-small) v)
-        go false p false q o = clash o refl
+        go true p b q o =
+            true-not-false p (ap (λ (z : ℕ). is-wait (op s z)) (sym same)
+            ∙ Y .placed .waiting-no-wait r (n .rank-small) v)
+        go false p true q o =
+            true-not-false q
+            (ap (λ (z : ℕ). is-nonblocking (op s z)) (sym same) ∙ Y .placed .waiting-blocking r (n .rank-small) v)
+        go false p false q o = true-not-false o refl
 
     stepped-before : stand (step s r x) r ≤ stand y r
     unfolding stand stand-on
@@ -117,8 +95,10 @@ module _ {s : Sheet} (g : Good s) (A : Ground s) (c : calm s ≡ true) (i : List
         h : ℕ
         h = place-at y r .finished
 
-        go : (last : Bool) → finishing s x r ≡ last → (w : Bool) → place-at x r .waiting ≡ w → (v : Bool) → place-at y r .waiting ≡ v →
-            stand (step s r x) r ≡ stand-on last f → 2 * f + cond w 1 0 < 2 * h + cond v 1 0 → stand (step s r x) r ≤ 2 * h + cond v 1 0
+        go : (last : Bool) → finishing s x r ≡ last → (w : Bool) → place-at x r .waiting ≡ w → (v : Bool) →
+            place-at y r .waiting ≡ v →
+            stand (step s r x) r ≡ stand-on last f → 2 * f + cond w 1 0 < 2 * h + cond v 1 0 →
+            stand (step s r x) r ≤ 2 * h + cond v 1 0
         go false p w q v o e l = omega (arith, e)
         go true p true q v o e l = omega (arith, e)
         go true p false q false o e l = omega (arith, e)
@@ -155,10 +135,12 @@ pub calm-left : {s : Sheet} → Good s → Ground s → calm s ≡ true → (rs 
     Reached s lent (left-by s rs lent) × (left-by s rs lent .stop ≡ none)
 unfolding started job
 calm-left {s} g A c rs lent room =
-    left-keeps s (λ x. Reached s lent x × (x .stop ≡ none)) (λ x r h a. (step-sound g A room (h .0) r a .reached, calm-going g c (h .0) r a)) rs lent (start-reached g lent, refl)
+    left-keeps s (λ x. Reached s lent x × (x .stop ≡ none))
+    (λ x r h a. (step-sound g A room (h .0) r a .reached, calm-going g c (h .0) r a)) rs lent (start-reached g lent, refl)
 
 -- STEPS by where the boards stand
-steps-same : {s : Sheet} → Good s → (x y : Job) → ((r : ℕ) → r < P-of s → stand x r ≡ stand y r) → sum-below (N-of s) (steps-done s x) ≡ sum-below (N-of s) (steps-done s y)
+steps-same : {s : Sheet} → Good s → (x y : Job) → ((r : ℕ) → r < P-of s → stand x r ≡ stand y r) →
+    sum-below (N-of s) (steps-done s x) ≡ sum-below (N-of s) (steps-done s y)
 unfolding steps-done reach next-op
 steps-same {s} g x y same = sum-same (N-of s) (steps-done s x) (steps-done s y) at
   where
@@ -198,4 +180,9 @@ ends-like {s} g A c a b lent room end-a end-b X Y =
     going-y = calm-left g A c b lent room .1
 
     places : (r : ℕ) → r < P-of s → stand x r ≡ stand y r
-    places r l = omega (arith, left-behind g A c lent room Y going-y end-b a r l, left-behind g A c lent room X going-x end-a b r l)
+    places r l = omega (
+      arith,
+      left-behind g A c lent room Y going-y end-b a r l,
+      left-behind g A c lent room X going-x end-a b r
+          l,
+    )

@@ -1,10 +1,10 @@
 -- Where the bytes of an operation lie: a message inside the payload, an area inside its board's inbox (rule 6). Areas of
 -- different boards are disjoint, since inboxes lie one after another; areas of one board where they share no byte (rule 7).
--- Assumes nothing.
 --   send-inside, receive-inside     a send or a receive is an operation of the sheet
 --   send-extent, receive-extent     offset plus length stays inside payload or inbox
 --   area-inside                     an area lies inside the inbox memory
 --   areas-disjoint                  areas that share no byte, or of different boards
+-- Assumes nothing.
 use mathlib.Core.Path.{_≡_, ap, subst}
 use mathlib.Core.Bool.{true, false}
 use Prim.Native.Nat.{ℕ, _+_, _≤_, _<_}
@@ -48,13 +48,16 @@ op-extent s g i l = fields-end (P-of s) (s .comms) (room-for s i) (op s i) (g .o
 pub send-extent : (s : Sheet) → Good s → (m : ℕ) → is-send (op s m) ≡ true → op s m .offset + op s m .long ≤ length (s .payload)
 unfolding room-for
 send-extent s g m h =
-    subst (λ (k : ℕ). op s m .offset + op s m .long ≤ k) (cond-false (is-receive (op s m)) (board s (rank-of s m) .inbox) (length (s .payload)) (send-no-receive (op s m) h))
+    subst (λ (k : ℕ). op s m .offset + op s m .long ≤ k)
+    (cond-false (is-receive (op s m)) (board s (rank-of s m) .inbox) (length (s .payload)) (send-no-receive (op s m) h))
     (op-extent s g m (send-inside s m h))
 
-pub receive-extent : (s : Sheet) → Good s → (r : ℕ) → is-receive (op s r) ≡ true → op s r .offset + op s r .long ≤ board s (rank-of s r) .inbox
+pub receive-extent : (s : Sheet) → Good s → (r : ℕ) → is-receive (op s r) ≡ true →
+    op s r .offset + op s r .long ≤ board s (rank-of s r) .inbox
 unfolding room-for
 receive-extent s g r h =
-    subst (λ (k : ℕ). op s r .offset + op s r .long ≤ k) (cond-true (is-receive (op s r)) (board s (rank-of s r) .inbox) (length (s .payload)) h)
+    subst (λ (k : ℕ). op s r .offset + op s r .long ≤ k)
+    (cond-true (is-receive (op s r)) (board s (rank-of s r) .inbox) (length (s .payload)) h)
     (op-extent s g r (receive-inside s r h))
 
 -- AREAS
@@ -74,10 +77,12 @@ share-disjoint s r q same h i a b c d =
     let starts : inbox-start s (rank-of s r) ≡ inbox-start s (rank-of s q) = ap (λ (z : ℕ). inbox-start s z) same in
     true-not-false
     (and-both (and-both (lt-ltb 0 (op s r .long) (omega arith)) (lt-ltb 0 (op s q .long) (omega arith)))
-    (and-both (lt-ltb (op s r .offset) (op s q .offset + op s q .long) (omega arith)) (lt-ltb (op s q .offset) (op s r .offset + op s r .long) (omega arith))))
+    (and-both (lt-ltb (op s r .offset) (op s q .offset + op s q .long) (omega arith))
+    (lt-ltb (op s q .offset) (op s r .offset + op s r .long) (omega arith))))
     h
 
-boards-disjoint : (s : Sheet) → Good s → (r q : ℕ) → is-receive (op s r) ≡ true → is-receive (op s q) ≡ true → rank-of s r < rank-of s q → Areas-disjoint s r q
+boards-disjoint : (s : Sheet) → Good s → (r q : ℕ) → is-receive (op s r) ≡ true → is-receive (op s q) ≡ true →
+    rank-of s r < rank-of s q → Areas-disjoint s r q
 unfolding area-start
 boards-disjoint s g r q hr hq l i a b c d =
     let small = g .rank-small q (receive-inside s q hq) in

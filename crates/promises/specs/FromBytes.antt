@@ -1,7 +1,7 @@
 -- Bytes that pass check decode to a good sheet: each number of the refusal table settles its part of `Good`.
--- Assumes nothing.
 --   Accepted          the tests that bytes with no refusal have passed
 --   good-from-bytes   passes bs gives Good (sheet-in bs)
+-- Assumes nothing.
 use mathlib.Core.Path.{_≡_, refl, sym, subst}
 use mathlib.Core.Bool.{Bool, true, false, _&&_, not, cond}
 use mathlib.Core.List.{List}
@@ -46,7 +46,9 @@ passed-accepted bs h =
     record {
       sizes = not-false (sizes-good bs) (chain-test (not (sizes-good bs)) 1 after-sizes from-sizes);
       layout = not-false (layout-good bs) (chain-test (not (layout-good bs)) 2 after-layout from-layout);
-      tables = chain-rest (not (crc-good bs)) 3 (tables-refusal (sheet-in bs)) (chain-rest (not (layout-good bs)) 2 after-layout from-layout);
+      tables =
+          chain-rest (not (crc-good bs)) 3 (tables-refusal (sheet-in bs))
+          (chain-rest (not (layout-good bs)) 2 after-layout from-layout);
     }
   where
     after-layout : Refusal
@@ -86,20 +88,24 @@ module _ (s : Sheet) (h : tables-refusal s .number ≡ 0) where
   unfolding tables-refusal boards-refusal
   table-boards r l =
       broken-passed 5 (board-good s) (P-of s) 0 (λ z. absurd (omega arith))
-      (or-else-first (first-broken 5 (board-good s) (P-of s) 0) _ (or-else-first (boards-refusal s) (or-else (ops-refusal s) (requests-refusal s)) h)) r (omega arith) (omega arith)
+      (or-else-first (first-broken 5 (board-good s) (P-of s) 0) _
+      (or-else-first (boards-refusal s) (or-else (ops-refusal s) (requests-refusal s)) h)) r (omega arith) (omega arith)
 
   table-ops : (i : ℕ) → i < N-of s → op-good s i ≡ true
   unfolding ops-refusal
   table-ops i l =
-      broken-passed 6 (op-good s) (N-of s) 0 (λ z. absurd (omega arith)) (or-else-first (ops-refusal s) (requests-refusal s) rest-accepted) i (omega arith) (omega arith)
+      broken-passed 6 (op-good s) (N-of s) 0 (λ z. absurd (omega arith))
+      (or-else-first (ops-refusal s) (requests-refusal s) rest-accepted) i (omega arith) (omega arith)
 
   table-requests : (i : ℕ) → i < N-of s → request-good s i ≡ true
   unfolding requests-refusal
   table-requests i l =
-      broken-passed 7 (request-good s) (N-of s) 0 (λ z. absurd (omega arith)) (or-else-second (ops-refusal s) (requests-refusal s) rest-accepted) i (omega arith) (omega arith)
+      broken-passed 7 (request-good s) (N-of s) 0 (λ z. absurd (omega arith))
+      (or-else-second (ops-refusal s) (requests-refusal s) rest-accepted) i (omega arith) (omega arith)
 
   table-lies : (i : ℕ) → i < N-of s →
-      (rank-of s i < P-of s) × (board s (rank-of s i) .first ≤ i) × (i < board s (rank-of s i) .first + board s (rank-of s i) .count)
+      (rank-of s i < P-of s) × (board s (rank-of s i) .first ≤ i)
+      × (i < board s (rank-of s i) .first + board s (rank-of s i) .count)
   table-lies i l = rank-lies s (table .consecutive) i (omega (arith, table .total))
 
   -- inbox starts only grow

@@ -1,5 +1,5 @@
--- What a sheet that passes check is known to be. Everything proved about jobs starts from this record and from nothing
--- else about the sheet's bytes. Assumes nothing: this is a definition.
+-- What a sheet that passes check is known to be. Everything proved about jobs starts from this record and from nothing else
+-- about the sheet's bytes. Assumes nothing: this is a definition.
 use mathlib.Core.Path.{_≡_}
 use mathlib.Core.Bool.{true}
 use Prim.Native.Nat.{ℕ, suc, _+_, _≤_, _<_}

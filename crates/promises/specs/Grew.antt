@@ -1,21 +1,21 @@
--- The order of arrival along several steps: what was entered keeps its place, and what enters comes after it. So two jobs that
--- grew from jobs with one order of arrival have one order, unless they differ among what entered since. Assumes nothing.
+-- The order of arrival along several steps: what was entered keeps its place, and what enters comes after it. So two jobs
+-- that grew from jobs with one order of arrival have one order, unless they differ among what entered since.
 --   Grew             x grew to y; grew-step, grew-both (one step, and one after another)
 --   grew-order       the law
-use mathlib.Core.Path.{_≡_, refl, sym, ap, _∙_}
+-- Assumes nothing.
+use mathlib.Core.Path.{_≡_, ap, _∙_}
 use mathlib.Core.Logic.{_≢_}
 use mathlib.Core.Bool.{true}
 use mathlib.Core.List.{List}
-use Prim.Native.Nat.{ℕ, _≤_, _<_}
+use Prim.Native.Nat.{ℕ, _<_}
 use native.Mathlib.Omega.{arith}
 use native.Mathlib.Decide.{ℕ-discrete, decLe}
 use Rattle.rules.specs.Sheet.{Sheet, op, is-send, is-receive}
 use Rattle.rules.specs.Job.{Job}
 use Rattle.rules.specs.Step.{fits-with}
-use Rattle.promises.specs.Invariant.{Entered, state-at, Reached}
+use Rattle.promises.specs.Invariant.{Entered, state-at, Reached, Extended}
 use Rattle.promises.specs.Keep.{Same-order}
 use Rattle.promises.specs.Changes.{state-name}
-use Rattle.promises.specs.Sound.{Extended}
 
 pub record Grew {s : Sheet} {i : List ℕ} {x y : Job} (X : Reached s i x) (Y : Reached s i y) : Type 0 where
   pub on : (j : ℕ) → Entered x j → Entered y j
@@ -36,7 +36,8 @@ grew-step {s} {i} {x} {y} {X} {n} E =
         let late = E .new (omega (arith, state-name y e)) (λ a. out (omega (arith, state-name x e))) k h in
         omega (arith, late, ap (λ (z : ℕ). E .reached .came z) e)
 
-pub grew-both : {s : Sheet} {i : List ℕ} {x y z : Job} {X : Reached s i x} {Y : Reached s i y} {Z : Reached s i z} → Grew X Y → Grew Y Z → Grew X Z
+pub grew-both : {s : Sheet} {i : List ℕ} {x y z : Job} {X : Reached s i x} {Y : Reached s i y} {Z : Reached s i z} → Grew X Y →
+    Grew Y Z → Grew X Z
 grew-both {s} {i} {x} {y} {z} {X} {Y} {Z} a b =
     record {
       on = λ j h. b .on j (a .on j h);
@@ -49,7 +50,8 @@ grew-both {s} {i} {x} {y} {z} {X} {Y} {Z} a b =
     new k m h there out (no d) = b .new k m (a .on k h) there d
 
 -- so the order of arrival in x is that in y
-pub grew-same : {s : Sheet} {i : List ℕ} {x y : Job} {X : Reached s i x} {Y : Reached s i y} → Grew X Y → Same-order s (X .came) x (Y .came) y
+pub grew-same : {s : Sheet} {i : List ℕ} {x y : Job} {X : Reached s i x} {Y : Reached s i y} → Grew X Y →
+    Same-order s (X .came) x (Y .came) y
 grew-same {s} {i} {x} {y} {X} {Y} a k m r sk sm rr fk fm hm hk l = go (decLe 1 (state-at x k))
   where
     go : Dec (Entered x k) → Entered x k × (X .came k < X .came m)
@@ -57,11 +59,14 @@ grew-same {s} {i} {x} {y} {X} {Y} a k m r sk sm rr fk fm hm hk l = go (decLe 1 (
     go (no out) = absurd (omega (arith, l, a .new m k hm hk out))
 
 -- x grew to x-now and y to y-now, and x and y have the same entered, in the same order
-module _ {s : Sheet} {i j : List ℕ} {x y x-now y-now : Job} {X : Reached s i x} {Y : Reached s j y} {X-now : Reached s i x-now} {Y-now : Reached s j y-now}
+module _ {s : Sheet} {i j : List ℕ} {x y x-now y-now : Job} {X : Reached s i x} {Y : Reached s j y} {X-now : Reached s i x-now}
+    {Y-now : Reached s j y-now}
     (a : Grew X X-now) (b : Grew Y Y-now) where
-  pub grew-order : ((k : ℕ) → Entered x k → Entered y k) → ((k : ℕ) → Entered y k → Entered x k) → ((k : ℕ) → Entered y-now k → Entered x-now k) →
+  pub grew-order : ((k : ℕ) → Entered x k → Entered y k) → ((k : ℕ) → Entered y k → Entered x k) →
+      ((k : ℕ) → Entered y-now k → Entered x-now k) →
       Same-order s (X .came) x (Y .came) y →
-      ((k m r : ℕ) → is-send (op s k) ≡ true → is-send (op s m) ≡ true → is-receive (op s r) ≡ true → fits-with s k r ≡ true → fits-with s m r ≡ true →
+      ((k m r : ℕ) → is-send (op s k) ≡ true → is-send (op s m) ≡ true → is-receive (op s r) ≡ true → fits-with s k r ≡ true →
+      fits-with s m r ≡ true →
       Entered y-now k → Entered x-now m → (Entered x k → ⊥) → (Entered x m → ⊥) → k ≢ m → ⊥) →
       Same-order s (X-now .came) x-now (Y-now .came) y-now
   grew-order on back back-now order no-race k m r sk sm rr fk fm there-m there-k l =
@@ -73,4 +78,6 @@ module _ {s : Sheet} {i j : List ℕ} {x y x-now y-now : Job} {X : Reached s i x
           omega (arith, was .1, a .old k hk, a .old m hm)
       go (yes hk) (no out) = a .new k m hk there-m out
       go (no out) (yes hm) = absurd (omega (arith, l, b .new m k (on m hm) there-k (λ h. out (back k h))))
-      go (no out) (no gone) = absurd (no-race k m r sk sm rr fk fm there-k there-m out gone (λ e. omega (arith, l, ap (λ (z : ℕ). Y-now .came z) e)))
+      go (no out) (no gone) =
+          absurd (no-race k m r sk sm rr fk fm there-k there-m out gone
+          (λ e. omega (arith, l, ap (λ (z : ℕ). Y-now .came z) e)))

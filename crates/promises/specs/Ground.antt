@@ -24,7 +24,8 @@ Apart s r q = (rank-of s r ≢ rank-of s q) ⊎ (share (op s r) (op s q) ≡ fal
 
 pub record Ground (s : Sheet) : Type 0 where
   -- a nonblocking receive r whose request no wait up to q waits for still holds its slot at q, so q's area is another
-  pub held-apart : (r q : ℕ) → r < q → q < N-of s → rank-of s r ≡ rank-of s q → is-receive (op s r) ≡ true → is-receive (op s q) ≡ true →
+  pub held-apart : (r q : ℕ) → r < q → q < N-of s → rank-of s r ≡ rank-of s q → is-receive (op s r) ≡ true →
+      is-receive (op s q) ≡ true →
       is-nonblocking (op s r) ≡ true →
       ((w : ℕ) → r < w → w < q → rank-of s w ≡ rank-of s r → is-wait (op s w) ≡ true → waited s w ≡ some r → ⊥) →
       share (op s r) (op s q) ≡ false
@@ -32,4 +33,5 @@ pub record Ground (s : Sheet) : Type 0 where
   pub delivered-swap : (m r k q : ℕ) (bs : List ℕ) → Pair s m r → Pair s k q → Apart s r q → inbox-total s ≤ length bs →
       delivered s m r (delivered s k q bs) ≡ delivered s k q (delivered s m r bs)
   -- a delivery keeps the length of the inboxes
-  pub delivered-length : (m r : ℕ) (bs : List ℕ) → Pair s m r → inbox-total s ≤ length bs → length (delivered s m r bs) ≡ length bs
+  pub delivered-length : (m r : ℕ) (bs : List ℕ) → Pair s m r → inbox-total s ≤ length bs →
+      length (delivered s m r bs) ≡ length bs

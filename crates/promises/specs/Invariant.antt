@@ -1,23 +1,25 @@
--- The invariant of reachable jobs. A job is determined by where its boards stand: the matching that it holds is stable
--- (no fitting pair is pending, and each match took the earliest on both sides), a stable matching over given entered
--- operations is unique, and rows, memory and buffer use follow from it. `Reached` collects what every job that an order
--- leads to keeps; each field says who needs it. Assumes nothing: these are definitions.
+-- The invariant of reachable jobs. A job is determined by where its boards stand: the matching that it holds is stable (no
+-- fitting pair is pending, and each match took the earliest on both sides), a stable matching over given entered operations
+-- is unique, and rows, memory and buffer use follow from it. `Reached` collects what every job that an order leads to keeps;
+-- each field says who needs it.
 --   Met        a message and a receive that are matched with each other
 --   Stable     the matching is stable
 --   Arrived    in which order the entered sends came
 --   Placed     which operations are entered and complete, by where the boards stand
 --   Shaped     a row is determined by its state and partner
 --   Reached    all of it, and the waiting lists, charges, memory and steps
+--   Extended   the invariant after a step, and what the step did to the order of arrival
+-- Assumes nothing: these are definitions.
 use mathlib.Core.Path.{_≡_}
 use mathlib.Core.Logic.{_⊎_, _≢_}
-use mathlib.Core.Bool.{Bool, true, false, _&&_, _||_, cond}
+use mathlib.Core.Bool.{true, false, _&&_, _||_, cond}
 use mathlib.Core.List.{List}
-use mathlib.Core.Option.{Option, some}
+use mathlib.Core.Option.{some}
 use Prim.Native.Nat.{ℕ, zero, suc, _+_, _≤_, _<_}
 use lib.Dec.{eqb, ltb}
 use lib.ListN.{length}
 use Rattle.rules.specs.Limits.{absent}
-use Rattle.rules.specs.Sheet.{Sheet, Op, op, board, P-of, N-of, rank-of, inbox-total, is-send, is-receive, is-wait, is-buffered, is-nonblocking}
+use Rattle.rules.specs.Sheet.{Sheet, Op, op, board, P-of, N-of, rank-of, is-send, is-receive, is-wait, is-buffered, is-nonblocking}
 use Rattle.rules.specs.Job.{Job, Entry, Stop, entry, bare-entry, entry-at, place-at}
 use Rattle.rules.specs.Step.{next-op, half-complete, fits-with, is-cut, charge-of, delivered, is-none}
 use Rattle.promises.specs.Sums.{sum-below}
@@ -71,7 +73,8 @@ pub record Stable (s : Sheet) (came : ℕ → ℕ) (x : Job) : Type 0 where
 pub record Arrived (s : Sheet) (came : ℕ → ℕ) (x : Job) : Type 0 where
   pub past : (m : ℕ) → Entered x m → came m < x .steps
   pub apart : (k m : ℕ) → is-send (op s k) ≡ true → is-send (op s m) ≡ true → Entered x k → Entered x m → came k ≡ came m → k ≡ m
-  pub in-script : (k m : ℕ) → is-send (op s k) ≡ true → is-send (op s m) ≡ true → Entered x k → Entered x m → rank-of s k ≡ rank-of s m →
+  pub in-script : (k m : ℕ) → is-send (op s k) ≡ true → is-send (op s m) ≡ true → Entered x k → Entered x m →
+      rank-of s k ≡ rank-of s m →
       k < m → came k < came m
 
 -- PLACED: a board has entered its operations up to here
@@ -92,13 +95,15 @@ pub record Placed (s : Sheet) (x : Job) : Type 0 where
   pub entered-if : (j : ℕ) → j < N-of s → j < reach s x (rank-of s j) → Entered x j
   pub entered-only : (j : ℕ) → Entered x j → (j < N-of s) × (j < reach s x (rank-of s j))
   -- a finished operation that is a wait or blocking had what it waited for complete (disjoint areas)
-  pub passed-complete : (j : ℕ) → j < N-of s → j < next-op s x (rank-of s j) → is-nonblocking (op s j) ≡ false → half-complete s x j ≡ true
+  pub passed-complete : (j : ℕ) → j < N-of s → j < next-op s x (rank-of s j) → is-nonblocking (op s j) ≡ false →
+      half-complete s x j ≡ true
 
 -- SHAPED: a row by its state and partner
 unfoldable pub row-of : Sheet → (j state partner : ℕ) → Entry
 row-of s j v p =
     cond (eqb v 3)
-    (cond (is-receive (op s j)) (entry 3 (cond (is-cut s p j) 1 0) p (rank-of s p) (op s p .tag) (op s p .long)) (entry 3 0 p absent absent 0))
+    (cond (is-receive (op s j)) (entry 3 (cond (is-cut s p j) 1 0) p (rank-of s p) (op s p .tag) (op s p .long))
+    (entry 3 0 p absent absent 0))
     (bare-entry v)
 
 -- the state of an entered operation that is not matched
@@ -160,6 +165,8 @@ pub record Reached (s : Sheet) (i : List ℕ) (x : Job) : Type 0 where
   -- in use is the sum of the pending charges, and at most the peak (In-use, Peaks, calm sheets never stop)
   pub in-use-sum : (r : ℕ) → r < P-of s → place-at x r .in-use ≡ sum-below (N-of s) (charge-in s x r)
   pub in-use-peak : (r : ℕ) → place-at x r .in-use ≤ place-at x r .peak
+  -- no board has ever more in use than its attached buffer holds (the engine: they fit two bytes)
+  pub peak-attached : (r : ℕ) → r < P-of s → place-at x r .peak ≤ board s r .attached
   -- memory holds the deliveries in script order: time is gone from it (alike, whole or cut)
   pub memory-painted : x .memory ≡ painted s x (N-of s) i
   pub memory-long : length (x .memory) ≡ length i
@@ -167,3 +174,13 @@ pub record Reached (s : Sheet) (i : List ℕ) (x : Job) : Type 0 where
   pub steps-sum : x .steps ≡ sum-below (N-of s) (steps-done s x) + cond (is-none (x .stop)) 0 1
   -- (Verdicts; the engine: rank and operation fit their bytes)
   pub stop-at : (t : Stop) → x .stop ≡ some t → Stopped s x t
+
+-- A STEP
+-- the invariant of a job after a step of operation i, and what the step did to the order of arrival: what was entered came when
+-- it came, and i came last where it entered
+pub record Extended {s : Sheet} {lent : List ℕ} {x : Job} (R : Reached s lent x) (y : Job) (i : ℕ) : Type 0 where
+  pub reached : Reached s lent y
+  pub on : (j : ℕ) → Entered x j → Entered y j
+  pub back : (j : ℕ) → j ≢ i → Entered y j → Entered x j
+  pub old : (j : ℕ) → Entered x j → reached .came j ≡ R .came j
+  pub new : Entered y i → (Entered x i → ⊥) → (j : ℕ) → Entered x j → reached .came j < reached .came i

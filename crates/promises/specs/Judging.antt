@@ -1,8 +1,8 @@
 -- The verdict says what it should: 3 and 4 where the job stopped for that reason, else 1 where every board is finished, else
--- 2 where none is able, else 0 where one is. Assumes nothing.
+-- 2 where none is able, else 0 where one is.
 --   all-finished-every, all-finished-not   what the test over all boards says
---   lowest-some, lowest-none               what the search for an able board says
 --   verdict-reached                        the statement Verdicts, of one job that keeps the invariant
+-- Assumes nothing.
 use mathlib.Core.Path.{_≡_, refl, sym, ap, subst, _∙_}
 use mathlib.Core.Logic.{_⊎_, inl, inr, _≢_, _↔_}
 use mathlib.Core.Bool.{Bool, true, false, _&&_, cond}
@@ -13,21 +13,24 @@ use native.Mathlib.Decide.{ℕ-discrete}
 use borrow.Author.Tests.{leb-true}
 use Rattle.rules.specs.Sheet.{Sheet, board, P-of}
 use Rattle.rules.specs.Job.{Job, Stop, place-at}
-use Rattle.rules.specs.Step.{able, is-finished, is-none}
-use Rattle.rules.specs.Order.{lowest-able, next-rank, none-able}
+use Rattle.rules.specs.Step.{able, is-finished}
+use Rattle.rules.specs.Order.{none-able}
 use Rattle.rules.specs.Report.{all-finished, verdict-of}
-use Rattle.laws.specs.Tests.{and-left, and-right, not-so, true-not-false}
+use Rattle.laws.specs.Tests.{and-left, and-right, true-not-false}
 use Rattle.promises.specs.Statements.{Verdict-exact}
 use Rattle.promises.specs.Good.{Good}
 use Rattle.promises.specs.Invariant.{Stopped}
-use Rattle.promises.specs.Moves.{none-is, able-next}
+use Rattle.promises.specs.Moves.{able-next}
+use Rattle.promises.specs.Lowest.{next-able, next-none}
 
 -- ALL FINISHED
-all-finished-every : (k r : ℕ) (s : Sheet) (x : Job) → all-finished k r s x ≡ true → (q : ℕ) → r ≤ q → q < r + k → is-finished s x q ≡ true
+all-finished-every : (k r : ℕ) (s : Sheet) (x : Job) → all-finished k r s x ≡ true → (q : ℕ) → r ≤ q → q < r + k →
+    is-finished s x q ≡ true
 unfolding all-finished
 all-finished-every zero r s x h q a b = absurd (omega arith)
 all-finished-every (suc k) r s x h q a b =
-    go (ℕ-discrete r q) (λ c. all-finished-every k (suc r) s x (and-right (is-finished s x r) (all-finished k (suc r) s x) h) q c (omega arith))
+    go (ℕ-discrete r q) (λ c. all-finished-every k (suc r) s x (and-right (is-finished s x r) (all-finished k (suc r) s x) h) q c
+    (omega arith))
   where
     go : Dec (r ≡ q) → (suc r ≤ q → is-finished s x q ≡ true) → is-finished s x q ≡ true
     go (yes e) later = subst (λ (z : ℕ). is-finished s x z ≡ true) e (and-left (is-finished s x r) (all-finished k (suc r) s x) h)
@@ -42,45 +45,10 @@ unfolding all-finished
 all-finished-not zero r s x h = true-not-false refl h
 all-finished-not (suc k) r s x h = go (is-finished s x r) refl h (all-finished-not k (suc r) s x)
   where
-    go : (b : Bool) → is-finished s x r ≡ b → b && all-finished k (suc r) s x ≡ false → (all-finished k (suc r) s x ≡ false → Unfinished s x k (suc r)) → Unfinished s x (suc k) r
+    go : (b : Bool) → is-finished s x r ≡ b → b && all-finished k (suc r) s x ≡ false →
+        (all-finished k (suc r) s x ≡ false → Unfinished s x k (suc r)) → Unfinished s x (suc k) r
     go true e h later = let u = later h in (u .0, omega (arith, u .1), omega (arith, u .2), u .3)
     go false e h later = (r, omega arith, omega arith, e)
-
--- THE LOWEST ABLE
-lowest-some : (k r q : ℕ) (s : Sheet) (x : Job) → lowest-able k r s x ≡ some q → able s x q ≡ true
-unfolding lowest-able
-lowest-some zero r q s x h = absurd (let z : _≡_ {A = ℕ} 0 1 = cc in omega arith)
-lowest-some (suc k) r q s x h = go (able s x r) refl h (lowest-some k (suc r) q s x)
-  where
-    go : (b : Bool) → able s x r ≡ b → cond b (some r) (lowest-able k (suc r) s x) ≡ some q → (lowest-able k (suc r) s x ≡ some q → able s x q ≡ true) → able s x q ≡ true
-    go true e h later = let same : r ≡ q = cc in subst (λ (z : ℕ). able s x z ≡ true) same e
-    go false e h later = later h
-
-lowest-none : (k r : ℕ) (s : Sheet) (x : Job) → lowest-able k r s x ≡ none → (q : ℕ) → r ≤ q → q < r + k → able s x q ≡ false
-unfolding lowest-able
-lowest-none zero r s x h q a b = absurd (omega arith)
-lowest-none (suc k) r s x h q a b = go (able s x r) refl h (ℕ-discrete r q) (λ h c. lowest-none k (suc r) s x h q c (omega arith))
-  where
-    go : (t : Bool) → able s x r ≡ t → cond t (some r) (lowest-able k (suc r) s x) ≡ none → Dec (r ≡ q) →
-        (lowest-able k (suc r) s x ≡ none → suc r ≤ q → able s x q ≡ false) → able s x q ≡ false
-    go true e h d later = absurd (let z : _≡_ {A = ℕ} 0 1 = cc in omega arith)
-    go false e h (yes c) later = subst (λ (z : ℕ). able s x z ≡ false) c e
-    go false e h (no c) later = later h (omega arith)
-
--- some board is able, or none is
-pub next-able : (s : Sheet) (x : Job) → none-able s x ≡ false → (r : ℕ) × (able s x r ≡ true)
-unfolding none-able next-rank is-none
-next-able s x h = go (lowest-able (P-of s) 0 s x) refl h
-  where
-    go : (o : Option ℕ) → lowest-able (P-of s) 0 s x ≡ o → is-none o ≡ false → (r : ℕ) × (able s x r ≡ true)
-    go none e h = true-not-false refl h
-    go (some r) e h = (r, lowest-some (P-of s) 0 r s x e)
-
-pub next-none : (s : Sheet) → Good s → (x : Job) → none-able s x ≡ true → (r : ℕ) → able s x r ≡ false
-unfolding none-able next-rank
-next-none s g x h r =
-    not-so (able s x r)
-    (λ a. true-not-false a (lowest-none (P-of s) 0 s x (none-is (lowest-able (P-of s) 0 s x) h) r (omega arith) (omega (arith, able-next s g x r a .rank-small))))
 
 -- EXACTLY ONE
 -- the verdict v is w, and what w says holds; or neither
@@ -97,9 +65,6 @@ module _ (s : Sheet) (g : Good s) (x : Job) (stop-at : (t : Stop) → x .stop �
 
   abbrev All-done : Type 0
   All-done = (x .stop ≡ none) × ((r : ℕ) → r < P-of s → is-finished s x r ≡ true)
-
-  abbrev Stuck : Type 0
-  Stuck = (x .stop ≡ none) × ((r : ℕ) × (r < P-of s) × (is-finished s x r ≡ false)) × ((r : ℕ) → able s x r ≡ false)
 
   abbrev Stopped-by : ℕ → Type 0
   Stopped-by v = (t : Stop) × (x .stop ≡ some t) × (t .verdict ≡ v)
@@ -187,7 +152,8 @@ module _ (s : Sheet) (g : Good s) (x : Job) (stop-at : (t : Stop) → x .stop �
       unfinished : all-finished (P-of s) 0 s x ≡ false → (r : ℕ) × (r < P-of s) × (is-finished s x r ≡ false)
       unfinished h = let u = all-finished-not (P-of s) 0 s x h in (u .0, omega (arith, u .2), u .3)
 
-      going : x .stop ≡ none → (a : Bool) → all-finished (P-of s) 0 s x ≡ a → (b : Bool) → none-able s x ≡ b → Verdict-exact s x (cond a 1 (cond b 2 0))
+      going : x .stop ≡ none → (a : Bool) → all-finished (P-of s) 0 s x ≡ a → (b : Bool) → none-able s x ≡ b →
+          Verdict-exact s x (cond a 1 (cond b 2 0))
       going e true h b k = verdict-finished e (λ r l. all-finished-every (P-of s) 0 s x h r (omega arith) (omega arith))
       going e false h true k = verdict-deadlock e (unfinished h) (next-none s g x k)
       going e false h false k = verdict-able e (unfinished h) (next-able s x k)

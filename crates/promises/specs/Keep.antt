@@ -1,22 +1,23 @@
 -- A stable matching only grows. Let y have entered whatever x has, and let messages that one receive could take have come in
--- the same order: then what is matched in x is matched alike in y. This is why a job is determined by where its boards stand.
--- Assumes nothing.
-use mathlib.Core.Path.{_≡_, refl, sym, ap, subst, _∙_}
-use mathlib.Core.Logic.{_⊎_, inl, inr, _≢_}
-use mathlib.Core.Bool.{true, false}
-use Prim.Native.Nat.{ℕ, zero, suc, _≤_, _<_}
+-- the same order: then what is matched in x is matched alike in y. This is why a job is determined by where its boards
+-- stand. Assumes nothing.
+use mathlib.Core.Path.{_≡_, sym, ap, subst, _∙_}
+use mathlib.Core.Logic.{_≢_}
+use mathlib.Core.Bool.{true}
+use Prim.Native.Nat.{ℕ, zero, suc, _<_}
 use native.Mathlib.Omega.{arith}
 use native.Mathlib.Decide.{ℕ-discrete, decLt}
 use Rattle.rules.specs.Sheet.{Sheet, op, rank-of, is-send, is-receive}
 use Rattle.rules.specs.Job.{Job}
 use Rattle.rules.specs.Step.{fits-with}
 use Rattle.promises.specs.Kinds.{fit-one-board}
-use Rattle.promises.specs.Invariant.{Entered, state-at, partner-at, Pending-message, Pending-receive, Met, Stable, Arrived}
+use Rattle.promises.specs.Invariant.{Entered, state-at, partner-at, Met, Stable, Arrived}
 
 -- of messages that one receive could take, what came before one of x's messages in y came before it in x
 abbrev pub Same-order : Sheet → (ℕ → ℕ) → Job → (ℕ → ℕ) → Job → Type 0
 Same-order s cx x cy y =
-    (k m r : ℕ) → is-send (op s k) ≡ true → is-send (op s m) ≡ true → is-receive (op s r) ≡ true → fits-with s k r ≡ true → fits-with s m r ≡ true →
+    (k m r : ℕ) → is-send (op s k) ≡ true → is-send (op s m) ≡ true → is-receive (op s r) ≡ true → fits-with s k r ≡ true →
+    fits-with s m r ≡ true →
     Entered x m → Entered y k → cy k < cy m → Entered x k × (cx k < cx m)
 
 -- x is within y: see above. `cx` and `cy` give the order of arrival in each
@@ -68,7 +69,8 @@ module _ (s : Sheet) (cx : ℕ → ℕ) (x : Job) (cy : ℕ → ℕ) (y : Job) (
       go (no n) (yes l) =
           let w = W .order k m r (b .sends) (a .sends) (a .receives) (b .fit) (a .fit) m-there k-there l in
           let t = X .first-sent m r k a (b .sends) (w .0) (w .1) (b .fit) in
-          let e : partner-at x k ≡ r = met-receive-same (below k (partner-at x k) (t .1) (X .message-met k (b .sends) (t .0))) b in
+          let e : partner-at x k ≡ r = met-receive-same
+          (below k (partner-at x k) (t .1) (X .message-met k (b .sends) (t .0))) b in
           omega (arith, t .1)
       go (no n) (no o) = d (A .apart k m (b .sends) (a .sends) k-there (W .entered m m-there) (omega arith))
 

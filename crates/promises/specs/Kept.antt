@@ -1,8 +1,8 @@
--- What every order keeps, said of a sheet's bytes and the lent inboxes: bytes that pass give a good sheet, an order keeps the
--- invariant, and so the statements about one job hold of whatever an order leaves. Assumes nothing.
+-- What every order keeps, said of a sheet's bytes and the lent inboxes: bytes that pass give a good sheet, an order keeps
+-- the invariant, and so the statements about one job hold of whatever an order leaves.
 --   lent-good, lent-reached     a good sheet; the invariant of the job that an order leaves
---   entries-long                a row an operation
 --   deliveries, verdicts, in-use, peaks
+-- Assumes nothing.
 use mathlib.Core.List.{List}
 use Prim.Native.Nat.{ℕ}
 use native.Mathlib.Omega.{arith}
@@ -18,16 +18,12 @@ use Rattle.promises.specs.Start.{start-peak, start-reached, left-reached
 use Rattle.promises.specs.Telling.{deliveries-reached}
 use Rattle.promises.specs.Judging.{verdict-reached}
 use Rattle.promises.specs.Using.{in-use-reached, follow-peak}
-use Rattle.promises.specs.Services.{Entries-long}
 
 pub lent-good : {bs i : List ℕ} → Lent bs i → Good (sheet-in bs)
 lent-good {bs} h = good-from-bytes bs (h .passing)
 
 pub lent-reached : {bs i : List ℕ} (h : Lent bs i) (rs : List ℕ) → Reached (sheet-in bs) i (left-by (sheet-in bs) rs i)
 lent-reached {bs} h rs = left-reached (lent-good h) (ground (sheet-in bs) (lent-good h)) (h .room) rs
-
-pub entries-long : Entries-long
-entries-long bs i rs h = lent-reached h rs .placed .entries-long
 
 pub deliveries : Deliveries
 unfolding Deliveries
@@ -44,5 +40,9 @@ in-use bs i rs r h l = in-use-reached (lent-reached h rs) r l
 pub peaks : Peaks
 unfolding Peaks left-by follow
 peaks bs i rs r h =
-    omega
-    (arith, follow-peak (lent-good h) (ground (sheet-in bs) (lent-good h)) (h .room) r 0 rs (start-reached (lent-good h) i), start-peak (lent-good h) i r)
+    omega (
+      arith,
+      follow-peak (lent-good h) (ground (sheet-in bs) (lent-good h)) (h .room) r 0 rs
+          (start-reached (lent-good h) i),
+      start-peak (lent-good h) i r,
+    )

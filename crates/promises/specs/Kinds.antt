@@ -1,55 +1,26 @@
--- Kinds of operations and parts of a fit. Assumes nothing.
---   clash, and-left, and-right, and-both   Boolean tests
+-- Kinds of operations and parts of a fit.
+--   true-not-false, and-left, and-right, and-both   Boolean tests
 --   send-no-receive ..                     an operation has one kind
 --   fit-board ..                           what a fit says
+-- Assumes nothing.
 use mathlib.Core.Path.{_≡_, refl, sym, ap, _∙_}
 use mathlib.Core.Logic.{_⊎_, inl, inr, _≢_}
-use mathlib.Core.Bool.{Bool, true, false, _&&_, _||_, not, cond}
-use Prim.Native.Nat.{ℕ, _+_, _≤_, _<_}
+use mathlib.Core.Bool.{Bool, true, false, _&&_, _||_, cond}
+use Prim.Native.Nat.{ℕ, _≤_, _<_}
 use native.Mathlib.Omega.{arith}
 use lib.Dec.{ltb, leb, eqb}
-use borrow.Author.Tests.{leb-true, eqb-true, ne-eqb, eq-eqb, le-leb}
+use borrow.Author.Tests.{leb-true, eqb-true, ne-eqb}
 use Rattle.rules.specs.Limits.{any, slot-limit}
-use Rattle.rules.specs.Sheet.{Sheet, Op, op, P-of, N-of, rank-of, is-send, is-receive, is-wait, is-ready, is-buffered, is-nonblocking}
+use Rattle.rules.specs.Sheet.{Sheet, Op, op, P-of, N-of, rank-of, is-send, is-receive, is-wait, is-buffered, is-nonblocking}
 use Rattle.rules.specs.Refusal.{op-good, fields-good, envelope-good, extent-good, wait-good, room-for}
 use Rattle.rules.specs.Step.{fits-with}
+use Rattle.laws.specs.Tests.{true-not-false, and-left, and-right, or-cases, not-so}
 use Rattle.promises.specs.Good.{Good}
-
--- TESTS
-pub clash : {b : Bool} → b ≡ true → b ≡ false → ⊥
-clash {b} p q = let z : _≡_ {A = ℕ} 0 1 = cc in omega arith
-
-pub and-left : (a b : Bool) → a && b ≡ true → a ≡ true
-and-left true b e = refl
-and-left false b e = e
-
-pub and-right : (a b : Bool) → a && b ≡ true → b ≡ true
-and-right true b e = e
-and-right false b e = absurd (clash e refl)
-
-pub and-both : {a b : Bool} → a ≡ true → b ≡ true → a && b ≡ true
-and-both {a} {b} p q = cc
-
-pub or-split : (a b : Bool) → a || b ≡ true → (a ≡ true) ⊎ (b ≡ true)
-or-split true b e = inl refl
-or-split false b e = inr e
-
-pub or-left-none : (a b : Bool) → a || b ≡ false → a ≡ false
-or-left-none true b e = e
-or-left-none false b e = refl
-
-pub or-right-none : (a b : Bool) → a || b ≡ false → b ≡ false
-or-right-none true b e = absurd (clash refl e)
-or-right-none false b e = e
 
 -- a test is true where its being false is absurd
 pub is-true : (b : Bool) → (b ≡ false → ⊥) → b ≡ true
 is-true true h = refl
 is-true false h = absurd (h refl)
-
-pub is-false : (b : Bool) → (b ≡ true → ⊥) → b ≡ false
-is-false true h = absurd (h refl)
-is-false false h = refl
 
 -- KINDS: an operation has one
 pub receive-kind : (o : Op) → is-receive o ≡ true → o .kind ≡ 5
@@ -62,19 +33,23 @@ wait-kind o e = eqb-true (o .kind) 6 e
 
 pub send-kind : (o : Op) → is-send o ≡ true → (1 ≤ o .kind) × (o .kind ≤ 4)
 unfolding is-send
-send-kind o e = (leb-true 1 (o .kind) (and-left (leb 1 (o .kind)) (leb (o .kind) 4) e), leb-true (o .kind) 4 (and-right (leb 1 (o .kind)) (leb (o .kind) 4) e))
+send-kind o e = (
+  leb-true 1 (o .kind) (and-left (leb 1 (o .kind)) (leb (o .kind) 4) e),
+  leb-true (o .kind) 4
+      (and-right (leb 1 (o .kind)) (leb (o .kind) 4) e),
+)
 
 pub send-no-receive : (o : Op) → is-send o ≡ true → is-receive o ≡ false
-send-no-receive o e = is-false (is-receive o) (λ h. omega (arith, send-kind o e, receive-kind o h))
+send-no-receive o e = not-so (is-receive o) (λ h. omega (arith, send-kind o e, receive-kind o h))
 
 pub send-no-wait : (o : Op) → is-send o ≡ true → is-wait o ≡ false
-send-no-wait o e = is-false (is-wait o) (λ h. omega (arith, send-kind o e, wait-kind o h))
+send-no-wait o e = not-so (is-wait o) (λ h. omega (arith, send-kind o e, wait-kind o h))
 
 pub receive-no-wait : (o : Op) → is-receive o ≡ true → is-wait o ≡ false
-receive-no-wait o e = is-false (is-wait o) (λ h. omega (arith, receive-kind o e, wait-kind o h))
+receive-no-wait o e = not-so (is-wait o) (λ h. omega (arith, receive-kind o e, wait-kind o h))
 
 pub receive-no-send : (o : Op) → is-receive o ≡ true → is-send o ≡ false
-receive-no-send o e = is-false (is-send o) (λ h. omega (arith, send-kind o h, receive-kind o e))
+receive-no-send o e = not-so (is-send o) (λ h. omega (arith, send-kind o h, receive-kind o e))
 
 pub receive-no-buffered : (o : Op) → is-receive o ≡ true → is-buffered o ≡ false
 unfolding is-buffered
@@ -82,17 +57,20 @@ receive-no-buffered o e = ne-eqb (o .kind) 2 (λ h. omega (arith, receive-kind o
 
 -- a send is no receive: they differ as operations
 pub send-receive-differ : (s : Sheet) (m r : ℕ) → is-send (op s m) ≡ true → is-receive (op s r) ≡ true → m ≢ r
-send-receive-differ s m r p q e = clash (ap (λ (z : ℕ). is-send (op s z)) (sym e) ∙ p) (receive-no-send (op s r) q)
+send-receive-differ s m r p q e = true-not-false (ap (λ (z : ℕ). is-send (op s z)) (sym e) ∙ p) (receive-no-send (op s r) q)
 
 module _ (s : Sheet) (g : Good s) (i : ℕ) (l : i < N-of s) where
   -- what is neither a receive nor a wait is a send
   pub kind-send : is-wait (op s i) ≡ false → is-receive (op s i) ≡ false → is-send (op s i) ≡ true
   unfolding op-good fields-good
-  kind-send w r = go (is-wait (op s i)) w (is-receive (op s i)) r (is-send (op s i)) (envelope-good (P-of s) (s .comms) (op s i) && extent-good (room-for s i) (op s i)) (g .ops-good i l)
+  kind-send w r =
+      go (is-wait (op s i)) w (is-receive (op s i)) r (is-send (op s i))
+      (envelope-good (P-of s) (s .comms) (op s i) && extent-good (room-for s i) (op s i)) (g .ops-good i l)
     where
-      go : (b : Bool) → b ≡ false → (c : Bool) → c ≡ false → (d e : Bool) → cond b (wait-good (op s i)) ((d || c) && e) ≡ true → d ≡ true
-      go true p c q d e h = absurd (clash refl p)
-      go false p true q d e h = absurd (clash refl q)
+      go : (b : Bool) → b ≡ false → (c : Bool) → c ≡ false → (d e : Bool) → cond b (wait-good (op s i)) ((d || c) && e) ≡ true →
+          d ≡ true
+      go true p c q d e h = true-not-false refl p
+      go false p true q d e h = true-not-false refl q
       go false p false q true e h = refl
       go false p false q false e h = h
 
@@ -111,10 +89,12 @@ module _ (s : Sheet) (g : Good s) (i : ℕ) (l : i < N-of s) where
           let c = (eqb (o .tag) 0 && eqb (o .offset) 0) && (eqb (o .long) 0 && ltb (o .slot) slot-limit) in
           and-left (eqb (o .flag) 0) (eqb (o .peer) 0) (and-left a b (and-left (a && b) c h))
 
-      go : (b : Bool) → b ≡ true → cond b (wait-good (op s i)) ((is-send (op s i) || is-receive (op s i)) && (envelope-good (P-of s) (s .comms) (op s i) && extent-good (room-for s i) (op s i))) ≡ true →
+      go : (b : Bool) → b ≡ true → cond b (wait-good (op s i))
+          ((is-send (op s i) || is-receive (op s i)) && (envelope-good (P-of s) (s .comms) (op s i) && extent-good (room-for s i)
+          (op s i))) ≡ true →
           eqb (op s i .flag) 1 ≡ false
       go true p h = ne-eqb (op s i .flag) 1 (λ e. omega (arith, eqb-true (op s i .flag) 0 (flag-zero h)))
-      go false p h = absurd (clash p refl)
+      go false p h = true-not-false p refl
 
 -- FITS
 module _ (s : Sheet) (m r : ℕ) (f : fits-with s m r ≡ true) where
@@ -133,15 +113,19 @@ module _ (s : Sheet) (m r : ℕ) (f : fits-with s m r ≡ true) where
   -- the message is addressed to the receive's board
   pub fit-board : op s m .peer ≡ rank-of s r
   unfolding fits-with
-  fit-board = eqb-true (op s m .peer) (rank-of s r) (and-left addressed comms-equal (and-left (addressed && comms-equal) (source-fits && tag-fits) f))
+  fit-board =
+      eqb-true (op s m .peer) (rank-of s r)
+      (and-left addressed comms-equal (and-left (addressed && comms-equal) (source-fits && tag-fits) f))
 
   -- the receive names any source, or the message's
   pub fit-source : (op s r .peer ≡ any) ⊎ (op s r .peer ≡ rank-of s m)
   unfolding fits-with
   fit-source =
-      go (or-split (eqb (op s r .peer) any) (eqb (op s r .peer) (rank-of s m)) (and-left source-fits tag-fits (and-right (addressed && comms-equal) (source-fits && tag-fits) f)))
+      go (or-cases (eqb (op s r .peer) any) (eqb (op s r .peer) (rank-of s m))
+      (and-left source-fits tag-fits (and-right (addressed && comms-equal) (source-fits && tag-fits) f)))
     where
-      go : (eqb (op s r .peer) any ≡ true) ⊎ (eqb (op s r .peer) (rank-of s m) ≡ true) → (op s r .peer ≡ any) ⊎ (op s r .peer ≡ rank-of s m)
+      go : (eqb (op s r .peer) any ≡ true) ⊎ (eqb (op s r .peer) (rank-of s m) ≡ true) →
+          (op s r .peer ≡ any) ⊎ (op s r .peer ≡ rank-of s m)
       go (inl e) = inl (eqb-true (op s r .peer) any e)
       go (inr e) = inr (eqb-true (op s r .peer) (rank-of s m) e)
 

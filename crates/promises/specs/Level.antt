@@ -1,10 +1,11 @@
 -- Two jobs that differ in peaks, waiting lists and memory at most: the same boards are able, and the reports without peaks
--- are equal. Assumes nothing.
+-- are equal.
 --   Level             the same rows, stop, steps and places, peaks aside
 --   level-able        the same boards are able
 --   level-none-able   and none is in both
 --   level-report      the reports without peaks are equal
 --   level-alike       with equal memory the jobs are alike
+-- Assumes nothing.
 use mathlib.Core.Path.{_≡_, refl, sym, ap, _∙_}
 use mathlib.Core.Bool.{Bool, true, false, _&&_, _||_, not, cond}
 use mathlib.Core.List.{List}
@@ -51,7 +52,8 @@ module _ (s : Sheet) (x y : Job) (e : Level s x y) where
   unfolding half-complete complete-if
   level-half i = go (waited s i)
     where
-      go : (o : Option ℕ) → cond (is-wait (op s i)) (complete-if x o) (complete x i) ≡ cond (is-wait (op s i)) (complete-if y o) (complete y i)
+      go : (o : Option ℕ) → cond (is-wait (op s i)) (complete-if x o) (complete x i) ≡ cond (is-wait (op s i)) (complete-if y o)
+          (complete y i)
       go none = ap (λ (b : Bool). cond (is-wait (op s i)) false b) (level-complete i)
       go (some j) = cc (level-complete i, level-complete j)
 
@@ -69,7 +71,9 @@ module _ (s : Sheet) (x y : Job) (e : Level s x y) where
 
   able-big : (z : Job) (r : ℕ) → P-of s ≤ r → able s z r ≡ false
   unfolding able
-  able-big z r l = go (is-none (z .stop)) (ltb r (P-of s)) (le-ltb r (P-of s) l) (not (is-finished s z r)) (not (in-waiting-half s z r) || half-complete s z (next-op s z r))
+  able-big z r l =
+      go (is-none (z .stop)) (ltb r (P-of s)) (le-ltb r (P-of s) l) (not (is-finished s z r))
+      (not (in-waiting-half s z r) || half-complete s z (next-op s z r))
     where
       go : (a b : Bool) → b ≡ false → (c d : Bool) → (a && (b && c)) && d ≡ false
       go true true h c d = absurd (let z : _≡_ {A = ℕ} 0 1 = cc in omega arith)
@@ -121,7 +125,9 @@ module _ (s : Sheet) (x y : Job) (e : Level s x y) where
 
   level-cut : cut-messages s x ≡ cut-messages s y
   unfolding cut-messages
-  level-cut = count-same (N-of s) 0 (λ i. eqb (entry-at x i .cut) 1) (λ i. eqb (entry-at y i .cut) 1) (λ i. ap (λ (z : Entry). eqb (z .cut) 1) (level-entry i))
+  level-cut =
+      count-same (N-of s) 0 (λ i. eqb (entry-at x i .cut) 1) (λ i. eqb (entry-at y i .cut) 1)
+      (λ i. ap (λ (z : Entry). eqb (z .cut) 1) (level-entry i))
 
   level-header : header-bytes s x ≡ header-bytes s y
   unfolding header-bytes

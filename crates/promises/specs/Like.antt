@@ -1,36 +1,38 @@
--- Jobs whose boards stand alike, and in which messages that one receive could take came in the same order, are alike: the same
--- rows, use and ables; a step of one board keeps them so, and so does the rest of an order. Assumes nothing.
---   Like             the relation; like-rows, like-in-use, like-able
+-- Jobs whose boards stand alike, and in which messages that one receive could take came in the same order, are alike: the
+-- same rows, use and ables; a step of one board keeps them so, and so does the rest of an order.
+--   Like             the relation; like-rows, like-in-use, like-level, like-able
 --   like-step        one step
 --   like-follow      a whole order: refused at the same index, and alike where it was left
+-- Assumes nothing.
 use mathlib.Core.Path.{_≡_, refl, sym, ap, subst, _∙_}
-use mathlib.Core.Logic.{_⊎_, inl, inr, _≢_}
-use mathlib.Core.Bool.{Bool, true, false, _||_, cond}
-use mathlib.Core.List.{List, [], _∷_}
+use mathlib.Core.Logic.{_≢_}
+use mathlib.Core.Bool.{Bool, true}
+use mathlib.Core.List.{List}
 use mathlib.Core.Option.{Option, none, some}
-use Prim.Native.Nat.{ℕ, zero, suc, _+_, _≤_, _<_}
+use Prim.Native.Nat.{ℕ, suc, _+_, _≤_, _<_}
 use native.Mathlib.Omega.{arith}
 use native.Mathlib.Decide.{ℕ-discrete}
 use lib.Dec.{leb}
 use lib.ListN.{length}
-use Rattle.rules.specs.Sheet.{Sheet, op, board, P-of, N-of, rank-of, inbox-total, is-send, is-receive, is-wait, is-ready, is-buffered, is-nonblocking}
-use Rattle.rules.specs.Job.{Job, Stop, entry-at, place-at}
-use Rattle.rules.specs.Step.{able, step, next-op, in-waiting-half, is-none, first-by, first-receive, fits-with, fits-buffer, charge-of}
-use Rattle.rules.specs.Order.{Followed, followed, follow-from}
+use lib.Seq.{ext-getD}
+use Rattle.rules.specs.Sheet.{Sheet, op, board, P-of, N-of, inbox-total}
+use Rattle.rules.specs.Job.{Job, Stop, bare-entry, entry-at, place-at}
+use Rattle.rules.specs.Step.{able, step, next-op, is-none, first-by, first-receive, fits-with, fits-buffer, charge-of}
+use Rattle.laws.specs.Tests.{true-not-false}
 use Rattle.promises.specs.Good.{Good}
 use Rattle.promises.specs.Ground.{Ground}
-use Rattle.promises.specs.Kinds.{clash, is-true, is-false}
-use Rattle.promises.specs.Sums.{sum-below, sum-same}
-use Rattle.promises.specs.Lists.{Holds, first-by-none, first-by-some}
-use Rattle.promises.specs.Invariant.{Entered, state-at, charge-in, Posted-before, Pending-receive, Reached}
+use Rattle.promises.specs.Sums.{sum-same}
+use Rattle.promises.specs.Lists.{first-by-none, first-by-some}
+use Rattle.promises.specs.Invariant.{Entered, charge-in, Pending-receive, Reached, Extended}
 use Rattle.promises.specs.Keep.{Same-order}
-use Rattle.promises.specs.Changes.{state-same, state-name}
+use Rattle.promises.specs.Changes.{state-same}
 use Rattle.promises.specs.Charging.{charge-same}
 use Rattle.promises.specs.Queues.{pending-receive-same}
-use Rattle.promises.specs.Moves.{Next, Moved, able-next}
-use Rattle.promises.specs.Sound.{Extended, step-sound}
-use Rattle.promises.specs.Grew.{Grew, grew-step, grew-order}
-use Rattle.promises.specs.Behind.{stand, Behind, still-able, level-rows, places-entered, behind-entered}
+use Rattle.promises.specs.Moves.{Moved, able-next}
+use Rattle.promises.specs.Sound.{step-sound}
+use Rattle.promises.specs.Level.{Level, level-able}
+use Rattle.promises.specs.Grew.{grew-step, grew-order}
+use Rattle.promises.specs.Behind.{stand, stand-finished, stand-waiting, Behind, level-rows, places-entered, behind-entered}
 use Rattle.promises.specs.After.{stop-after, step-stop, After, goes-on, halts, step-after, step-counted, finishing, moved-stand-other, places-stand, stand-next, stand-half, stand-moved}
 
 pub record Like {s : Sheet} {i j : List ℕ} {x y : Job} (X : Reached s i x) (Y : Reached s j y) : Type 0 where
@@ -41,7 +43,8 @@ pub record Like {s : Sheet} {i j : List ℕ} {x y : Job} (X : Reached s i x) (Y 
   pub order-back : Same-order s (Y .came) y (X .came) x
 
 -- a search finds nothing in both lists, or something in both
-none-found : (f : ℕ → Bool) (a b : List ℕ) → ((v : ℕ) → first-by f b ≡ some v → first-by f a ≡ none → ⊥) → first-by f a ≡ none → first-by f b ≡ none
+none-found : (f : ℕ → Bool) (a b : List ℕ) → ((v : ℕ) → first-by f b ≡ some v → first-by f a ≡ none → ⊥) → first-by f a ≡ none →
+    first-by f b ≡ none
 none-found f a b h e = go (first-by f b) refl
   where
     go : (o : Option ℕ) → first-by f b ≡ o → o ≡ none
@@ -79,18 +82,23 @@ module _ {s : Sheet} (g : Good s) {i j : List ℕ} {x y : Job} {X : Reached s i 
       ∙ sum-same (N-of s) (charge-in s x r) (charge-in s y r) (λ k h. charge-same s x y r k (state-same (like-rows k)))
       ∙ sym (Y .in-use-sum r l)
 
+  -- rows, stop, steps and places are equal, peaks aside
+  pub like-level : Level s x y
+  unfolding entry-at
+  like-level =
+      record {
+        entries =
+            ext-getD (bare-entry 0) (x .entries) (y .entries) (X .placed .entries-long ∙ sym (Y .placed .entries-long))
+            (λ k l. sym (like-rows k));
+        stop = K .stop;
+        steps = K .steps;
+        finished = λ r l. stand-finished x y r (K .places r l);
+        waiting = λ r l. stand-waiting x y r (K .places r l);
+        in-use = like-in-use;
+      }
+
   pub like-able : (r : ℕ) → able s x r ≡ able s y r
-  like-able r = go (able s x r) refl (able s y r) refl
-    where
-      go : (a : Bool) → able s x r ≡ a → (b : Bool) → able s y r ≡ b → a ≡ b
-      go true e true f = refl
-      go false e false f = refl
-      go true e false f =
-          let n = able-next s g x r e in
-          absurd (clash (still-able g X Y like-behind r (K .places r (n .rank-small)) e (sym (K .stop) ∙ n .going)) f)
-      go false e true f =
-          let n = able-next s g y r f in
-          absurd (clash (still-able g Y X like-ahead r (sym (K .places r (n .rank-small))) f (K .stop ∙ n .going)) e)
+  like-able = level-able s x y like-level
 
   -- THE NEXT STEP of board r
   module _ (r : ℕ) (l : r < P-of s) where
@@ -109,18 +117,24 @@ module _ {s : Sheet} (g : Good s) {i j : List ℕ} {x y : Job} {X : Reached s i 
   same-found m =
       is-none-same (first-by f (x .receives)) (first-by f (y .receives))
       (none-found f (x .receives) (y .receives)
-      (λ v e c. clash (found-y v e .1) (first-by-none f (x .receives) c v (X .receives-held .whole v (pending-receive-same x (sym (state-same (like-rows v))) (found-y v e .0))))))
+      (λ v e c. true-not-false (found-y v e .1)
+      (first-by-none f (x .receives) c v (X .receives-held .whole v
+      (pending-receive-same x (sym (state-same (like-rows v))) (found-y v e .0))))))
       (none-found f (y .receives) (x .receives)
-      (λ v e c. clash (found-x v e .1) (first-by-none f (y .receives) c v (Y .receives-held .whole v (pending-receive-same y (state-same (like-rows v)) (found-x v e .0))))))
+      (λ v e c. true-not-false (found-x v e .1)
+      (first-by-none f (y .receives) c v (Y .receives-held .whole v
+      (pending-receive-same y (state-same (like-rows v)) (found-x v e .0))))))
     where
       f : ℕ → Bool
       f = λ r. fits-with s m r
 
       found-x : (v : ℕ) → first-by f (x .receives) ≡ some v → Pending-receive s x v × (f v ≡ true)
-      found-x v e = let h = first-by-some f (x .receives) (X .receives-held .sorted) v e in (X .receives-held .sound v (h .member), h .passes)
+      found-x v e = let h = first-by-some f (x .receives) (X .receives-held .sorted) v e in
+          (X .receives-held .sound v (h .member), h .passes)
 
       found-y : (v : ℕ) → first-by f (y .receives) ≡ some v → Pending-receive s y v × (f v ≡ true)
-      found-y v e = let h = first-by-some f (y .receives) (Y .receives-held .sorted) v e in (Y .receives-held .sound v (h .member), h .passes)
+      found-y v e = let h = first-by-some f (y .receives) (Y .receives-held .sorted) v e in
+          (Y .receives-held .sound v (h .member), h .passes)
 
   pub like-stop : (r : ℕ) → r < P-of s → step s r x .stop ≡ step s r y .stop
   unfolding stop-after
@@ -130,7 +144,8 @@ module _ {s : Sheet} (g : Good s) {i j : List ℕ} {x y : Job} {X : Reached s i 
       ∙ sym (step-stop s r y)
 
   -- ONE STEP, where there is room for the inboxes of both
-  module _ (A : Ground s) (room-x : inbox-total s ≤ length i) (room-y : inbox-total s ≤ length j) (r : ℕ) (a : able s x r ≡ true) (b : able s y r ≡ true) where
+  module _ (A : Ground s) (room-x : inbox-total s ≤ length i) (room-y : inbox-total s ≤ length j) (r : ℕ) (a : able s x r ≡ true)
+      (b : able s y r ≡ true) where
     abbrev EX : Extended X (step s r x) (next-op s x r)
     EX = step-sound g A room-x X r a
 
@@ -143,7 +158,8 @@ module _ {s : Sheet} (g : Good s) {i j : List ℕ} {x y : Job} {X : Reached s i 
     step-places : (q : ℕ) → q < P-of s → stand (step s r x) q ≡ stand (step s r y) q
     step-places q l = go (step-after g X r a) (step-after g Y r b)
       where
-        moved : Moved x (step s r x) r (finishing s x r) → Moved y (step s r y) r (finishing s y r) → Dec (q ≡ r) → stand (step s r x) q ≡ stand (step s r y) q
+        moved : Moved x (step s r x) r (finishing s x r) → Moved y (step s r y) r (finishing s y r) → Dec (q ≡ r) →
+            stand (step s r x) q ≡ stand (step s r y) q
         moved m n (yes e) =
             subst (λ (z : ℕ). stand (step s r x) z ≡ stand (step s r y) z) (sym e) (stand-moved s x y r (K .places r small) m n)
         moved m n (no d) = moved-stand-other m q d ∙ K .places q l ∙ sym (moved-stand-other n q d)
@@ -156,7 +172,9 @@ module _ {s : Sheet} (g : Good s) {i j : List ℕ} {x y : Job} {X : Reached s i 
         go (goes-on p m) (goes-on o n) = moved m n (ℕ-discrete q r)
         go (goes-on p m) (halts t o e k) = absurd (apart p (like-stop r small ∙ o))
         go (halts t p e k) (goes-on o n) = absurd (apart o (sym (like-stop r small) ∙ p))
-        go (halts t p e k) (halts u o f n) = places-stand x (step s r x) e q ∙ K .places q l ∙ sym (places-stand y (step s r y) f q)
+        go (halts t p e k) (halts u o f n) =
+            places-stand x (step s r x) e q ∙ K .places q l
+            ∙ sym (places-stand y (step s r y) f q)
 
     step-steps : step s r x .steps ≡ step s r y .steps
     step-steps = counted X r a ∙ ap suc (K .steps) ∙ sym (counted Y r b)
@@ -186,10 +204,13 @@ module _ {s : Sheet} (g : Good s) {i j : List ℕ} {x y : Job} {X : Reached s i 
           steps = step-steps;
           places = step-places;
           order =
-              grew-order (grew-step EX) (grew-step EY) (behind-entered g X Y like-behind) (behind-entered g Y X like-ahead) entered-back (K .order)
+              grew-order (grew-step EX) (grew-step EY) (behind-entered g X Y like-behind)
+              (behind-entered g Y X like-ahead) entered-back (K .order)
               (λ k m q sk sm rq fk fm hk hm out gone d. one-entered k m (entered-back k hk) hm out gone d);
           order-back =
-              grew-order (grew-step EY) (grew-step EX) (behind-entered g Y X like-ahead) (behind-entered g X Y like-behind) entered-on (K .order-back)
+              grew-order (grew-step EY) (grew-step EX) (behind-entered g Y X like-ahead)
+              (behind-entered g X Y like-behind) entered-on (K .order-back)
               (λ k m q sk sm rq fk fm hk hm out gone d.
-              one-entered k m hk (entered-back m hm) (λ h. out (behind-entered g X Y like-behind k h)) (λ h. gone (behind-entered g X Y like-behind m h)) d);
+              one-entered k m hk (entered-back m hm) (λ h. out (behind-entered g X Y like-behind k h))
+              (λ h. gone (behind-entered g X Y like-behind m h)) d);
         }

@@ -1,5 +1,5 @@
 -- Waiting lists: members, order, the first that passes a test, removal. A waiting list is described by one record, `Holds`:
--- which numbers are in it, and in which order. Assumes nothing.
+-- which numbers are in it, and in which order.
 --   In v l             v is a member of l
 --   Sorted R l         R holds between each member and every later one
 --   Holds R P l        l holds exactly the numbers with P, sorted by R
@@ -7,11 +7,12 @@
 --   holds-less         the first v taken out
 --   holds-same         the same list under other words
 --   first-by-none, first-by-some   what a search found
+-- Assumes nothing.
 use mathlib.Core.Path.{_≡_, refl, sym, ap, subst, _∙_}
 use mathlib.Core.Logic.{_⊎_, inl, inr, _≢_}
 use mathlib.Core.Bool.{Bool, true, false, cond}
 use mathlib.Core.List.{List, [], _∷_, _++_}
-use mathlib.Core.Option.{Option, none, some}
+use mathlib.Core.Option.{none, some}
 use Prim.Native.Nat.{ℕ}
 use native.Mathlib.Omega.{arith}
 use lib.Dec.{eqb}
@@ -122,7 +123,9 @@ pub holds-less : {R : ℕ → ℕ → Type 0} {P Q : ℕ → Type 0} {l : List �
     ((v : ℕ) → P v → v ≢ u → Q v) → ((v : ℕ) → Q v → P v) → (Q u → ⊥) → Holds R Q (without u l)
 holds-less {R} {P} {Q} {l} u h irr keep only out =
     record {
-      sound = λ v k. keep v (h .sound v (in-without v u l k)) (λ e. without-same R irr u l (h .sorted) (subst (λ (z : ℕ). In z (without u l)) e k));
+      sound =
+          λ v k. keep v (h .sound v (in-without v u l k))
+          (λ e. without-same R irr u l (h .sorted) (subst (λ (z : ℕ). In z (without u l)) e k));
       whole = λ v q. without-other v u l (h .whole v (only v q)) (λ e. out (subst Q e q));
       sorted = sorted-less R u l (h .sorted);
     }
@@ -140,7 +143,11 @@ without-none u (x ∷ xs) h = go (eqb x u) refl (without-none u xs (λ k. h (inr
 -- THE SAME LIST under other words
 sorted-same : (R S : ℕ → ℕ → Type 0) (l : List ℕ) → ((v u : ℕ) → In v l → In u l → R v u → S v u) → Sorted R l → Sorted S l
 sorted-same R S [] f h = tt
-sorted-same R S (x ∷ xs) f h = (λ y k. f x y (inl refl) (inr k) (h .0 y k), sorted-same R S xs (λ v u a b. f v u (inr a) (inr b)) (h .1))
+sorted-same R S (x ∷ xs) f h = (
+  λ y k. f x y (inl refl) (inr k) (h .0 y k),
+  sorted-same R S xs (λ v u a b. f v u (inr a) (inr b))
+      (h .1),
+)
 
 pub holds-same : {R S : ℕ → ℕ → Type 0} {P Q : ℕ → Type 0} {l : List ℕ} → Holds R P l → ((v u : ℕ) → P v → P u → R v u → S v u) →
     ((v : ℕ) → P v → Q v) → ((v : ℕ) → Q v → P v) → Holds S Q l
@@ -168,12 +175,14 @@ pub record Found (R : ℕ → ℕ → Type 0) (f : ℕ → Bool) (l : List ℕ) 
   pub passes : f v ≡ true
   pub earliest : (u : ℕ) → In u l → f u ≡ true → u ≢ v → R v u
 
-pub first-by-some : {R : ℕ → ℕ → Type 0} (f : ℕ → Bool) (l : List ℕ) → Sorted R l → (v : ℕ) → first-by f l ≡ some v → Found R f l v
+pub first-by-some : {R : ℕ → ℕ → Type 0} (f : ℕ → Bool) (l : List ℕ) → Sorted R l → (v : ℕ) → first-by f l ≡ some v →
+    Found R f l v
 unfolding first-by
 first-by-some {R} f [] s v e = absurd (let z : _≡_ {A = ℕ} 0 1 = cc in omega arith)
 first-by-some {R} f (x ∷ xs) s v e = go (f x) refl (first-by-some f xs (s .1) v) e
   where
-    go : (b : Bool) → f x ≡ b → (first-by f xs ≡ some v → Found R f xs v) → cond b (some x) (first-by f xs) ≡ some v → Found R f (x ∷ xs) v
+    go : (b : Bool) → f x ≡ b → (first-by f xs ≡ some v → Found R f xs v) → cond b (some x) (first-by f xs) ≡ some v →
+        Found R f (x ∷ xs) v
     go true t before e =
         let q : x ≡ v = cc in
         record {
@@ -193,5 +202,7 @@ first-by-some {R} f (x ∷ xs) s v e = go (f x) refl (first-by-some f xs (s .1) 
         }
       where
         earliest-there : Found R f xs v → (u : ℕ) → In u (x ∷ xs) → f u ≡ true → u ≢ v → R v u
-        earliest-there b u (inl k) p d = absurd (let z : true ≡ false = sym p ∙ ap f k ∙ t in let y : _≡_ {A = ℕ} 0 1 = cc in omega arith)
+        earliest-there b u (inl k) p d =
+            absurd
+            (let z : true ≡ false = sym p ∙ ap f k ∙ t in let y : _≡_ {A = ℕ} 0 1 = cc in omega arith)
         earliest-there b u (inr k) p d = b .earliest u k p d

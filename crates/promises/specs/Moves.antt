@@ -1,32 +1,33 @@
 -- Where the boards stand after a step. The board that steps finishes its operation or goes into its waiting half; the others
--- stand where they stood; bytes in use may change, and the peak is the most of them. Assumes nothing.
+-- stand where they stood; bytes in use may change, and the peak is the most of them.
 --   Next            what is known of an able board and its next operation
 --   after           a place after a step
 --   Moved           the places of a job after a step; its laws
+-- Assumes nothing.
 use mathlib.Core.Path.{_≡_, refl, sym, ap, subst, _∙_}
 use mathlib.Core.Logic.{_⊎_, inl, inr, _≢_}
 use mathlib.Core.Bool.{Bool, true, false, _&&_, _||_, not, cond}
 use mathlib.Core.List.{List}
 use mathlib.Core.Option.{Option, none, some}
-use Prim.Native.Nat.{ℕ, zero, suc, _+_, _-_, _≤_, _<_, max}
+use Prim.Native.Nat.{ℕ, suc, _+_, _<_, max}
 use native.Mathlib.Omega.{arith}
 use native.Mathlib.Decide.{ℕ-discrete}
 use lib.Dec.{ltb, leb, eqb}
-use lib.ListN.{length, getD, set, length-set}
+use lib.ListN.{length, getD, set}
 use lib.Seq.{getD-set-same, getD-set-other}
 use borrow.Author.Tests.{ltb-true, leb-false, not-true, eq-eqb, ne-eqb}
-use Rattle.rules.specs.Sheet.{Sheet, op, board, P-of, N-of, rank-of, is-wait, is-nonblocking}
-use Rattle.rules.specs.Job.{Job, Place, Stop, place, place-at}
+use Rattle.rules.specs.Sheet.{Sheet, board, P-of, N-of, rank-of}
+use Rattle.rules.specs.Job.{Job, Place, place, place-at}
 use Rattle.rules.specs.Step.{able, next-op, is-finished, in-waiting-half, half-complete, is-none, one-finished, now-waiting}
+use Rattle.laws.specs.Tests.{and-left, and-right, or-cases, true-not-false}
 use Rattle.promises.specs.Good.{Good}
-use Rattle.promises.specs.Kinds.{clash, and-left, and-right, or-split}
-use Rattle.promises.specs.Invariant.{Entered, state-at, Placed, reach}
+use Rattle.promises.specs.Invariant.{state-at, Placed, reach}
 
 -- NEXT: what able says
 pub none-is : {A : Type 0} (o : Option A) → is-none o ≡ true → o ≡ none
 unfolding is-none
 none-is none e = refl
-none-is (some a) e = absurd (clash e refl)
+none-is (some a) e = true-not-false e refl
 
 pub record Next (s : Sheet) (x : Job) (r : ℕ) : Type 0 where
   pub going : x .stop ≡ none
@@ -45,7 +46,9 @@ able-next s g x r a =
       unfinished = left;
       inside = omega (arith, left, g .script-inside r small);
       ranked = g .script-ranked r (board s r .first + place-at x r .finished) small (omega arith) (omega (arith, left));
-      complete = λ w. half w (or-split (not (in-waiting-half s x r)) (half-complete s x (board s r .first + place-at x r .finished)) (and-right (going && small-unfinished) last-part a));
+      complete =
+          λ w. half w (or-cases (not (in-waiting-half s x r))
+          (half-complete s x (board s r .first + place-at x r .finished)) (and-right (going && small-unfinished) last-part a));
     }
   where
     going : Bool
@@ -61,27 +64,33 @@ able-next s g x r a =
     first-part = and-left (going && small-unfinished) last-part a
 
     small : r < P-of s
-    small = ltb-true r (P-of s) (and-left (ltb r (P-of s)) (not (leb (board s r .count) (place-at x r .finished))) (and-right going small-unfinished first-part))
+    small =
+        ltb-true r (P-of s) (and-left (ltb r (P-of s)) (not (leb (board s r .count) (place-at x r .finished)))
+        (and-right going small-unfinished first-part))
 
     left : place-at x r .finished < board s r .count
     left =
         leb-false (board s r .count) (place-at x r .finished)
         (not-true (leb (board s r .count) (place-at x r .finished))
-        (and-right (ltb r (P-of s)) (not (leb (board s r .count) (place-at x r .finished))) (and-right going small-unfinished first-part)))
+        (and-right (ltb r (P-of s)) (not (leb (board s r .count) (place-at x r .finished)))
+        (and-right going small-unfinished first-part)))
 
-    half : in-waiting-half s x r ≡ true → (not (in-waiting-half s x r) ≡ true) ⊎ (half-complete s x (board s r .first + place-at x r .finished) ≡ true) →
+    half : in-waiting-half s x r ≡ true → (not (in-waiting-half s x r) ≡ true) ⊎ (half-complete s x
+        (board s r .first + place-at x r .finished) ≡ true) →
         half-complete s x (board s r .first + place-at x r .finished) ≡ true
-    half w (inl e) = absurd (clash w (not-true (in-waiting-half s x r) e))
+    half w (inl e) = true-not-false w (not-true (in-waiting-half s x r) e)
     half w (inr e) = e
 
 -- an operation whose board has not reached it is not entered
-pub next-fresh : (s : Sheet) (x : Job) (r : ℕ) → Placed s x → Next s x r → place-at x r .waiting ≡ false → state-at x (next-op s x r) ≡ 0
+pub next-fresh : (s : Sheet) (x : Job) (r : ℕ) → Placed s x → Next s x r → place-at x r .waiting ≡ false →
+    state-at x (next-op s x r) ≡ 0
 unfolding reach
 next-fresh s x r p n w = go (ℕ-discrete (state-at x (next-op s x r)) 0)
   where
     not-waiting : reach s x (rank-of s (next-op s x r)) ≡ next-op s x r
     not-waiting =
-        ap (λ (z : ℕ). reach s x z) (n .ranked) ∙ subst (λ (b : Bool). next-op s x r + cond b 1 0 ≡ next-op s x r) (sym w) (omega arith)
+        ap (λ (z : ℕ). reach s x z) (n .ranked)
+        ∙ subst (λ (b : Bool). next-op s x r + cond b 1 0 ≡ next-op s x r) (sym w) (omega arith)
 
     go : Dec (state-at x (next-op s x r) ≡ 0) → state-at x (next-op s x r) ≡ 0
     go (yes e) = e
@@ -137,7 +146,8 @@ module _ {x y : Job} {r : ℕ} {last : Bool} (M : Moved x y r last) where
       ∙ ap (λ (b : Bool). after b last (M .used r) .finished) (eq-eqb r r refl)
       ∙ go last
     where
-      go : (b : Bool) → cond b (one-finished (M .used r)) (now-waiting (M .used r)) .finished ≡ cond b (suc (place-at x r .finished)) (place-at x r .finished)
+      go : (b : Bool) → cond b (one-finished (M .used r)) (now-waiting (M .used r)) .finished ≡ cond b
+          (suc (place-at x r .finished)) (place-at x r .finished)
       go true = ap suc (M .used-finished r)
       go false = M .used-finished r
 

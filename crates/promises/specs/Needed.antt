@@ -1,11 +1,12 @@
 -- Why demand 3 asks for calm sheets and sets the peaks aside. Each of the three conditions of calm is needed: with the other
 -- two alone there is a sheet with two orders that follow accepts, after which no board is able, and whose reports differ in
--- more than peaks. And on a calm sheet the peaks may differ. Each sheet is written as a bench job and computed. Assumes nothing.
+-- more than peaks. And on a calm sheet the peaks may differ. Each sheet is written as a bench job and computed.
 --   calm-parts          calm is these three conditions
 --   Ends-alike-on       two full orders end alike, on the sheets that pass a test
 --   Pair-of-orders      a sheet, and two orders
 --   apart-refutes       a pair that ends apart refutes Ends-alike-on
 --   any-source-matters, ready-matters, cover-matters, peaks-matter
+-- Assumes nothing.
 use mathlib.Core.Path.{_≡_, refl, ap, subst, _∙_}
 use mathlib.Core.Bool.{Bool, true, false, _&&_, not}
 use mathlib.Core.List.{List, [], _∷_}
@@ -98,7 +99,8 @@ same-refl (x ∷ xs) = cc (eq-eqb x x refl, same-refl xs)
 pub apart-refutes : (ok : Sheet → Bool) (p : Pair-of-orders) → ends-apart ok p ≡ true → Ends-alike-on ok → ⊥
 unfolding ends-apart Ends-alike-on Alike
 apart-refutes ok p h claim =
-    true-not-false (subst (λ (z : List ℕ). same (bare-report-of p (p .one)) z ≡ true) alike (same-refl (bare-report-of p (p .one))))
+    true-not-false (subst (λ (z : List ℕ). same (bare-report-of p (p .one)) z ≡ true) alike
+    (same-refl (bare-report-of p (p .one))))
     (not-true (same (bare-report-of p (p .one)) (bare-report-of p (p .other)))
     (and-right (both-full ok p) (not (same (bare-report-of p (p .one)) (bare-report-of p (p .other)))) h))
   where
@@ -135,7 +137,8 @@ apart-refutes ok p h claim =
         (and-left (passes (bytes-of p)) (ok (sheet-of p)) (and-left given room first))
         (and-right (passes (bytes-of p)) (ok (sheet-of p)) (and-left given room first))
         (leb-true (inbox-total (sheet-of p)) (length (p .inbox)) (and-right given room first))
-        (accepted (p .one) full-one) (accepted (p .other) full-other) (none-left (p .one) full-one) (none-left (p .other) full-other) .1
+        (accepted (p .one) full-one) (accepted (p .other) full-other) (none-left (p .one) full-one)
+        (none-left (p .other) full-other) .1
 
 -- THE SHEETS
 -- bench job 12: ranks 0 and 1 send to rank 2, which receives twice from any source; either message may come first
@@ -218,7 +221,8 @@ drops-matter ds = all (λ d. ends-apart (d .asks) (d .orders)) ds
 unfoldable pub peaks-apart : Pair-of-orders → Bool
 peaks-apart p =
     both-full calm p
-    && (not (same (report (sheet-of p) (left-by (sheet-of p) (p .one) (p .inbox))) (report (sheet-of p) (left-by (sheet-of p) (p .other) (p .inbox))))
+    && (not (same (report (sheet-of p) (left-by (sheet-of p) (p .one) (p .inbox)))
+    (report (sheet-of p) (left-by (sheet-of p) (p .other) (p .inbox))))
     && same (bare-report-of p (p .one)) (bare-report-of p (p .other)))
 
 pub pairs-hold : drops-matter (without-any-source ∷ without-ready ∷ without-cover ∷ []) && peaks-apart calm-pair ≡ true
@@ -227,7 +231,8 @@ unfolding
     ends-apart peaks-apart no-any-source no-ready covered
     ready-sheet any-source-sheet
     lines-of as-words line-bytes all-line-bytes entry-bytes draft-bytes same all
-    all-bytes passes is-any-source none-wild all-charges Rattle.rules.specs.Claims.script all-covered calm accepts left-by rows-without-peaks without-peaks
+    all-bytes passes is-any-source none-wild all-charges Rattle.rules.specs.Claims.script all-covered calm accepts left-by
+    rows-without-peaks without-peaks
     low-two count-from is-pending-message is-pending-receive pending-messages pending-receives cut-messages all-finished
     verdict-of stop-bytes header-bytes board-state board-row board-rows op-row op-rows report
     followed follow-from follow lowest-able next-rank none-able
@@ -237,7 +242,8 @@ unfolding
     initiated fits-buffer unmatched sent received initiating ended step
     entry bare-entry place job started entry-at place-at with-entries with-places with-messages with-receives
     with-memory with-stop with-steps
-    refusal or-else first-broken sizes-good layout-good crc-good board-good boards-refusal or-any envelope-good slot-good extent-good wait-good fields-good room-for
+    refusal or-else first-broken sizes-good layout-good crc-good board-good boards-refusal or-any envelope-good slot-good
+    extent-good wait-good fields-good room-for
     op-good ops-refusal freed holds some-below slot-held share area-taken request-good requests-refusal
     tables-refusal sheet-refusal
     no-op no-board P-of N-of op board is-send is-buffered is-ready is-receive is-wait is-nonblocking sum-before
@@ -247,7 +253,9 @@ pairs-hold = refl
 
 -- THE LAWS
 dropped-hold : drops-matter (without-any-source ∷ without-ready ∷ without-cover ∷ []) ≡ true
-dropped-hold = and-left (drops-matter (without-any-source ∷ without-ready ∷ without-cover ∷ [])) (peaks-apart calm-pair) pairs-hold
+dropped-hold =
+    and-left (drops-matter (without-any-source ∷ without-ready ∷ without-cover ∷ []))
+    (peaks-apart calm-pair) pairs-hold
 
 dropped-here : (d : Dropped) (ds : List Dropped) → drops-matter (d ∷ ds) ≡ true → ends-apart (d .asks) (d .orders) ≡ true
 unfolding all
@@ -260,14 +268,17 @@ dropped-next d ds h = and-right (ends-apart (d .asks) (d .orders)) (drops-matter
 -- receives from any source cannot be allowed
 pub any-source-matters : Ends-alike-on (λ s. no-ready s && covered s) → ⊥
 unfolding without-any-source
-any-source-matters = apart-refutes (without-any-source .asks) (without-any-source .orders) (dropped-here without-any-source (without-ready ∷ without-cover ∷ []) dropped-hold)
+any-source-matters =
+    apart-refutes (without-any-source .asks) (without-any-source .orders)
+    (dropped-here without-any-source (without-ready ∷ without-cover ∷ []) dropped-hold)
 
 -- nor ready sends
 pub ready-matters : Ends-alike-on (λ s. no-any-source s && covered s) → ⊥
 unfolding without-ready
 ready-matters =
     apart-refutes (without-ready .asks) (without-ready .orders)
-    (dropped-here without-ready (without-cover ∷ []) (dropped-next without-any-source (without-ready ∷ without-cover ∷ []) dropped-hold))
+    (dropped-here without-ready (without-cover ∷ [])
+    (dropped-next without-any-source (without-ready ∷ without-cover ∷ []) dropped-hold))
 
 -- nor buffers that the charges may outgrow
 pub cover-matters : Ends-alike-on (λ s. no-any-source s && no-ready s) → ⊥
@@ -275,8 +286,11 @@ unfolding without-cover
 cover-matters =
     apart-refutes (without-cover .asks) (without-cover .orders)
     (dropped-here without-cover []
-    (dropped-next without-ready (without-cover ∷ []) (dropped-next without-any-source (without-ready ∷ without-cover ∷ []) dropped-hold)))
+    (dropped-next without-ready (without-cover ∷ [])
+    (dropped-next without-any-source (without-ready ∷ without-cover ∷ []) dropped-hold)))
 
 -- and on a calm sheet peaks differ where all else is equal
 pub peaks-matter : peaks-apart calm-pair ≡ true
-peaks-matter = and-right (drops-matter (without-any-source ∷ without-ready ∷ without-cover ∷ [])) (peaks-apart calm-pair) pairs-hold
+peaks-matter =
+    and-right (drops-matter (without-any-source ∷ without-ready ∷ without-cover ∷ []))
+    (peaks-apart calm-pair) pairs-hold

@@ -1,45 +1,49 @@
 -- Memory holds the deliveries in script order, after a step as before: a new match's delivery may be moved before those of
 -- later receives, since a receive that is pending while later ones of its board are entered still holds its request, so that
--- their areas are others. Assumes nothing.
+-- their areas are others.
 --   painted-same      the same rows paint the same
 --   painted-length    painting keeps the length
 --   pending-apart     the areas are disjoint
 --   painted-matches   a match paints one delivery more
+-- Assumes nothing.
 use mathlib.Core.Path.{_≡_, refl, sym, ap, subst, _∙_}
 use mathlib.Core.Logic.{_⊎_, inl, inr, _≢_}
 use mathlib.Core.Bool.{Bool, true, false, _&&_, cond}
 use mathlib.Core.List.{List}
-use mathlib.Core.Option.{Option, none, some}
+use mathlib.Core.Option.{Option, some}
 use Prim.Native.Nat.{ℕ, zero, suc, _+_, _≤_, _<_}
 use native.Mathlib.Omega.{arith}
-use native.Mathlib.Decide.{ℕ-discrete, decLt}
-use lib.Dec.{eqb, leb}
+use native.Mathlib.Decide.{ℕ-discrete}
+use lib.Dec.{eqb}
 use lib.ListN.{length}
-use borrow.Author.Tests.{eq-eqb, ne-eqb, eqb-true, leb-true}
-use Rattle.rules.specs.Sheet.{Sheet, op, N-of, rank-of, inbox-total, is-send, is-receive, is-wait, is-nonblocking}
-use Rattle.rules.specs.Refusal.{share}
+use borrow.Author.Tests.{eq-eqb, eqb-true, leb-true}
+use Rattle.rules.specs.Sheet.{Sheet, op, N-of, rank-of, inbox-total, is-receive, is-wait, is-nonblocking}
 use Rattle.rules.specs.Job.{Job, Entry, entry-at, place-at}
 use Rattle.rules.specs.Step.{next-op, delivered, half-complete, complete, complete-if, waited}
+use Rattle.laws.specs.Tests.{true-not-false}
 use Rattle.promises.specs.Good.{Good}
 use Rattle.promises.specs.Ground.{Ground, Pair, Apart}
-use Rattle.promises.specs.Kinds.{clash, and-left, and-right, receive-no-wait, send-no-receive, is-true, wait-blocking}
-use Rattle.promises.specs.Invariant.{Entered, state-at, partner-at, paint, painted, reach, Placed, Shaped, Stable, Met}
-use Rattle.promises.specs.Changes.{Enters, Matches, state-same, partner-same, state-name, enters-state, matches-met, matches-receive-state, matches-message-state}
+use Rattle.promises.specs.Kinds.{receive-no-wait, send-no-receive, is-true, wait-blocking}
+use Rattle.promises.specs.Invariant.{Entered, state-at, partner-at, paint, painted, reach, Placed, Shaped, Stable}
+use Rattle.promises.specs.Changes.{Enters, Matches, state-name, enters-state, matches-met, matches-receive-state}
 use Rattle.promises.specs.Placing.{prefix}
-use Rattle.promises.specs.Charging.{unmatched-receive}
+use Rattle.promises.specs.States.{unmatched-receive}
 
 -- ONE OPERATION
 -- it paints nothing, or it is a matched receive and paints its message
-paint-none : (s : Sheet) (x : Job) (j : ℕ) (bs : List ℕ) → (is-receive (op s j) ≡ true → state-at x j ≡ 3 → ⊥) → paint s x j bs ≡ bs
+paint-none : (s : Sheet) (x : Job) (j : ℕ) (bs : List ℕ) → (is-receive (op s j) ≡ true → state-at x j ≡ 3 → ⊥) →
+    paint s x j bs ≡ bs
 unfolding paint
 paint-none s x j bs h = go (is-receive (op s j)) refl (eqb (state-at x j) 3) refl
   where
-    go : (a : Bool) → is-receive (op s j) ≡ a → (b : Bool) → eqb (state-at x j) 3 ≡ b → cond (a && b) (delivered s (partner-at x j) j bs) bs ≡ bs
+    go : (a : Bool) → is-receive (op s j) ≡ a → (b : Bool) → eqb (state-at x j) 3 ≡ b →
+        cond (a && b) (delivered s (partner-at x j) j bs) bs ≡ bs
     go true e true f = absurd (h e (eqb-true (state-at x j) 3 f))
     go true e false f = refl
     go false e b f = refl
 
-paint-matched : (s : Sheet) (x : Job) (j : ℕ) (bs : List ℕ) → is-receive (op s j) ≡ true → state-at x j ≡ 3 → paint s x j bs ≡ delivered s (partner-at x j) j bs
+paint-matched : (s : Sheet) (x : Job) (j : ℕ) (bs : List ℕ) → is-receive (op s j) ≡ true → state-at x j ≡ 3 →
+    paint s x j bs ≡ delivered s (partner-at x j) j bs
 unfolding paint
 paint-matched s x j bs e f =
     ap (λ (b : Bool). cond (b && eqb (state-at x j) 3) (delivered s (partner-at x j) j bs) bs) e
@@ -56,20 +60,24 @@ Paints s x j = (is-receive (op s j) ≡ true) × (state-at x j ≡ 3)
 paints : (s : Sheet) (x : Job) (j : ℕ) → Paints s x j ⊎ (is-receive (op s j) ≡ true → state-at x j ≡ 3 → ⊥)
 paints s x j = go (is-receive (op s j)) refl (ℕ-discrete (state-at x j) 3)
   where
-    go : (b : Bool) → is-receive (op s j) ≡ b → Dec (state-at x j ≡ 3) → Paints s x j ⊎ (is-receive (op s j) ≡ true → state-at x j ≡ 3 → ⊥)
+    go : (b : Bool) → is-receive (op s j) ≡ b → Dec (state-at x j ≡ 3) →
+        Paints s x j ⊎ (is-receive (op s j) ≡ true → state-at x j ≡ 3 → ⊥)
     go true e (yes f) = inl (e, f)
     go true e (no d) = inr (λ a b. d b)
-    go false e t = inr (λ a b. clash a e)
+    go false e t = inr (λ a b. true-not-false a e)
 
 -- ALL
-pub painted-same : (s : Sheet) (x y : Job) (n : ℕ) (bs : List ℕ) → ((j : ℕ) (cs : List ℕ) → j < n → paint s y j cs ≡ paint s x j cs) →
+pub painted-same : (s : Sheet) (x y : Job) (n : ℕ) (bs : List ℕ) →
+    ((j : ℕ) (cs : List ℕ) → j < n → paint s y j cs ≡ paint s x j cs) →
     painted s y n bs ≡ painted s x n bs
 unfolding painted
 painted-same s x y zero bs h = refl
 painted-same s x y (suc n) bs h =
-    ap (λ (z : List ℕ). paint s y n z) (painted-same s x y n bs (λ j cs l. h j cs (omega arith))) ∙ h n (painted s x n bs) (omega arith)
+    ap (λ (z : List ℕ). paint s y n z) (painted-same s x y n bs (λ j cs l. h j cs (omega arith)))
+    ∙ h n (painted s x n bs) (omega arith)
 
-pub painted-rows : (s : Sheet) (x y : Job) (n : ℕ) (bs : List ℕ) → ((j : ℕ) → entry-at y j ≡ entry-at x j) → painted s y n bs ≡ painted s x n bs
+pub painted-rows : (s : Sheet) (x y : Job) (n : ℕ) (bs : List ℕ) → ((j : ℕ) → entry-at y j ≡ entry-at x j) →
+    painted s y n bs ≡ painted s x n bs
 painted-rows s x y n bs h = painted-same s x y n bs (λ j cs l. paint-same s x y j cs (h j))
 
 -- where nothing is matched, nothing is painted
@@ -79,7 +87,8 @@ painted-none s x zero bs h = refl
 painted-none s x (suc n) bs h = paint-none s x n (painted s x n bs) (λ a b. h n b) ∙ painted-none s x n bs h
 
 -- what enters unmatched paints nothing
-pub painted-enters : (s : Sheet) {x y : Job} {i v : ℕ} (n : ℕ) (bs : List ℕ) → Enters x y i v → painted s y n bs ≡ painted s x n bs
+pub painted-enters : (s : Sheet) {x y : Job} {i v : ℕ} (n : ℕ) (bs : List ℕ) → Enters x y i v →
+    painted s y n bs ≡ painted s x n bs
 painted-enters s {x} {y} {i} {v} n bs E = painted-same s x y n bs (λ j cs l. at j cs (ℕ-discrete j i))
   where
     at : (j : ℕ) (cs : List ℕ) → Dec (j ≡ i) → paint s y j cs ≡ paint s x j cs
@@ -89,7 +98,8 @@ painted-enters s {x} {y} {i} {v} n bs E = painted-same s x y n bs (λ j cs l. at
         ∙ sym (paint-none s x j cs (λ a b. omega (arith, E .fresh, state-name x e)))
 
 -- A JOB whose matching is stable and whose boards are placed
-module _ {s : Sheet} (g : Good s) (A : Ground s) {came : ℕ → ℕ} {x : Job} (X : Stable s came x) (p : Placed s x) (h : Shaped s x) where
+module _ {s : Sheet} (g : Good s) (A : Ground s) {came : ℕ → ℕ} {x : Job} (X : Stable s came x) (p : Placed s x)
+    (h : Shaped s x) where
   paints-pair : (j : ℕ) → Paints s x j → Pair s (partner-at x j) j
   paints-pair j d =
       let met = X .receive-met j (d .0) (d .1) in
@@ -105,7 +115,8 @@ module _ {s : Sheet} (g : Good s) (A : Ground s) {came : ℕ → ℕ} {x : Job} 
   painted-length zero bs l = refl
   painted-length (suc n) bs l = go (paints s x n) (painted-length n bs l)
     where
-      go : Paints s x n ⊎ (is-receive (op s n) ≡ true → state-at x n ≡ 3 → ⊥) → length (painted s x n bs) ≡ length bs → length (paint s x n (painted s x n bs)) ≡ length bs
+      go : Paints s x n ⊎ (is-receive (op s n) ≡ true → state-at x n ≡ 3 → ⊥) → length (painted s x n bs) ≡ length bs →
+          length (paint s x n (painted s x n bs)) ≡ length bs
       go (inl d) e =
           ap (λ (z : List ℕ). length z) (paint-matched s x n (painted s x n bs) (d .0) (d .1))
           ∙ A .delivered-length (partner-at x n) n (painted s x n bs) (paints-pair n d) (omega (arith, e)) ∙ e
@@ -129,7 +140,8 @@ module _ {s : Sheet} (g : Good s) (A : Ground s) {came : ℕ → ℕ} {x : Job} 
     unfolding half-complete complete
     unmatched-half e =
         unmatched-incomplete
-        (leb-true 2 (state-at x r) (sym (ap (λ (b : Bool). cond b (complete-if x (waited s r)) (complete x r)) (receive-no-wait (op s r) receives)) ∙ e))
+        (leb-true 2 (state-at x r) (sym (ap (λ (b : Bool). cond b (complete-if x (waited s r)) (complete x r))
+        (receive-no-wait (op s r) receives)) ∙ e))
 
     unmatched-waited : (w : ℕ) → is-wait (op s w) ≡ true → waited s w ≡ some r → half-complete s x w ≡ true → ⊥
     unfolding half-complete complete complete-if
@@ -141,7 +153,8 @@ module _ {s : Sheet} (g : Good s) (A : Ground s) {came : ℕ → ℕ} {x : Job} 
         ∙ c))
 
   -- the area of a receive that is not matched, and of a later one that is entered
-  pending-apart : (r q : ℕ) → r < q → r < N-of s → is-receive (op s r) ≡ true → is-receive (op s q) ≡ true → state-at x r ≢ 3 → Entered x q → Apart s r q
+  pending-apart : (r q : ℕ) → r < q → r < N-of s → is-receive (op s r) ≡ true → is-receive (op s q) ≡ true → state-at x r ≢ 3 →
+      Entered x q → Apart s r q
   pending-apart r q l inside receives-r receives-q free entered = go (ℕ-discrete (rank-of s r) (rank-of s q))
     where
       go : Dec (rank-of s r ≡ rank-of s q) → Apart s r q
@@ -153,14 +166,17 @@ module _ {s : Sheet} (g : Good s) (A : Ground s) {came : ℕ → ℕ} {x : Job} 
           λ j c k. omega (arith, only .1, reach-most (rank-of s q), ap (λ (z : ℕ). next-op s x z) (c ∙ e)) in
           inr
           (A .held-apart r q l (only .0) e receives-r receives-q
-          (is-true (is-nonblocking (op s r)) (λ b. unmatched-half r receives-r free there (p .passed-complete r inside (passed r refl l) b)))
+          (is-true (is-nonblocking (op s r)) (λ b. unmatched-half r receives-r free there
+          (p .passed-complete r inside (passed r refl l) b)))
           (λ w a b c f o. waits w a b c f o there (passed w c b) (only .0)))
         where
-          waits : (w : ℕ) → r < w → w < q → rank-of s w ≡ rank-of s r → is-wait (op s w) ≡ true → waited s w ≡ some r → Entered x r →
+          waits : (w : ℕ) → r < w → w < q → rank-of s w ≡ rank-of s r → is-wait (op s w) ≡ true → waited s w ≡ some r →
+              Entered x r →
               w < next-op s x (rank-of s w) → q < N-of s → ⊥
           waits w a b c f o there passed k =
               let inside-w : w < N-of s = omega arith in
-              unmatched-waited r receives-r free there w f o (p .passed-complete w inside-w passed (wait-blocking s g w inside-w f))
+              unmatched-waited r receives-r free there w f o
+              (p .passed-complete w inside-w passed (wait-blocking s g w inside-w f))
 
   -- A MATCH paints one delivery more
   module _ {y : Job} {m r i : ℕ} (M : Matches s x y m r i) (inside-m : m < N-of s) (inside-r : r < N-of s) where
@@ -169,7 +185,7 @@ module _ {s : Sheet} (g : Good s) (A : Ground s) {came : ℕ → ℕ} {x : Job} 
     matches-paint j bs d = go (ℕ-discrete j m)
       where
         no-receive : j ≡ m → is-receive (op s j) ≡ true → ⊥
-        no-receive e a = clash (ap (λ (z : ℕ). is-receive (op s z)) (sym e) ∙ a) (send-no-receive (op s m) (M .sends))
+        no-receive e a = true-not-false (ap (λ (z : ℕ). is-receive (op s z)) (sym e) ∙ a) (send-no-receive (op s m) (M .sends))
 
         go : Dec (j ≡ m) → paint s y j bs ≡ paint s x j bs
         go (yes e) = paint-none s y j bs (λ a b. no-receive e a) ∙ sym (paint-none s x j bs (λ a b. no-receive e a))
@@ -183,7 +199,8 @@ module _ {s : Sheet} (g : Good s) (A : Ground s) {came : ℕ → ℕ} {x : Job} 
         ∙ ap (λ (z : List ℕ). delivered s m r z) (sym (paint-none s x r bs (λ a b. M .receive-free b)))
 
     -- a later delivery may come after that of r
-    matches-swap : (j : ℕ) (bs : List ℕ) → r < j → inbox-total s ≤ length bs → paint s x j (delivered s m r bs) ≡ delivered s m r (paint s x j bs)
+    matches-swap : (j : ℕ) (bs : List ℕ) → r < j → inbox-total s ≤ length bs →
+        paint s x j (delivered s m r bs) ≡ delivered s m r (paint s x j bs)
     matches-swap j bs l room = go (paints s x j)
       where
         mine : Pair s m r
@@ -195,8 +212,11 @@ module _ {s : Sheet} (g : Good s) (A : Ground s) {came : ℕ → ℕ} {x : Job} 
               receives = M .receives;
             }
 
-        go : Paints s x j ⊎ (is-receive (op s j) ≡ true → state-at x j ≡ 3 → ⊥) → paint s x j (delivered s m r bs) ≡ delivered s m r (paint s x j bs)
-        go (inr c) = paint-none s x j (delivered s m r bs) c ∙ ap (λ (z : List ℕ). delivered s m r z) (sym (paint-none s x j bs c))
+        go : Paints s x j ⊎ (is-receive (op s j) ≡ true → state-at x j ≡ 3 → ⊥) →
+            paint s x j (delivered s m r bs) ≡ delivered s m r (paint s x j bs)
+        go (inr c) =
+            paint-none s x j (delivered s m r bs) c
+            ∙ ap (λ (z : List ℕ). delivered s m r z) (sym (paint-none s x j bs c))
         go (inl d) =
             paint-matched s x j (delivered s m r bs) (d .0) (d .1)
             ∙ sym
@@ -207,7 +227,8 @@ module _ {s : Sheet} (g : Good s) (A : Ground s) {came : ℕ → ℕ} {x : Job} 
     painted-up-to : (n : ℕ) (bs : List ℕ) → n ≤ r → painted s y n bs ≡ painted s x n bs
     painted-up-to n bs l = painted-same s x y n bs (λ j cs k. matches-paint j cs (omega arith))
 
-    pub painted-matches : (n : ℕ) (bs : List ℕ) → r < n → inbox-total s ≤ length bs → painted s y n bs ≡ delivered s m r (painted s x n bs)
+    pub painted-matches : (n : ℕ) (bs : List ℕ) → r < n → inbox-total s ≤ length bs →
+        painted s y n bs ≡ delivered s m r (painted s x n bs)
     unfolding painted
     painted-matches zero bs l room = absurd (omega arith)
     painted-matches (suc n) bs l room = go (ℕ-discrete n r) (λ k. painted-matches n bs k room)
@@ -216,7 +237,8 @@ module _ {s : Sheet} (g : Good s) (A : Ground s) {came : ℕ → ℕ} {x : Job} 
             paint s y n (painted s y n bs) ≡ delivered s m r (paint s x n (painted s x n bs))
         go (yes e) before =
             ap (λ (z : List ℕ). paint s y n z) (painted-up-to n bs (omega arith))
-            ∙ subst (λ (z : ℕ). paint s y z (painted s x n bs) ≡ delivered s m r (paint s x z (painted s x n bs))) (sym e) (matches-paint-here (painted s x n bs))
+            ∙ subst (λ (z : ℕ). paint s y z (painted s x n bs) ≡ delivered s m r (paint s x z (painted s x n bs))) (sym e)
+            (matches-paint-here (painted s x n bs))
         go (no d) before =
             ap (λ (z : List ℕ). paint s y n z) (before (omega arith))
             ∙ matches-paint n (delivered s m r (painted s x n bs)) d

@@ -1,18 +1,20 @@
--- The waiting lists hold exactly what is pending, after a step as before. Assumes nothing.
+-- The waiting lists hold exactly what is pending, after a step as before.
 --   queue-message, queue-receive    the list after its operation entered unmatched
 --   queue-..-other                  a list that the operation is not for
 --   queue-..-match                  the lists after a match
-use mathlib.Core.Path.{_≡_, refl, sym, ap, subst, _∙_}
+-- Assumes nothing.
+use mathlib.Core.Path.{_≡_, refl, sym, ap, _∙_}
 use mathlib.Core.Logic.{_⊎_, inl, inr, _≢_}
-use mathlib.Core.Bool.{Bool, true, false}
+use mathlib.Core.Bool.{true, false}
 use mathlib.Core.List.{List, [], _∷_, _++_}
-use Prim.Native.Nat.{ℕ, _≤_, _<_}
+use Prim.Native.Nat.{ℕ, _<_}
 use native.Mathlib.Omega.{arith}
 use native.Mathlib.Decide.{ℕ-discrete, decLt}
 use Rattle.rules.specs.Sheet.{Sheet, op, rank-of, is-send, is-receive}
 use Rattle.rules.specs.Job.{Job}
 use Rattle.rules.specs.Step.{without}
-use Rattle.promises.specs.Kinds.{send-receive-differ, clash}
+use Rattle.laws.specs.Tests.{true-not-false}
+use Rattle.promises.specs.Kinds.{send-receive-differ}
 use Rattle.promises.specs.Lists.{Holds, holds-more, holds-less, holds-same}
 use Rattle.promises.specs.Invariant.{Entered, state-at, Pending-message, Pending-receive, Placed, Posted-before, Came-before}
 use Rattle.promises.specs.Changes.{Grows, Enters, Matches, state-same, state-name, enters-state, enters-grows, enters-differ, matches-grows, matches-message-state, matches-receive-state, grows-message, grows-receive}
@@ -20,7 +22,8 @@ use Rattle.promises.specs.Stable.{Later}
 use Rattle.promises.specs.Placing.{prefix}
 
 -- a pending operation whose row did not change
-pub pending-message-same : {s : Sheet} {x : Job} (y : Job) {m : ℕ} → state-at y m ≡ state-at x m → Pending-message s x m → Pending-message s y m
+pub pending-message-same : {s : Sheet} {x : Job} (y : Job) {m : ℕ} → state-at y m ≡ state-at x m → Pending-message s x m →
+    Pending-message s y m
 pending-message-same y e h =
     record {
       sends = h .sends;
@@ -28,7 +31,8 @@ pending-message-same y e h =
       unmatched = λ c. h .unmatched (sym e ∙ c);
     }
 
-pub pending-receive-same : {s : Sheet} {x : Job} (y : Job) {r : ℕ} → state-at y r ≡ state-at x r → Pending-receive s x r → Pending-receive s y r
+pub pending-receive-same : {s : Sheet} {x : Job} (y : Job) {r : ℕ} → state-at y r ≡ state-at x r → Pending-receive s x r →
+    Pending-receive s y r
 pending-receive-same y e h =
     record {
       receives = h .receives;
@@ -40,7 +44,8 @@ pending-receive-same y e h =
 later-order : {s : Sheet} {x y : Job} {i : ℕ} {came now : ℕ → ℕ} {l : List ℕ} → Later came now x i → Grows x y i →
     Holds (Came-before came) (Pending-message s x) l → Holds (Came-before now) (Pending-message s x) l
 later-order {s} {x} {y} {i} {came} {now} L G h =
-    holds-same h (λ v u p q c. omega (arith, c, L .old v (differ v (p .entered)), L .old u (differ u (q .entered)))) (λ v p. p) (λ v p. p)
+    holds-same h (λ v u p q c. omega (arith, c, L .old v (differ v (p .entered)), L .old u (differ u (q .entered)))) (λ v p. p)
+    (λ v p. p)
   where
     differ : (j : ℕ) → Entered x j → j ≢ i
     differ j a e = omega (arith, G .fresh, state-name x e)
@@ -75,11 +80,12 @@ module _ {s : Sheet} {x y : Job} {i v : ℕ} (E : Enters x y i v) where
   pub queue-message-other : {came now : ℕ → ℕ} {l : List ℕ} → Later came now x i → is-send (op s i) ≡ false →
       Holds (Came-before came) (Pending-message s x) l → Holds (Came-before now) (Pending-message s y) l
   queue-message-other {came} {now} {l} L e h =
-      holds-same (later-order L (enters-grows E) h) (λ a b p q c. c) message-on (λ k p. only k p (message-back k p (ℕ-discrete k i)))
+      holds-same (later-order L (enters-grows E) h) (λ a b p q c. c) message-on
+      (λ k p. only k p (message-back k p (ℕ-discrete k i)))
     where
       only : (k : ℕ) → Pending-message s y k → Pending-message s x k ⊎ (k ≡ i) → Pending-message s x k
       only k p (inl h) = h
-      only k p (inr c) = absurd (clash (ap (λ (z : ℕ). is-send (op s z)) (sym c) ∙ p .sends) e)
+      only k p (inr c) = true-not-false (ap (λ (z : ℕ). is-send (op s z)) (sym c) ∙ p .sends) e
 
   pub queue-receive : {l : List ℕ} → Placed s x → is-receive (op s i) ≡ true →
       Holds (Posted-before s) (Pending-receive s x) l → Holds (Posted-before s) (Pending-receive s y) (l ++ (i ∷ []))
@@ -104,7 +110,7 @@ module _ {s : Sheet} {x y : Job} {i v : ℕ} (E : Enters x y i v) where
     where
       only : (q : ℕ) → Pending-receive s y q → Pending-receive s x q ⊎ (q ≡ i) → Pending-receive s x q
       only q o (inl h) = h
-      only q o (inr c) = absurd (clash (ap (λ (z : ℕ). is-receive (op s z)) (sym c) ∙ o .receives) e)
+      only q o (inr c) = true-not-false (ap (λ (z : ℕ). is-receive (op s z)) (sym c) ∙ o .receives) e
 
 -- MATCHED
 module _ {s : Sheet} {x y : Job} {m r i : ℕ} (M : Matches s x y m r i) where
@@ -125,6 +131,7 @@ module _ {s : Sheet} {x y : Job} {m r i : ℕ} (M : Matches s x y m r i) where
       Holds (Posted-before s) (Pending-receive s x) l → Holds (Posted-before s) (Pending-receive s y) (without r l)
   queue-receive-match {l} h =
       holds-less r h (λ q c. let l = c refl in omega arith)
-      (λ q p d. pending-receive-same y (state-same (M .other q (λ e. send-receive-differ s m q (M .sends) (p .receives) (sym e)) d)) p)
+      (λ q p d. pending-receive-same y (state-same
+      (M .other q (λ e. send-receive-differ s m q (M .sends) (p .receives) (sym e)) d)) p)
       (λ q p. grows-receive (matches-grows M) q (not-new q (p .unmatched) (M .one)) p)
       (λ p. p .unmatched (matches-receive-state M))

@@ -1,8 +1,9 @@
 -- The report, byte by byte: its length, and what is left of it when the peaks are set aside: the same report with two zero
--- bytes for the peak in each board row. Assumes nothing.
+-- bytes for the peak in each board row.
 --   report-length     the report's length
 --   bare-report       the report with zero for every peak
 --   report-bare       which is what without-peaks leaves
+-- Assumes nothing.
 use mathlib.Core.Path.{_≡_, refl, sym, ap, _∙_}
 use mathlib.Core.List.{List, [], _∷_, _++_, append-assoc}
 use mathlib.Core.Option.{Option, none, some}
@@ -38,7 +39,13 @@ board-rows-length : (k r : ℕ) (s : Sheet) (x : Job) → length (board-rows k r
 unfolding board-rows
 board-rows-length zero r s x = refl
 board-rows-length (suc k) r s x =
-    omega (arith, length-append (board-row s x r) (board-rows k (suc r) s x), board-row-length s x r, board-rows-length k (suc r) s x)
+    omega (
+      arith,
+      length-append (board-row s x r) (board-rows k (suc r) s x),
+      board-row-length s x r,
+      board-rows-length k
+          (suc r) s x,
+    )
 
 op-row-length : (e : Entry) → length (op-row e) ≡ op-row-size
 unfolding op-row low-two
@@ -101,16 +108,19 @@ unfolding rows-without-peaks board-rows bare-rows
 rows-bare zero r at s x front rest h = refl
 rows-bare (suc k) r at s x front rest h =
     ap (λ (l : List ℕ). rows-without-peaks k (at + board-row-size) l) one
-    ∙ rows-bare k (suc r) (at + board-row-size) s x (front ++ bare-row s x r) rest (omega (arith, length-append front (bare-row s x r), bare-row-length s x r))
+    ∙ rows-bare k (suc r) (at + board-row-size) s x (front ++ bare-row s x r) rest
+    (omega (arith, length-append front (bare-row s x r), bare-row-length s x r))
     ∙ append-assoc front (bare-row s x r) (bare-rows k (suc r) s x ++ rest)
     ∙ ap (λ (l : List ℕ). front ++ l) (sym (append-assoc (bare-row s x r) (bare-rows k (suc r) s x) rest))
   where
     others : List ℕ
     others = board-rows k (suc r) s x ++ rest
 
-    one : set (set (front ++ ((board-row s x r ++ board-rows k (suc r) s x) ++ rest)) (at + 4) 0) (at + 5) 0 ≡ (front ++ bare-row s x r) ++ others
+    one : set (set (front ++ ((board-row s x r ++ board-rows k (suc r) s x) ++ rest)) (at + 4) 0)
+        (at + 5) 0 ≡ (front ++ bare-row s x r) ++ others
     one =
-        ap (λ (l : List ℕ). set (set (front ++ l) (at + 4) 0) (at + 5) 0) (append-assoc (board-row s x r) (board-rows k (suc r) s x) rest)
+        ap (λ (l : List ℕ). set (set (front ++ l) (at + 4) 0) (at + 5) 0)
+        (append-assoc (board-row s x r) (board-rows k (suc r) s x) rest)
         ∙ ap (λ (n : ℕ). set (set (front ++ (board-row s x r ++ others)) (n + 4) 0) (n + 5) 0) (sym h)
         ∙ row-bare s x r front others
         ∙ sym (append-assoc front (bare-row s x r) others)

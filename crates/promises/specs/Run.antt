@@ -1,41 +1,27 @@
 -- A run's order is accepted by follow and leads to the same job, within two steps an operation, where no board is able.
 -- Assumes nothing.
-use mathlib.Core.Path.{_≡_, refl, sym, ap, subst, _∙_}
-use mathlib.Core.Bool.{Bool, true, false, cond}
+use mathlib.Core.Path.{_≡_, refl, sym, ap, _∙_}
+use mathlib.Core.Bool.{Bool, true, cond}
 use mathlib.Core.List.{List, [], _∷_, _++_, append-assoc, append-nil}
 use mathlib.Core.Option.{Option, none, some}
-use Prim.Native.Nat.{ℕ, zero, suc, _+_, _*_, _≤_, _<_}
+use Prim.Native.Nat.{ℕ, zero, suc, _+_, _*_, _≤_}
 use native.Mathlib.Omega.{arith}
 use lib.ListN.{length}
 use Rattle.rules.specs.Limits.{order-room}
-use Rattle.rules.specs.Sheet.{Sheet, P-of, N-of, inbox-total}
+use Rattle.rules.specs.Sheet.{Sheet, N-of, inbox-total}
 use Rattle.rules.specs.Job.{Job, started, job}
 use Rattle.rules.specs.Step.{able, step, is-none}
-use Rattle.rules.specs.Order.{Followed, followed, follow-from, follow, lowest-able, next-rank, none-able, Ran, ran, run-next, run-from, run}
+use Rattle.rules.specs.Order.{Followed, followed, follow-from, follow, next-rank, none-able, Ran, ran, run-next, run-from, run}
 use Rattle.rules.specs.Claims.{accepts, left-by}
 use Rattle.promises.specs.Statements.{Ends}
 use Rattle.promises.specs.Good.{Good}
 use Rattle.promises.specs.Ground.{Ground}
-use Rattle.promises.specs.Kinds.{clash}
 use Rattle.promises.specs.Invariant.{Reached}
 use Rattle.promises.specs.Counting.{able-room}
+use Rattle.promises.specs.Lowest.{next-some}
 use Rattle.promises.specs.Sound.{step-sound}
 use Rattle.promises.specs.After.{step-counted}
 use Rattle.promises.specs.Start.{start-reached}
-
--- the lowest rank that is able is able
-lowest-some : (k r : ℕ) (s : Sheet) (x : Job) (q : ℕ) → lowest-able k r s x ≡ some q → able s x q ≡ true
-unfolding lowest-able
-lowest-some zero r s x q e = absurd (let z : _≡_ {A = ℕ} 0 1 = cc in omega arith)
-lowest-some (suc k) r s x q e = go (able s x r) refl (λ h. lowest-some k (suc r) s x q h) e
-  where
-    go : (b : Bool) → able s x r ≡ b → (lowest-able k (suc r) s x ≡ some q → able s x q ≡ true) → cond b (some r) (lowest-able k (suc r) s x) ≡ some q → able s x q ≡ true
-    go true h rest e = ap (λ (z : ℕ). able s x z) (let c : q ≡ r = cc in c) ∙ h
-    go false h rest e = rest e
-
-next-able : (s : Sheet) (x : Job) (q : ℕ) → next-rank s x ≡ some q → able s x q ≡ true
-unfolding next-rank
-next-able s x q e = lowest-some (P-of s) 0 s x q e
 
 -- a run from x whose order so far is `o`: what it adds is followed from x
 record Runs (s : Sheet) (fuel : ℕ) (o : List ℕ) (x : Job) (e : Ran) : Type 0 where
@@ -56,33 +42,40 @@ run-stays s fuel o x e =
       ended = ap is-none e;
     }
 
-run-goes : (s : Sheet) (fuel : ℕ) (o : List ℕ) (x : Job) (r : ℕ) (e : Ran) → able s x r ≡ true → Runs s fuel (o ++ (r ∷ [])) (step s r x) e → Runs s (suc fuel) o x e
+run-goes : (s : Sheet) (fuel : ℕ) (o : List ℕ) (x : Job) (r : ℕ) (e : Ran) → able s x r ≡ true →
+    Runs s fuel (o ++ (r ∷ [])) (step s r x) e → Runs s (suc fuel) o x e
 unfolding follow-from
 run-goes s fuel o x r e a h =
     record {
       rest = r ∷ h .rest;
       order-is = h .order-is ∙ append-assoc o (r ∷ []) (h .rest);
-      followed-is = λ k.
-          ap (λ (b : Bool). cond b (follow-from (suc k) s (h .rest) (step s r x)) (followed (some k) x)) a ∙ h .followed-is (suc k);
+      followed-is =
+          λ k.
+          ap (λ (b : Bool). cond b (follow-from (suc k) s (h .rest) (step s r x)) (followed (some k) x)) a
+          ∙ h .followed-is (suc k);
       short = omega (arith, h .short);
       ended = h .ended;
     }
 
-run-runs : {s : Sheet} → Good s → Ground s → {lent : List ℕ} → inbox-total s ≤ length lent → (fuel : ℕ) (o : List ℕ) {x : Job} → Reached s lent x →
+run-runs : {s : Sheet} → Good s → Ground s → {lent : List ℕ} → inbox-total s ≤ length lent → (fuel : ℕ) (o : List ℕ) {x : Job} →
+    Reached s lent x →
     2 * N-of s ≤ fuel + x .steps → Runs s fuel o x (run-from fuel s o x)
 unfolding run-from run-next
 run-runs {s} g A room zero o {x} R l = go (next-rank s x) refl
   where
     go : (n : Option ℕ) → next-rank s x ≡ n → Runs s 0 o x (ran o x)
     go none e = run-stays s 0 o x e
-    go (some r) e = absurd (omega (arith, able-room R g r (next-able s x r e)))
+    go (some r) e = absurd (omega (arith, able-room R g r (next-some s x r e)))
 run-runs {s} g A room (suc fuel) o {x} R l =
-    go (next-rank s x) refl (λ r a. run-runs g A room fuel (o ++ (r ∷ [])) (step-sound g A room R r a .reached) (omega (arith, step-counted g R r a)))
+    go (next-rank s x) refl (λ r a. run-runs g A room fuel (o ++ (r ∷ [])) (step-sound g A room R r a .reached)
+    (omega (arith, step-counted g R r a)))
   where
-    go : (n : Option ℕ) → next-rank s x ≡ n → ((r : ℕ) → able s x r ≡ true → Runs s fuel (o ++ (r ∷ [])) (step s r x) (run-from fuel s (o ++ (r ∷ [])) (step s r x))) →
+    go : (n : Option ℕ) → next-rank s x ≡ n →
+        ((r : ℕ) → able s x r ≡ true → Runs s fuel (o ++ (r ∷ [])) (step s r x) (run-from fuel s (o ++ (r ∷ [])) (step s r x))) →
         Runs s (suc fuel) o x (run-next n s o x (λ p y. run-from fuel s p y))
     go none e rest = run-stays s (suc fuel) o x e
-    go (some r) e rest = let a = next-able s x r e in run-goes s fuel o x r (run-from fuel s (o ++ (r ∷ [])) (step s r x)) a (rest r a)
+    go (some r) e rest = let a = next-some s x r e in run-goes s fuel o x r (run-from fuel s (o ++ (r ∷ [])) (step s r x)) a
+        (rest r a)
 
 pub run-ended : {s : Sheet} → Good s → Ground s → (lent : List ℕ) → inbox-total s ≤ length lent → Ends s lent
 unfolding run accepts left-by follow followed is-none started job

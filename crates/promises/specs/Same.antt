@@ -1,15 +1,14 @@
 -- Jobs with the same rows: what the rows alone decide holds of both. Used where a step ends a waiting half or stops the job.
 -- Assumes nothing.
-use mathlib.Core.Path.{_≡_, refl, sym, ap, subst, _∙_}
-use mathlib.Core.Logic.{_≢_}
+use mathlib.Core.Path.{_≡_, sym, ap, subst, _∙_}
 use mathlib.Core.List.{List}
-use Prim.Native.Nat.{ℕ, _≤_, _<_}
+use Prim.Native.Nat.{ℕ, _≤_}
 use native.Mathlib.Omega.{arith}
 use lib.ListN.{getD}
 use Rattle.rules.specs.Sheet.{Sheet}
 use Rattle.rules.specs.Job.{Job, Entry, bare-entry, entry-at}
 use Rattle.promises.specs.Lists.{Holds, holds-same}
-use Rattle.promises.specs.Invariant.{Entered, state-at, partner-at, Pending-message, Pending-receive, Met, Stable, Arrived, Posted-before, Came-before}
+use Rattle.promises.specs.Invariant.{Entered, Pending-message, Pending-receive, Met, Stable, Arrived, Posted-before, Came-before}
 use Rattle.promises.specs.Changes.{state-same, partner-same, met-same}
 use Rattle.promises.specs.Queues.{pending-message-same, pending-receive-same}
 
@@ -30,10 +29,17 @@ module _ {s : Sheet} {x y : Job} (e : Same-rows x y) where
   pub stable-same : {came : ℕ → ℕ} → Stable s came x → Stable s came y
   stable-same X =
       record {
-        message-met = λ m p h. subst (λ (z : ℕ). Met s y m z) (sym (partner-same (e m))) (met-on (X .message-met m p (sym (state-same (e m)) ∙ h)));
-        receive-met = λ r p h. subst (λ (z : ℕ). Met s y z r) (sym (partner-same (e r))) (met-on (X .receive-met r p (sym (state-same (e r)) ∙ h)));
-        none-fit = λ m r p q. X .none-fit m r (pending-message-same x (sym (state-same (e m))) p) (pending-receive-same x (sym (state-same (e r))) q);
-        first-sent = λ m r k h p there l f.
+        message-met =
+            λ m p h. subst (λ (z : ℕ). Met s y m z) (sym (partner-same (e m)))
+            (met-on (X .message-met m p (sym (state-same (e m)) ∙ h)));
+        receive-met =
+            λ r p h. subst (λ (z : ℕ). Met s y z r) (sym (partner-same (e r)))
+            (met-on (X .receive-met r p (sym (state-same (e r)) ∙ h)));
+        none-fit =
+            λ m r p q. X .none-fit m r (pending-message-same x (sym (state-same (e m))) p)
+            (pending-receive-same x (sym (state-same (e r))) q);
+        first-sent =
+            λ m r k h p there l f.
             let old = X .first-sent m r k (met-back h) p (omega (arith, state-same (e k))) l f in
             (state-same (e k) ∙ old .0, omega (arith, old .1, partner-same (e k)));
         first-posted = λ m r q h p l f. state-same (e q) ∙ X .first-posted m r q (met-back h) p l f;
@@ -50,10 +56,14 @@ module _ {s : Sheet} {x y : Job} (e : Same-rows x y) where
       entered-back : (j : ℕ) → Entered y j → Entered x j
       entered-back j h = omega (arith, state-same (e j))
 
-  pub messages-same : {came : ℕ → ℕ} {l : List ℕ} → Holds (Came-before came) (Pending-message s x) l → Holds (Came-before came) (Pending-message s y) l
+  pub messages-same : {came : ℕ → ℕ} {l : List ℕ} → Holds (Came-before came) (Pending-message s x) l →
+      Holds (Came-before came) (Pending-message s y) l
   messages-same h =
-      holds-same h (λ v u p q c. c) (λ v p. pending-message-same y (state-same (e v)) p) (λ v p. pending-message-same x (sym (state-same (e v))) p)
+      holds-same h (λ v u p q c. c) (λ v p. pending-message-same y (state-same (e v)) p)
+      (λ v p. pending-message-same x (sym (state-same (e v))) p)
 
-  pub receives-same : {l : List ℕ} → Holds (Posted-before s) (Pending-receive s x) l → Holds (Posted-before s) (Pending-receive s y) l
+  pub receives-same : {l : List ℕ} → Holds (Posted-before s) (Pending-receive s x) l →
+      Holds (Posted-before s) (Pending-receive s y) l
   receives-same h =
-      holds-same h (λ v u p q c. c) (λ v p. pending-receive-same y (state-same (e v)) p) (λ v p. pending-receive-same x (sym (state-same (e v))) p)
+      holds-same h (λ v u p q c. c) (λ v p. pending-receive-same y (state-same (e v)) p)
+      (λ v p. pending-receive-same x (sym (state-same (e v))) p)

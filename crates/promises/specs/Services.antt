@@ -1,8 +1,7 @@
--- Demand 3 of the services, from demand 3 of the orders: calls whose inboxes start with the same bytes end alike, whatever the
--- rooms' lengths and what stands beyond, since nothing in the inboxes influences a step. Assumes nothing: what it takes from
--- the orders (Ends-alike, Swap-same, Run-ends) is an argument of each law.
---   Entries-long          every job that an order leaves has a row an operation
+-- Demand 3 of the services, from demand 3 of the orders: calls whose inboxes start with the same bytes end alike, whatever
+-- the rooms' lengths and what stands beyond, since nothing in the inboxes influences a step.
 --   follows-alike, run-alike, follow-swaps
+-- Assumes nothing: what it takes from the orders (Ends-alike, Swap-same, Run-ends) is an argument of each law.
 use mathlib.Core.Path.{_≡_, sym, ap, _∙_}
 use mathlib.Core.Bool.{true}
 use mathlib.Core.List.{List, _∷_, _++_}
@@ -11,9 +10,9 @@ use Prim.Native.Nat.{ℕ, _≤_}
 use lib.ListN.{length, take}
 use Rattle.rules.specs.Limits.{report-size}
 use Rattle.rules.specs.Sheet.{Sheet, sheet-in, P-of, N-of, inbox-total}
-use Rattle.rules.specs.Job.{Job, job, with-memory}
+use Rattle.rules.specs.Job.{Job}
 use Rattle.rules.specs.Step.{is-none}
-use Rattle.rules.specs.Order.{run, none-able}
+use Rattle.rules.specs.Order.{follow, run, none-able}
 use Rattle.rules.specs.Report.{report}
 use Rattle.rules.specs.Service.{in-front, order-refusal}
 use Rattle.rules.specs.Claims.{passes, calm, accepts, left-by, without-peaks, Alike, Given}
@@ -21,11 +20,14 @@ use Rattle.promises.specs.Statements.{Lent, Ends, Run-ends, Ends-alike, 
 use Rattle.promises.specs.Splice.{Near}
 use Rattle.promises.specs.Reporting.{report-length}
 use Rattle.promises.specs.Level.{level-report, level-none-able}
-use Rattle.promises.specs.Memory.{Twin, twin-level, follow-twin, run-twin}
+use Rattle.promises.specs.Good.{Good}
+use Rattle.promises.specs.Invariant.{Reached}
+use Rattle.promises.specs.Delivering.{ground}
+use Rattle.promises.specs.Like.{Like, like-level}
+use Rattle.promises.specs.Orders.{Left-like}
+use Rattle.promises.specs.Rooms.{rooms-like, like-near}
+use Rattle.promises.specs.Kept.{lent-good, lent-reached}
 use Rattle.promises.specs.Calls.{follow-answer, follow-accepted, follow-inbox, follow-report, front-report, run-answer}
-
-abbrev pub Entries-long : Type 0
-Entries-long = (bs i rs : List ℕ) → Lent bs i → length (left-by (sheet-in bs) rs i .entries) ≡ N-of (sheet-in bs)
 
 -- ALIKE AS FAR AS THE SHEET'S OWN ROOM GOES
 record Alike-front (s : Sheet) (x y : Job) : Type 0 where
@@ -40,12 +42,13 @@ front-alike {s} h =
       reports = h .1;
     }
 
-front-twin : {s : Sheet} {x y : Job} → Twin (inbox-total s) x y → Alike-front s x y
-unfolding with-memory job
-front-twin {s} {x} {y} t =
+-- like jobs on rooms that start with the same bytes
+front-like : {s : Sheet} → Good s → {i j : List ℕ} {x y : Job} {X : Reached s i x} {Y : Reached s j y} → Like X Y →
+    Near (inbox-total s) i j → Alike-front s x y
+front-like {s} g {i} {j} {x} {y} K h =
     record {
-      memory = t .near .same ∙ ap (λ (z : Job). take (inbox-total s) (z .memory)) (sym (t .is-other));
-      reports = level-report s x y (twin-level s t);
+      memory = like-near g K h .same;
+      reports = level-report s x y (like-level g K);
     }
 
 front-next : {s : Sheet} {x y z : Job} → Alike-front s x y → Alike-front s y z → Alike-front s x z
@@ -60,7 +63,8 @@ record Shows (s : Sheet) (x : Job) (i r : List ℕ) : Type 0 where
   memory : i ≡ x .memory
   reported : take (report-size (P-of s) (N-of s)) r ≡ report s x
 
-shows : (s : Sheet) (x : Job) {i r : List ℕ} (old : List ℕ) → length (x .entries) ≡ N-of s → i ≡ x .memory → r ≡ in-front (report s x) old → Shows s x i r
+shows : (s : Sheet) (x : Job) {i r : List ℕ} (old : List ℕ) → length (x .entries) ≡ N-of s → i ≡ x .memory →
+    r ≡ in-front (report s x) old → Shows s x i r
 shows s x old long m h =
     record {
       memory = m;
@@ -69,16 +73,19 @@ shows s x old long m h =
           ∙ front-report (report s x) old (report-size (P-of s) (N-of s)) (report-length s x long);
     }
 
-shown-alike : (bs : List ℕ) {i r j q : List ℕ} {x y : Job} → Shows (sheet-in bs) x i r → Shows (sheet-in bs) y j q → Alike-front (sheet-in bs) x y → Left-alike bs i r j q
+shown-alike : (bs : List ℕ) {i r j q : List ℕ} {x y : Job} → Shows (sheet-in bs) x i r → Shows (sheet-in bs) y j q →
+    Alike-front (sheet-in bs) x y → Left-alike bs i r j q
 unfolding Left-alike
 shown-alike bs a b h =
     let s = sheet-in bs in (
-      ap (λ (z : List ℕ). take (inbox-total s) z) (a .memory) ∙ h .memory ∙ ap (λ (z : List ℕ). take (inbox-total s) z) (sym (b .memory)),
-      ap (λ (z : List ℕ). without-peaks (P-of s) z) (a .reported) ∙ h .reports ∙ ap (λ (z : List ℕ). without-peaks (P-of s) z) (sym (b .reported)),
+      ap (λ (z : List ℕ). take (inbox-total s) z) (a .memory) ∙ h .memory
+          ∙ ap (λ (z : List ℕ). take (inbox-total s) z) (sym (b .memory)),
+      ap (λ (z : List ℕ). without-peaks (P-of s) z) (a .reported) ∙ h .reports
+          ∙ ap (λ (z : List ℕ). without-peaks (P-of s) z) (sym (b .reported)),
     )
 
 -- CALLS
-module _ (long : Entries-long) {bs : List ℕ} (p : passes bs ≡ true) where
+module _ {bs : List ℕ} (p : passes bs ≡ true) where
   follow-given : {o : List ℕ} (f : Follow-call bs o) → calm (sheet-in bs) ≡ true → Given bs (f .inbox)
   follow-given f c =
       record {
@@ -94,9 +101,11 @@ module _ (long : Entries-long) {bs : List ℕ} (p : passes bs ≡ true) where
         room = follow-answer p f .inbox-room;
       }
 
-  follow-shows : {o : List ℕ} (f : Follow-call bs o) → f .number ≡ 0 → Shows (sheet-in bs) (left-by (sheet-in bs) o (f .inbox)) (f .inbox-now) (f .report-now)
+  follow-shows : {o : List ℕ} (f : Follow-call bs o) → f .number ≡ 0 →
+      Shows (sheet-in bs) (left-by (sheet-in bs) o (f .inbox)) (f .inbox-now) (f .report-now)
   follow-shows {o} f h =
-      shows (sheet-in bs) (left-by (sheet-in bs) o (f .inbox)) (f .report) (long bs (f .inbox) o (follow-lent f)) (follow-inbox p f h) (follow-report p f h)
+      shows (sheet-in bs) (left-by (sheet-in bs) o (f .inbox)) (f .report) (lent-reached (follow-lent f) o .placed .entries-long)
+      (follow-inbox p f h) (follow-report p f h)
 
   run-lent : (g : Run-call bs) → Lent bs (g .inbox)
   run-lent g =
@@ -105,14 +114,17 @@ module _ (long : Entries-long) {bs : List ℕ} (p : passes bs ≡ true) where
         room = run-answer p g .inbox-room;
       }
 
-  run-shows : (g : Run-call bs) → Ends (sheet-in bs) (g .inbox) → Shows (sheet-in bs) (run (sheet-in bs) (g .inbox) .end) (g .inbox-now) (g .report-now)
+  run-shows : (g : Run-call bs) → Ends (sheet-in bs) (g .inbox) →
+      Shows (sheet-in bs) (run (sheet-in bs) (g .inbox) .end) (g .inbox-now) (g .report-now)
   run-shows g E =
       shows (sheet-in bs) (run (sheet-in bs) (g .inbox) .end) (g .report)
-      (ap (λ (z : Job). length (z .entries)) (sym (E .same-job)) ∙ long bs (g .inbox) (run (sheet-in bs) (g .inbox) .order) (run-lent g)) (run-answer p g .inbox-is)
+      (ap (λ (z : Job). length (z .entries)) (sym (E .same-job))
+      ∙ lent-reached (run-lent g) (run (sheet-in bs) (g .inbox) .order) .placed .entries-long) (run-answer p g .inbox-is)
       (run-answer p g .report-is)
 
 -- calls on rooms that start with the same bytes
-near-start : (bs : List ℕ) {i j : List ℕ} → inbox-total (sheet-in bs) ≤ length i → inbox-total (sheet-in bs) ≤ length j → Same-start bs i j → Near (inbox-total (sheet-in bs)) i j
+near-start : (bs : List ℕ) {i j : List ℕ} → inbox-total (sheet-in bs) ≤ length i → inbox-total (sheet-in bs) ≤ length j →
+    Same-start bs i j → Near (inbox-total (sheet-in bs)) i j
 unfolding Same-start
 near-start bs a b h =
     record {
@@ -121,49 +133,113 @@ near-start bs a b h =
       same = h;
     }
 
-module _ (bs : List ℕ) {i j : List ℕ} (h : Near (inbox-total (sheet-in bs)) i j) (rs : List ℕ) where
-  left-twin : Twin (inbox-total (sheet-in bs)) (left-by (sheet-in bs) rs i) (left-by (sheet-in bs) rs j)
+-- one order on two rooms, where there is room enough in both
+module _ {bs i j : List ℕ} (a : Lent bs i) (b : Lent bs j) (same : Same-start bs i j) (rs : List ℕ) where
+  abbrev s : Sheet
+  s = sheet-in bs
+
+  two-rooms : Left-like s i j (follow s rs i) (follow s rs j)
+  two-rooms = rooms-like (lent-good a) (ground s (lent-good a)) (a .room) (b .room) rs
+
+  two-alike : Alike-front s (left-by s rs i) (left-by s rs j)
   unfolding left-by
-  left-twin = follow-twin (sheet-in bs) h rs .left
+  two-alike = front-like (lent-good a) (two-rooms .like) (near-start bs (a .room) (b .room) same)
 
-  accepts-twin : accepts (sheet-in bs) rs j ≡ true → accepts (sheet-in bs) rs i ≡ true
+  two-refused : follow s rs i .refused-at ≡ follow s rs j .refused-at
+  two-refused = two-rooms .refused
+
+  two-accepted : accepts s rs i ≡ true → accepts s rs j ≡ true
   unfolding accepts
-  accepts-twin a = ap (λ (o : Option ℕ). is-none o) (sym (follow-twin (sheet-in bs) h rs .refused)) ∙ a
+  two-accepted e = ap (λ (o : Option ℕ). is-none o) (sym two-refused) ∙ e
 
-  none-able-twin : none-able (sheet-in bs) (left-by (sheet-in bs) rs j) ≡ true → none-able (sheet-in bs) (left-by (sheet-in bs) rs i) ≡ true
-  none-able-twin a = level-none-able (sheet-in bs) (left-by (sheet-in bs) rs i) (left-by (sheet-in bs) rs j) (twin-level (sheet-in bs) left-twin) ∙ a
+  two-none-able : none-able s (left-by s rs i) ≡ true → none-able s (left-by s rs j) ≡ true
+  unfolding left-by
+  two-none-able e =
+      sym (level-none-able s (follow s rs i .left) (follow s rs j .left) (like-level (lent-good a) (two-rooms .like))) ∙ e
+
+same-back : (bs i j : List ℕ) → Same-start bs i j → Same-start bs j i
+unfolding Same-start
+same-back bs i j h = sym h
 
 -- THE LAWS
-pub follows-alike : Ends-alike → Entries-long → Follows-alike
+pub follows-alike : Ends-alike → Follows-alike
 unfolding Ends-alike Follows-alike
-follows-alike ends long bs a b f g p c same zero-f zero-g full-a full-b =
-    let near = near-start bs (follow-answer p f .inbox-room) (follow-answer p g .inbox-room) same in
-    shown-alike bs (follow-shows long p f zero-f) (follow-shows long p g zero-g)
-    (front-next (front-alike (ends bs (f .inbox) a b (follow-given long p f c) (follow-accepted p f zero-f) (accepts-twin bs near b (follow-accepted p g zero-g)) full-a (none-able-twin bs near b full-b) .0))
-    (front-twin (left-twin bs near b)))
+follows-alike ends bs a b f g p c same zero-f zero-g full-a full-b =
+    shown-alike bs (follow-shows p f zero-f) (follow-shows p g zero-g)
+    (front-next
+    (front-alike
+    (ends bs (f .inbox) a b (follow-given p f c) (follow-accepted p f zero-f)
+    (two-accepted there here (same-back bs (f .inbox) (g .inbox) same) b (follow-accepted p g zero-g)) full-a
+    (two-none-able there here (same-back bs (f .inbox) (g .inbox) same) b full-b) .0))
+    (two-alike here there same b))
+  where
+    here : Lent bs (f .inbox)
+    here = follow-lent p f
 
-pub run-alike : Ends-alike → Run-ends → Entries-long → Run-alike
+    there : Lent bs (g .inbox)
+    there = follow-lent p g
+
+-- the order followed on the run's room ends alike with the run, and alike with itself on its own room
+pub run-alike : Ends-alike → Run-ends → Run-alike
 unfolding Ends-alike Run-ends Run-alike
-run-alike ends runs long bs a f g p c same zero-f full =
-    let near = near-start bs (follow-answer p f .inbox-room) (run-answer p g .inbox-room) same in
-    let accepted = follow-accepted p f zero-f in (
-      run-answer p g .number-zero,
-      shown-alike bs (follow-shows long p f zero-f) (run-shows long p g (runs bs (g .inbox) (run-lent long p g)))
-          (front-next (front-alike (ends bs (f .inbox) a a (follow-given long p f c) accepted accepted full full .1)) (front-twin (run-twin (sheet-in bs) near .end))),
-    )
+run-alike ends runs bs a f g p c same zero-f full = (
+  run-answer p g .number-zero,
+  shown-alike bs (follow-shows p f zero-f) (run-shows p g (runs bs (g .inbox) there))
+      (front-next (two-alike here there same a)
+      (front-alike (ends bs (g .inbox) a a given accepted accepted full-there full-there .1))),
+)
+  where
+    here : Lent bs (f .inbox)
+    here = follow-lent p f
 
-pub follow-swaps : Swap-same → Entries-long → Follow-swaps
+    there : Lent bs (g .inbox)
+    there = run-lent p g
+
+    given : Given bs (g .inbox)
+    given =
+        record {
+          passing = p;
+          calm-sheet = c;
+          room = there .room;
+        }
+
+    accepted : accepts (sheet-in bs) a (g .inbox) ≡ true
+    accepted = two-accepted here there same a (follow-accepted p f zero-f)
+
+    full-there : none-able (sheet-in bs) (left-by (sheet-in bs) a (g .inbox)) ≡ true
+    full-there = two-none-able here there same a full
+
+pub follow-swaps : Swap-same → Follow-swaps
 unfolding Swap-same Follow-swaps
-follow-swaps swap long bs before after p q f g pass c same accepted differ able-p able-q =
-    let near = near-start bs (follow-answer pass f .inbox-room) (follow-answer pass g .inbox-room) same in
-    let swapped = swap bs (f .inbox) before after p q (follow-given long pass f c) accepted differ able-p able-q in
-    let twin = follow-twin (sheet-in bs) near (before ++ (q ∷ p ∷ after)) in
-    let refused = swapped .0 ∙ sym (twin .refused) in
-    let number-same : f .number ≡ g .number =
-    follow-answer pass f .number-is ∙ ap (λ (o : Option ℕ). order-refusal o .number) refused ∙ sym (follow-answer pass g .number-is) in (
-      number-same,
-      follow-answer pass f .place-is ∙ ap (λ (o : Option ℕ). order-refusal o .place) refused ∙ sym (follow-answer pass g .place-is),
-      λ zero-f.
-          shown-alike bs (follow-shows long pass f zero-f) (follow-shows long pass g (sym number-same ∙ zero-f))
-          (front-next (front-alike (swapped .1)) (front-twin (left-twin bs near (before ++ (q ∷ p ∷ after))))),
-    )
+follow-swaps swap bs before after p q f g pass c same accepted differ able-p able-q = (
+  number-same,
+  follow-answer pass f .place-is ∙ ap (λ (o : Option ℕ). order-refusal o .place) refused
+      ∙ sym (follow-answer pass g .place-is),
+  λ zero-f.
+      shown-alike bs (follow-shows pass f zero-f) (follow-shows pass g (sym number-same ∙ zero-f))
+      (front-next (front-alike (swapped .1)) (two-alike here there same other)),
+)
+  where
+    here : Lent bs (f .inbox)
+    here = follow-lent pass f
+
+    there : Lent bs (g .inbox)
+    there = follow-lent pass g
+
+    one : List ℕ
+    one = before ++ (p ∷ q ∷ after)
+
+    other : List ℕ
+    other = before ++ (q ∷ p ∷ after)
+
+    swapped : (follow (sheet-in bs) one (f .inbox) .refused-at ≡ follow (sheet-in bs) other (f .inbox) .refused-at)
+        × Alike (sheet-in bs) (left-by (sheet-in bs) one (f .inbox)) (left-by (sheet-in bs) other (f .inbox))
+    swapped = swap bs (f .inbox) before after p q (follow-given pass f c) accepted differ able-p able-q
+
+    refused : follow (sheet-in bs) one (f .inbox) .refused-at ≡ follow (sheet-in bs) other (g .inbox) .refused-at
+    refused = swapped .0 ∙ two-refused here there same other
+
+    number-same : f .number ≡ g .number
+    number-same =
+        follow-answer pass f .number-is ∙ ap (λ (o : Option ℕ). order-refusal o .number) refused
+        ∙ sym (follow-answer pass g .number-is)

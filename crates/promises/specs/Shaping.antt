@@ -1,21 +1,21 @@
 -- A row is determined by its state and partner, after a step as before. Assumes nothing.
-use mathlib.Core.Path.{_≡_, refl, sym, ap, subst, _∙_}
+use mathlib.Core.Path.{_≡_, sym, ap, subst, _∙_}
 use mathlib.Core.Logic.{_≢_}
 use mathlib.Core.Bool.{Bool, true, false, cond}
-use Prim.Native.Nat.{ℕ, _≤_, _<_}
+use Prim.Native.Nat.{ℕ}
 use native.Mathlib.Omega.{arith}
 use native.Mathlib.Decide.{ℕ-discrete}
-use lib.Dec.{eqb}
 use lib.ListN.{getD}
 use mathlib.Core.List.{List}
-use borrow.Author.Tests.{eq-eqb, ne-eqb}
+use borrow.Author.Tests.{ne-eqb}
 use Rattle.rules.specs.Limits.{absent}
-use Rattle.rules.specs.Sheet.{Sheet, Op, op, rank-of, is-receive, is-wait, is-buffered}
+use Rattle.rules.specs.Sheet.{Sheet, op, rank-of, is-receive, is-wait}
 use Rattle.rules.specs.Job.{Job, Entry, entry, bare-entry, entry-at}
 use Rattle.rules.specs.Step.{is-cut}
-use Rattle.promises.specs.Kinds.{clash, send-no-receive, send-no-wait, receive-no-wait}
+use Rattle.laws.specs.Tests.{true-not-false}
+use Rattle.promises.specs.Kinds.{send-no-receive, send-no-wait, receive-no-wait}
 use Rattle.promises.specs.Invariant.{Entered, state-at, partner-at, row-of, unmatched-state, Shaped}
-use Rattle.promises.specs.Changes.{Enters, Matches, state-same, partner-same, state-name, enters-state, matches-message-state, matches-receive-state, matches-met}
+use Rattle.promises.specs.Changes.{Enters, Matches, state-same, state-name, enters-state, matches-message-state, matches-receive-state}
 
 -- the three rows
 pub row-bare : (s : Sheet) (j v p : ℕ) → v ≢ 3 → row-of s j v p ≡ bare-entry v
@@ -24,23 +24,27 @@ row-bare s j v p d =
     ap
     (λ (b : Bool).
     cond b
-    (cond (is-receive (op s j)) (entry 3 (cond (is-cut s p j) 1 0) p (rank-of s p) (op s p .tag) (op s p .long)) (entry 3 0 p absent absent 0))
+    (cond (is-receive (op s j)) (entry 3 (cond (is-cut s p j) 1 0) p (rank-of s p) (op s p .tag) (op s p .long))
+    (entry 3 0 p absent absent 0))
     (bare-entry v))
     (ne-eqb v 3 d)
 
 pub row-message : (s : Sheet) (j p : ℕ) → is-receive (op s j) ≡ false → row-of s j 3 p ≡ entry 3 0 p absent absent 0
 unfolding row-of
 row-message s j p e =
-    ap (λ (b : Bool). cond b (entry 3 (cond (is-cut s p j) 1 0) p (rank-of s p) (op s p .tag) (op s p .long)) (entry 3 0 p absent absent 0)) e
+    ap (λ (b : Bool). cond b (entry 3 (cond (is-cut s p j) 1 0) p (rank-of s p) (op s p .tag) (op s p .long))
+    (entry 3 0 p absent absent 0)) e
 
 pub row-receive : (s : Sheet) (j p : ℕ) → is-receive (op s j) ≡ true →
     row-of s j 3 p ≡ entry 3 (cond (is-cut s p j) 1 0) p (rank-of s p) (op s p .tag) (op s p .long)
 unfolding row-of
 row-receive s j p e =
-    ap (λ (b : Bool). cond b (entry 3 (cond (is-cut s p j) 1 0) p (rank-of s p) (op s p .tag) (op s p .long)) (entry 3 0 p absent absent 0)) e
+    ap (λ (b : Bool). cond b (entry 3 (cond (is-cut s p j) 1 0) p (rank-of s p) (op s p .tag) (op s p .long))
+    (entry 3 0 p absent absent 0)) e
 
 -- a row that did not change
-row-same : (s : Sheet) (x y : Job) (j : ℕ) → entry-at y j ≡ entry-at x j → entry-at x j ≡ row-of s j (state-at x j) (partner-at x j) →
+row-same : (s : Sheet) (x y : Job) (j : ℕ) → entry-at y j ≡ entry-at x j →
+    entry-at x j ≡ row-of s j (state-at x j) (partner-at x j) →
     entry-at y j ≡ row-of s j (state-at y j) (partner-at y j)
 row-same s x y j e h = e ∙ h ∙ ap (λ (z : Entry). row-of s j (z .state) (z .partner)) (sym e)
 
@@ -69,7 +73,8 @@ shaped-enters {s} {x} {y} {i} {v} h E told =
     row j (no d) = row-same s x y j (E .other j d) (h .row j)
     row j (yes e) =
         subst (λ (z : ℕ). entry-at y z ≡ row-of s z (state-at y z) (partner-at y z)) (sym e)
-        (E .row ∙ sym (row-bare s i v (partner-at y i) (E .no-match)) ∙ ap (λ (k : ℕ). row-of s i k (partner-at y i)) (sym (enters-state E)))
+        (E .row ∙ sym (row-bare s i v (partner-at y i) (E .no-match))
+        ∙ ap (λ (k : ℕ). row-of s i k (partner-at y i)) (sym (enters-state E)))
 
     unmatched : (j : ℕ) → Entered y j → state-at y j ≢ 3 → Dec (j ≡ i) → state-at y j ≡ unmatched-state (op s j)
     unmatched j l d (no c) =
@@ -93,10 +98,12 @@ shaped-matches {s} {x} {y} {m} {r} {i} h M =
     row : (j : ℕ) → Dec (j ≡ m) → Dec (j ≡ r) → entry-at y j ≡ row-of s j (state-at y j) (partner-at y j)
     row j (yes e) _ =
         subst (λ (z : ℕ). entry-at y z ≡ row-of s z (state-at y z) (partner-at y z)) (sym e)
-        (M .message-row ∙ sym (row-message s m r (send-no-receive (op s m) (M .sends))) ∙ ap (λ (z : Entry). row-of s m (z .state) (z .partner)) (sym (M .message-row)))
+        (M .message-row ∙ sym (row-message s m r (send-no-receive (op s m) (M .sends)))
+        ∙ ap (λ (z : Entry). row-of s m (z .state) (z .partner)) (sym (M .message-row)))
     row j (no d) (yes e) =
         subst (λ (z : ℕ). entry-at y z ≡ row-of s z (state-at y z) (partner-at y z)) (sym e)
-        (M .receive-row ∙ sym (row-receive s r m (M .receives)) ∙ ap (λ (z : Entry). row-of s r (z .state) (z .partner)) (sym (M .receive-row)))
+        (M .receive-row ∙ sym (row-receive s r m (M .receives))
+        ∙ ap (λ (z : Entry). row-of s r (z .state) (z .partner)) (sym (M .receive-row)))
     row j (no d) (no c) = row-same s x y j (M .other j d c) (h .row j)
 
     unmatched : (j : ℕ) → Entered y j → state-at y j ≢ 3 → state-at y j ≡ unmatched-state (op s j)
@@ -107,6 +114,8 @@ shaped-matches {s} {x} {y} {m} {r} {i} h M =
         same ∙ h .unmatched j (omega (arith, same)) (λ k. d (same ∙ k))
 
     waits : (j : ℕ) → is-wait (op s j) ≡ true → state-at y j ≡ 3 → Dec (j ≡ m) → Dec (j ≡ r) → ⊥
-    waits j w c (yes e) _ = clash (ap (λ (z : ℕ). is-wait (op s z)) (sym e) ∙ w) (send-no-wait (op s m) (M .sends))
-    waits j w c (no d) (yes e) = clash (ap (λ (z : ℕ). is-wait (op s z)) (sym e) ∙ w) (receive-no-wait (op s r) (M .receives))
+    waits j w c (yes e) _ = true-not-false (ap (λ (z : ℕ). is-wait (op s z)) (sym e) ∙ w) (send-no-wait (op s m) (M .sends))
+    waits j w c (no d) (yes e) =
+        true-not-false (ap (λ (z : ℕ). is-wait (op s z)) (sym e) ∙ w)
+        (receive-no-wait (op s r) (M .receives))
     waits j w c (no d) (no a) = h .wait-unmatched j w (sym (state-same (M .other j d a)) ∙ c)

@@ -1,11 +1,11 @@
 -- Bytes put into a list at a place: what stands where afterwards, and splices over ranges that share no index commute.
--- Assumes nothing.
 --   within          index i lies among n indices from `at` on
 --   splice-length   a splice inside keeps the length
 --   splice-at       each byte of a splice
 --   splice-swap     two splices commute
 --   Near            two lists, long enough, that agree on their first n bytes
 --   splice-near     and do so after the same splice
+-- Assumes nothing.
 use mathlib.Core.Path.{_≡_, refl, sym, ap, subst, _∙_}
 use mathlib.Core.Bool.{Bool, true, false, _&&_, cond}
 use mathlib.Core.List.{List, _++_}
@@ -40,7 +40,14 @@ module _ (bs : List ℕ) (at : ℕ) (vs : List ℕ) where
   unfolding splice
   splice-lengths =
       let rest = drop (at + length vs) bs in
-      omega (arith, length-append (take at bs) (vs ++ rest), length-append vs rest, length-take at bs, length-drop (at + length vs) bs)
+      omega (
+        arith,
+        length-append (take at bs) (vs ++ rest),
+        length-append vs rest,
+        length-take at bs,
+        length-drop
+            (at + length vs) bs,
+      )
 
   pub splice-length : at + length vs ≤ length bs → length (splice bs at vs) ≡ length bs
   splice-length room = omega (arith, splice-lengths)
@@ -52,7 +59,8 @@ module _ (bs : List ℕ) (at : ℕ) (vs : List ℕ) where
   splice-before : (i : ℕ) → i < at → i < length bs → getD (splice bs at vs) i 0 ≡ getD bs i 0
   unfolding splice
   splice-before i h l =
-      List·getD-append (take at bs) (vs ++ drop (at + length vs) bs) 0 i (omega (arith, length-take at bs)) ∙ getD-take at bs i 0 h
+      List·getD-append (take at bs) (vs ++ drop (at + length vs) bs) 0 i (omega (arith, length-take at bs))
+      ∙ getD-take at bs i 0 h
 
 -- BYTES of a splice that starts inside
 module _ (bs : List ℕ) (at : ℕ) (vs : List ℕ) (start : at ≤ length bs) where
@@ -96,7 +104,8 @@ module _ (bs : List ℕ) (at : ℕ) (vs : List ℕ) (start : at ≤ length bs) w
 abbrev pub Disjoint : (a n b k : ℕ) → Type 0
 Disjoint a n b k = (i : ℕ) → a ≤ i → i < a + n → b ≤ i → i < b + k → ⊥
 
-module _ (bs : List ℕ) (a : ℕ) (vs : List ℕ) (b : ℕ) (ws : List ℕ) (v-room : a + length vs ≤ length bs) (w-room : b + length ws ≤ length bs)
+module _ (bs : List ℕ) (a : ℕ) (vs : List ℕ) (b : ℕ) (ws : List ℕ) (v-room : a + length vs ≤ length bs)
+    (w-room : b + length ws ≤ length bs)
     (apart : Disjoint a (length vs) b (length ws)) where
   first-vs : List ℕ
   first-vs = splice bs a vs
@@ -116,7 +125,8 @@ module _ (bs : List ℕ) (a : ℕ) (vs : List ℕ) (b : ℕ) (ws : List ℕ) (v-
   unfolding first-vs first-ws
   splice-swap =
       ext-getD 0 (splice first-vs b ws) (splice first-ws a vs)
-      (splice-length first-vs b ws w-room-after ∙ splice-length bs a vs v-room ∙ sym (splice-length bs b ws w-room) ∙ sym (splice-length first-ws a vs v-room-after))
+      (splice-length first-vs b ws w-room-after ∙ splice-length bs a vs v-room ∙ sym (splice-length bs b ws w-room)
+      ∙ sym (splice-length first-ws a vs v-room-after))
       (λ i l. byte i)
     where
       byte : (i : ℕ) → getD (splice first-vs b ws) i 0 ≡ getD (splice first-ws a vs) i 0
@@ -124,12 +134,15 @@ module _ (bs : List ℕ) (a : ℕ) (vs : List ℕ) (b : ℕ) (ws : List ℕ) (v-
           splice-at first-vs b ws (omega (arith, w-room-after)) i
           ∙ ap (λ (z : ℕ). cond (within b (length ws) i) (getD ws (i - b) 0) z) (splice-at bs a vs (omega arith) i)
           ∙ go (within a (length vs) i) refl (within b (length ws) i) refl
-          ∙ sym (splice-at first-ws a vs (omega (arith, v-room-after)) i ∙ ap (λ (z : ℕ). cond (within a (length vs) i) (getD vs (i - a) 0) z) (splice-at bs b ws (omega arith) i))
+          ∙ sym (splice-at first-ws a vs (omega (arith, v-room-after)) i
+          ∙ ap (λ (z : ℕ). cond (within a (length vs) i) (getD vs (i - a) 0) z) (splice-at bs b ws (omega arith) i))
         where
           go : (t : Bool) → within a (length vs) i ≡ t → (u : Bool) → within b (length ws) i ≡ u →
-              cond u (getD ws (i - b) 0) (cond t (getD vs (i - a) 0) (getD bs i 0)) ≡ cond t (getD vs (i - a) 0) (cond u (getD ws (i - b) 0) (getD bs i 0))
+              cond u (getD ws (i - b) 0) (cond t (getD vs (i - a) 0) (getD bs i 0)) ≡ cond t (getD vs (i - a) 0)
+              (cond u (getD ws (i - b) 0) (getD bs i 0))
           go true e true f =
-              absurd (apart i (within-low a (length vs) i e) (within-high a (length vs) i e) (within-low b (length ws) i f) (within-high b (length ws) i f))
+              absurd (apart i (within-low a (length vs) i e) (within-high a (length vs) i e) (within-low b (length ws) i f)
+              (within-high b (length ws) i f))
           go true e false f = refl
           go false e u f = refl
 
@@ -161,7 +174,8 @@ splice-near {n} {bs} {cs} h at vs =
 
     byte : (i : ℕ) → i < n → Dec (i < at) → getD (splice bs at vs) i 0 ≡ getD (splice cs at vs) i 0
     byte i l (yes a) =
-        splice-before bs at vs i a (omega (arith, h .long)) ∙ near-byte h i l ∙ sym (splice-before cs at vs i a (omega (arith, h .long-too)))
+        splice-before bs at vs i a (omega (arith, h .long)) ∙ near-byte h i l
+        ∙ sym (splice-before cs at vs i a (omega (arith, h .long-too)))
     byte i l (no a) =
         splice-at bs at vs (omega (arith, h .long)) i
         ∙ ap (λ (z : ℕ). cond (within at (length vs) i) (getD vs (i - at) 0) z) (near-byte h i l)

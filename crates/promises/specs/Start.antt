@@ -1,31 +1,31 @@
--- The start has the invariant, and every order keeps it: a job that follow leaves is reached. Assumes nothing.
+-- The start has the invariant, and every order keeps it: a job that follow leaves is reached.
 --   start-reached     nothing entered, nothing in use, the lent inboxes
 --   left-reached      along an order, up to where it is refused
-use mathlib.Core.Path.{_≡_, refl, sym, ap, subst, _∙_}
-use mathlib.Core.Logic.{_⊎_, inl, inr, _≢_}
+-- Assumes nothing.
+use mathlib.Core.Path.{_≡_, refl, sym, ap, _∙_}
 use mathlib.Core.Bool.{Bool, true, false, cond}
 use mathlib.Core.List.{List, [], _∷_}
-use mathlib.Core.Option.{Option, none, some}
-use Prim.Native.Nat.{ℕ, zero, suc, _+_, _≤_, _<_}
+use mathlib.Core.Option.{some}
+use Prim.Native.Nat.{ℕ, zero, suc, _+_, _*_, _≤_, _<_}
 use native.Mathlib.Omega.{arith}
 use lib.Dec.{ltb}
 use lib.ListN.{length, getD, replicate, length-replicate}
 use borrow.Author.Tests.{le-ltb}
-use Rattle.rules.specs.Sheet.{Sheet, op, board, P-of, N-of, rank-of, inbox-total, is-receive}
-use Rattle.rules.specs.Job.{Job, Entry, Place, Stop, job, started, entry, bare-entry, place, entry-at, place-at}
+use Rattle.rules.specs.Sheet.{Sheet, op, board, P-of, N-of, rank-of, inbox-total}
+use Rattle.rules.specs.Job.{Job, Entry, Place, job, started, entry, bare-entry, place, entry-at, place-at}
 use Rattle.rules.specs.Step.{able, step, next-op, is-none}
-use Rattle.rules.specs.Order.{Followed, followed, follow-from, follow}
+use Rattle.rules.specs.Order.{followed, follow-from, follow}
 use Rattle.rules.specs.Claims.{left-by}
+use Rattle.laws.specs.Tests.{true-not-false}
 use Rattle.promises.specs.Good.{Good}
 use Rattle.promises.specs.Ground.{Ground}
-use Rattle.promises.specs.Kinds.{clash}
-use Rattle.promises.specs.Sums.{sum-below, sum-zero}
-use Rattle.promises.specs.Lists.{Holds, In}
-use Rattle.promises.specs.Invariant.{Entered, state-at, partner-at, reach, steps-done, steps-of, charge-in, paint, painted, row-of, Pending-message, Pending-receive, Stable, Arrived, Placed, Shaped, Came-before, Posted-before, Reached}
+use Rattle.promises.specs.Sums.{sum-zero}
+use Rattle.promises.specs.Invariant.{Entered, state-at, partner-at, reach, steps-done, steps-of, charge-in, row-of, Reached}
 use Rattle.promises.specs.Charging.{charge-none}
 use Rattle.promises.specs.Shaping.{row-bare}
 use Rattle.promises.specs.Painting.{painted-none}
-use Rattle.promises.specs.Sound.{Extended, step-sound}
+use Rattle.promises.specs.Behind.{stand}
+use Rattle.promises.specs.Sound.{step-sound}
 
 -- a list of one value, read anywhere
 getD-replicate-same : {A : Type 0} (n j : ℕ) (a : A) → getD (replicate n a) j a ≡ a
@@ -73,7 +73,7 @@ module _ {s : Sheet} (g : Good s) (lent : List ℕ) where
   unfolding reach
   start-reach r = ap (λ (b : Bool). next-op s x₀ r + cond b 1 0) (start-waiting r) ∙ omega (arith, start-next r)
 
-  none-entered : {A : Type 0} (j : ℕ) → Entered x₀ j → A
+  pub none-entered : {A : Type 0} (j : ℕ) → Entered x₀ j → A
   none-entered j h = absurd (omega (arith, start-state j))
 
   start-steps : (j : ℕ) → j < N-of s → steps-done s x₀ j ≡ 0
@@ -81,7 +81,8 @@ module _ {s : Sheet} (g : Good s) (lent : List ℕ) where
   start-steps j l =
       ap (λ (b : Bool). cond b (steps-of (op s j)) (cond (ltb j (reach s x₀ (rank-of s j))) 1 0))
       (le-ltb j (next-op s x₀ (rank-of s j)) (omega (arith, start-next (rank-of s j), g .rank-low j l)))
-      ∙ ap (λ (b : Bool). cond b 1 0) (le-ltb j (reach s x₀ (rank-of s j)) (omega (arith, start-reach (rank-of s j), g .rank-low j l)))
+      ∙ ap (λ (b : Bool). cond b 1 0) (le-ltb j (reach s x₀ (rank-of s j))
+      (omega (arith, start-reach (rank-of s j), g .rank-low j l)))
 
   pub start-reached : Reached s lent x₀
   unfolding started job is-none
@@ -107,17 +108,19 @@ module _ {s : Sheet} (g : Good s) (lent : List ℕ) where
               entries-long = length-replicate (N-of s) (bare-entry 0);
               places-long = length-replicate (P-of s) (place 0 false 0 0);
               finished-most = λ r l. omega (arith, start-finished r);
-              waiting-unfinished = λ r l w. absurd (clash w (start-waiting r));
-              waiting-blocking = λ r l w. absurd (clash w (start-waiting r));
-              waiting-no-wait = λ r l w. absurd (clash w (start-waiting r));
+              waiting-unfinished = λ r l w. true-not-false w (start-waiting r);
+              waiting-blocking = λ r l w. true-not-false w (start-waiting r);
+              waiting-no-wait = λ r l w. true-not-false w (start-waiting r);
               entered-if = λ j l h. absurd (omega (arith, start-reach (rank-of s j), g .rank-low j l));
               entered-only = λ j h. none-entered j h;
               passed-complete = λ j l h. absurd (omega (arith, start-next (rank-of s j), g .rank-low j l));
             };
         shaped =
             record {
-              row = λ j.
-                  start-entry j ∙ sym (row-bare s j 0 (partner-at x₀ j) (omega arith)) ∙ ap (λ (v : ℕ). row-of s j v (partner-at x₀ j)) (sym (start-state j));
+              row =
+                  λ j.
+                  start-entry j ∙ sym (row-bare s j 0 (partner-at x₀ j) (omega arith))
+                  ∙ ap (λ (v : ℕ). row-of s j v (partner-at x₀ j)) (sym (start-state j));
               unmatched = λ j h. none-entered j h;
               wait-unmatched = λ j w c. omega (arith, start-state j);
             };
@@ -133,13 +136,22 @@ module _ {s : Sheet} (g : Good s) (lent : List ℕ) where
               whole = λ v p. none-entered v (p .entered);
               sorted = tt;
             };
-        in-use-sum = λ r l. start-in-use r ∙ sym (sum-zero (N-of s) (charge-in s x₀ r) (λ j k. charge-none s x₀ r j (λ c. omega (arith, start-state j))));
+        in-use-sum =
+            λ r l. start-in-use r ∙ sym
+            (sum-zero (N-of s) (charge-in s x₀ r) (λ j k. charge-none s x₀ r j (λ c. omega (arith, start-state j))));
         in-use-peak = λ r. omega (arith, start-in-use r);
+        peak-attached = λ r l. omega (arith, start-peak r);
         memory-painted = sym (painted-none s x₀ (N-of s) lent (λ j c. omega (arith, start-state j)));
         memory-long = refl;
         steps-sum = omega (arith, sum-zero (N-of s) (steps-done s x₀) start-steps);
         stop-at = λ t e. absurd (let z : _≡_ {A = ℕ} 0 1 = cc in omega arith);
       }
+
+pub start-stand : {s : Sheet} → Good s → (lent : List ℕ) (r : ℕ) → stand (started s lent) r ≡ 0
+unfolding stand
+start-stand {s} g lent r =
+    ap (λ (b : Bool). 2 * place-at (started s lent) r .finished + cond b 1 0) (start-waiting g lent r)
+    ∙ omega (arith, start-finished g lent r)
 
 -- ALONG AN ORDER
 -- what every able step keeps, an order keeps
@@ -147,7 +159,9 @@ pub follow-from-keeps : (s : Sheet) (P : Job → Type 0) → ((x : Job) (r : ℕ
     (k : ℕ) (rs : List ℕ) (x : Job) → P x → P (follow-from k s rs x .left)
 unfolding follow-from followed
 follow-from-keeps s P keeps k [] x h = h
-follow-from-keeps s P keeps k (r ∷ rs) x h = go (able s x r) refl (λ a. follow-from-keeps s P keeps (suc k) rs (step s r x) (keeps x r h a))
+follow-from-keeps s P keeps k (r ∷ rs) x h =
+    go (able s x r) refl
+    (λ a. follow-from-keeps s P keeps (suc k) rs (step s r x) (keeps x r h a))
   where
     go : (b : Bool) → able s x r ≡ b → (able s x r ≡ true → P (follow-from (suc k) s rs (step s r x) .left)) →
         P (cond b (follow-from (suc k) s rs (step s r x)) (followed (some k) x) .left)
@@ -159,6 +173,7 @@ pub left-keeps : (s : Sheet) (P : Job → Type 0) → ((x : Job) (r : ℕ) → P
 unfolding left-by follow
 left-keeps s P keeps rs lent h = follow-from-keeps s P keeps 0 rs (started s lent) h
 
-pub left-reached : {s : Sheet} → Good s → Ground s → {lent : List ℕ} → inbox-total s ≤ length lent → (rs : List ℕ) → Reached s lent (left-by s rs lent)
+pub left-reached : {s : Sheet} → Good s → Ground s → {lent : List ℕ} → inbox-total s ≤ length lent → (rs : List ℕ) →
+    Reached s lent (left-by s rs lent)
 left-reached {s} g A {lent} room rs =
     left-keeps s (Reached s lent) (λ x r R a. step-sound g A room R r a .reached) rs lent (start-reached g lent)

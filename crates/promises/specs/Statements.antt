@@ -1,12 +1,12 @@
--- What is promised of job sheets, in the order of document 01: demand 2 (how boards step), run, demand 3 (orders), and demand
--- 3 of the services. Each claim stands in plain words and then in antt, over `rules` only. Theorems.antt proves each under
--- its name in small letters. Assumes nothing: these are statements.
+-- What is promised of job sheets, in the order of document 01: demand 2 (how boards step), run, demand 3 (orders), and
+-- demand 3 of the services. Each claim stands in plain words and then in antt, over `rules` only. Theorems.antt proves each
+-- under its name in small letters. Assumes nothing: these are statements.
 use mathlib.Core.Path.{_≡_}
 use mathlib.Core.Logic.{_≢_, _↔_}
 use mathlib.Core.Bool.{Bool, true, false, _&&_, cond}
 use mathlib.Core.List.{List, [], _∷_, _++_}
-use mathlib.Core.Option.{Option, none, some}
-use Prim.Native.Nat.{ℕ, zero, suc, _+_, _*_, _-_, _≤_, _<_, max}
+use mathlib.Core.Option.{none, some}
+use Prim.Native.Nat.{ℕ, zero, suc, _+_, _-_, _≤_, _<_, max}
 use lib.Dec.{ltb, leb, eqb}
 use lib.ListN.{length, getD, take}
 use Rattle.rules.specs.Limits.{absent, report-size, order-room}
@@ -252,7 +252,8 @@ Run-alike =
 -- With number 0, follow ends alike for both.
 unfoldable pub Follow-swaps : Type 0
 Follow-swaps =
-    (bs before after : List ℕ) (p q : ℕ) (f : Follow-call bs (before ++ (p ∷ q ∷ after))) (g : Follow-call bs (before ++ (q ∷ p ∷ after))) →
+    (bs before after : List ℕ) (p q : ℕ) (f : Follow-call bs (before ++ (p ∷ q ∷ after)))
+    (g : Follow-call bs (before ++ (q ∷ p ∷ after))) →
     passes bs ≡ true → calm (sheet-in bs) ≡ true → Same-start bs (f .inbox) (g .inbox) →
     let s = sheet-in bs in
     let x = left-by s before (f .inbox) in

@@ -1,11 +1,12 @@
--- Sums over the numbers below n. Assumes nothing.
+-- Sums over the numbers below n.
 --   sum-below n f      f 0 + .. + f (n - 1)
 --   sum-same           equal terms give equal sums
 --   sum-le, sum-most   smaller terms give a smaller sum; n terms of at most c come to at most c * n
 --   sum-change         where f and g differ at one place only, so do their sums
 --   sum-gap            where f is smaller by c at one place and nowhere larger, so is its sum
 --   sum-rest, sum-zero   terms that are 0 add nothing
-use mathlib.Core.Path.{_≡_, refl, ap, sym, _∙_}
+-- Assumes nothing.
+use mathlib.Core.Path.{_≡_, refl, ap, _∙_}
 use mathlib.Core.Logic.{_≢_}
 use Prim.Native.Nat.{ℕ, zero, suc, _+_, _*_, _≤_, _<_}
 use native.Mathlib.Omega.{arith}
@@ -42,17 +43,8 @@ sum-change (suc n) i f g l h = go (ℕ-discrete n i) (λ k. sum-change n i f g k
     go (yes e) before = omega (arith, sum-same n f g (λ j k. h j (omega arith) (omega arith)), ap f e, ap g e)
     go (no d) before = omega (arith, before (omega arith), h n (omega arith) d)
 
--- one term is at most the sum
-pub sum-term : (n i : ℕ) (f : ℕ → ℕ) → i < n → f i ≤ sum-below n f
-unfolding sum-below
-sum-term zero i f l = absurd (omega arith)
-sum-term (suc n) i f l = go (ℕ-discrete n i) (λ k. sum-term n i f k)
-  where
-    go : Dec (n ≡ i) → (i < n → f i ≤ sum-below n f) → f i ≤ sum-below n f + f n
-    go (yes e) before = omega (arith, ap f e)
-    go (no d) before = omega (arith, before (omega arith))
-
-pub sum-gap : (n i c : ℕ) (f g : ℕ → ℕ) → i < n → ((j : ℕ) → j < n → f j ≤ g j) → f i + c ≤ g i → sum-below n f + c ≤ sum-below n g
+pub sum-gap : (n i c : ℕ) (f g : ℕ → ℕ) → i < n → ((j : ℕ) → j < n → f j ≤ g j) → f i + c ≤ g i →
+    sum-below n f + c ≤ sum-below n g
 unfolding sum-below
 sum-gap zero i c f g l h e = absurd (omega arith)
 sum-gap (suc n) i c f g l h e = go (ℕ-discrete n i) (λ k. sum-gap n i c f g k (λ j m. h j (omega arith)) e)

@@ -1,38 +1,41 @@
--- Two neighbouring able steps of different boards may be exchanged, on any sheet: where neither stops the job in either order,
--- and they do not enter two messages that one any-source receive fits. After both orders the boards stand alike and the messages
--- that one receive could take came in the same order, so the jobs are alike. Assumes nothing.
+-- Two neighbouring able steps of different boards may be exchanged, on any sheet: where neither stops the job in either
+-- order, and they do not enter two messages that one any-source receive fits. After both orders the boards stand alike and
+-- the messages that one receive could take came in the same order, so the jobs are alike.
 --   swap-able        the second step is able after the first
 --   swap-like        the law
+-- Assumes nothing.
 use mathlib.Core.Path.{_≡_, refl, sym, ap, subst, _∙_}
 use mathlib.Core.Logic.{_⊎_, inl, inr, _≢_}
 use mathlib.Core.Bool.{Bool, true, false, _||_, cond}
 use mathlib.Core.List.{List}
-use mathlib.Core.Option.{Option, none, some}
-use Prim.Native.Nat.{ℕ, zero, suc, _+_, _≤_, _<_}
+use mathlib.Core.Option.{none}
+use Prim.Native.Nat.{ℕ, suc, _+_, _≤_}
 use native.Mathlib.Omega.{arith}
 use native.Mathlib.Decide.{ℕ-discrete}
 use lib.ListN.{length}
 use borrow.Author.Tests.{eq-eqb}
 use Rattle.rules.specs.Limits.{any}
-use Rattle.rules.specs.Sheet.{Sheet, op, P-of, N-of, rank-of, inbox-total, is-send, is-receive, is-wait}
-use Rattle.rules.specs.Job.{Job, Stop, place-at}
+use Rattle.rules.specs.Sheet.{Sheet, op, rank-of, inbox-total, is-send, is-receive, is-wait}
+use Rattle.rules.specs.Job.{Job, place-at}
 use Rattle.rules.specs.Step.{able, step, next-op, in-waiting-half, fits-with}
 use Rattle.rules.specs.Claims.{is-any-source}
+use Rattle.laws.specs.Tests.{and-both}
 use Rattle.promises.specs.Statements.{Harmless}
 use Rattle.promises.specs.Good.{Good}
 use Rattle.promises.specs.Ground.{Ground}
-use Rattle.promises.specs.Kinds.{clash, and-both, is-false, send-no-wait, fit-source}
-use Rattle.promises.specs.Invariant.{Entered, state-at, reach, Placed, Reached}
+use Rattle.promises.specs.Kinds.{send-no-wait, fit-source}
+use Rattle.promises.specs.Invariant.{Entered, reach, Reached, Extended}
 use Rattle.promises.specs.Keep.{Same-order}
 use Rattle.promises.specs.Moves.{Next, Moved, able-next}
-use Rattle.promises.specs.Sound.{Extended, step-sound}
+use Rattle.promises.specs.Sound.{step-sound}
 use Rattle.promises.specs.Grew.{Grew, grew-step, grew-both, grew-same, grew-order}
 use Rattle.promises.specs.Behind.{stand, Behind, still-able, places-entered}
 use Rattle.promises.specs.After.{After, goes-on, halts, step-after, step-counted, finishing, moved-stand-other, stand-next, stand-moved, stand-further, stop-stays}
 use Rattle.promises.specs.Like.{Like}
 
 -- A STEP of p, after which the job goes on
-module _ {s : Sheet} (g : Good s) (A : Ground s) {lent : List ℕ} (room : inbox-total s ≤ length lent) {x : Job} (X : Reached s lent x)
+module _ {s : Sheet} (g : Good s) (A : Ground s) {lent : List ℕ} (room : inbox-total s ≤ length lent) {x : Job}
+    (X : Reached s lent x)
     (p : ℕ) (a : able s x p ≡ true) (going : step s p x .stop ≡ none) where
   abbrev pub E : Extended X (step s p x) (next-op s x p)
   E = step-sound g A room X p a
@@ -61,7 +64,8 @@ module _ {s : Sheet} (g : Good s) (A : Ground s) {lent : List ℕ} (room : inbox
   swap-able q d b = still-able g X (E .reached) step-ahead q (sym (moved-stand-other step-moved q d)) b going
 
 -- BOTH STEPS, in both orders
-module _ {s : Sheet} (g : Good s) (A : Ground s) {lent : List ℕ} (room : inbox-total s ≤ length lent) {x : Job} (X : Reached s lent x)
+module _ {s : Sheet} (g : Good s) (A : Ground s) {lent : List ℕ} (room : inbox-total s ≤ length lent) {x : Job}
+    (X : Reached s lent x)
     (p q : ℕ) (d : p ≢ q) (a : able s x p ≡ true) (b : able s x q ≡ true) (H : Harmless s x p q) where
   -- a step after which the next one does not stop the job did not stop it
   went-on : (r k : ℕ) → able s x r ≡ true → step s k (step s r x) .stop ≡ none → step s r x .stop ≡ none
@@ -124,7 +128,9 @@ module _ {s : Sheet} (g : Good s) (A : Ground s) {lent : List ℕ} (room : inbox
       go (no c) (yes e) =
           subst (λ (z : ℕ). stand (step s q (step s p x)) z ≡ stand (step s p (step s q x)) z) (sym e)
           (sym (moved-stand-other MQP q (λ h. d (sym h)) ∙ stand-moved s x (step s p x) q second-q MQ MPQ))
-      go (no c) (no h) = moved-stand-other MPQ r h ∙ moved-stand-other MP r c ∙ sym (moved-stand-other MQP r c ∙ moved-stand-other MQ r h)
+      go (no c) (no h) =
+          moved-stand-other MPQ r h ∙ moved-stand-other MP r c
+          ∙ sym (moved-stand-other MQP r c ∙ moved-stand-other MQ r h)
 
   -- what entered is the one operation or the other
   entered-since : (k : ℕ) → Entered (step s q (step s p x)) k → (Entered x k → ⊥) → (k ≡ next-op s x p) ⊎ (k ≡ next-op s x q)
@@ -136,7 +142,8 @@ module _ {s : Sheet} (g : Good s) (A : Ground s) {lent : List ℕ} (room : inbox
       go (no c) (no e) = absurd (out (EP .back k c (EPQ .back k (λ f. e (f ∙ sym (stand-next s x (step s p x) q second-q))) h)))
 
   -- a board whose next operation is a send that is not entered is in no waiting half
-  in-no-half : (r k : ℕ) → able s x r ≡ true → k ≡ next-op s x r → is-send (op s k) ≡ true → (Entered x k → ⊥) → in-waiting-half s x r ≡ false
+  in-no-half : (r k : ℕ) → able s x r ≡ true → k ≡ next-op s x r → is-send (op s k) ≡ true → (Entered x k → ⊥) →
+      in-waiting-half s x r ≡ false
   unfolding in-waiting-half reach
   in-no-half r k c e sends out = go (place-at x r .waiting) refl
     where
@@ -153,7 +160,8 @@ module _ {s : Sheet} (g : Good s) (A : Ground s) {lent : List ℕ} (room : inbox
           (omega (arith, ap (λ (z : ℕ). reach s x z) (n .ranked), ap (λ (w : Bool). next-op s x r + cond w 1 0) h)))))
 
   -- the two messages do not meet in one receive
-  no-meeting : (k m r : ℕ) → k ≡ next-op s x p → m ≡ next-op s x q → is-send (op s k) ≡ true → is-send (op s m) ≡ true → is-receive (op s r) ≡ true →
+  no-meeting : (k m r : ℕ) → k ≡ next-op s x p → m ≡ next-op s x q → is-send (op s k) ≡ true → is-send (op s m) ≡ true →
+      is-receive (op s r) ≡ true →
       fits-with s k r ≡ true → fits-with s m r ≡ true → (Entered x k → ⊥) → (Entered x m → ⊥) → ⊥
   unfolding is-any-source
   no-meeting k m r ek em sk sm rr fk fm out gone = go (fit-source s k r fk) (fit-source s m r fm)
@@ -175,7 +183,8 @@ module _ {s : Sheet} (g : Good s) (A : Ground s) {lent : List ℕ} (room : inbox
       go (inr e) (inl f) = race f
       go (inr e) (inr f) = d (sym rank-k ∙ sym e ∙ f ∙ rank-m)
 
-  no-meetings : (k m r : ℕ) → is-send (op s k) ≡ true → is-send (op s m) ≡ true → is-receive (op s r) ≡ true → fits-with s k r ≡ true → fits-with s m r ≡ true →
+  no-meetings : (k m r : ℕ) → is-send (op s k) ≡ true → is-send (op s m) ≡ true → is-receive (op s r) ≡ true →
+      fits-with s k r ≡ true → fits-with s m r ≡ true →
       Entered (step s q (step s p x)) k → Entered (step s q (step s p x)) m → (Entered x k → ⊥) → (Entered x m → ⊥) → k ≢ m → ⊥
   no-meetings k m r sk sm rr fk fm hk hm out gone c = go (entered-since k hk out) (entered-since m hm gone)
     where
@@ -193,8 +202,12 @@ module _ {s : Sheet} (g : Good s) (A : Ground s) {lent : List ℕ} (room : inbox
             step-counted g (EP .reached) q able-q ∙ ap suc (step-counted g X p a)
             ∙ sym (step-counted g (EQ .reached) p able-p ∙ ap suc (step-counted g X q b));
         places = λ r l. swap-places r;
-        order = grew-order grew-pq grew-qp (λ k h. h) (λ k h. h) back same (λ k m r sk sm rr fk fm hk hm. no-meetings k m r sk sm rr fk fm (back k hk) hm);
-        order-back = grew-order grew-qp grew-pq (λ k h. h) (λ k h. h) on same (λ k m r sk sm rr fk fm hk hm. no-meetings k m r sk sm rr fk fm hk (back m hm));
+        order =
+            grew-order grew-pq grew-qp (λ k h. h) (λ k h. h) back same
+            (λ k m r sk sm rr fk fm hk hm. no-meetings k m r sk sm rr fk fm (back k hk) hm);
+        order-back =
+            grew-order grew-qp grew-pq (λ k h. h) (λ k h. h) on same
+            (λ k m r sk sm rr fk fm hk hm. no-meetings k m r sk sm rr fk fm hk (back m hm));
       }
     where
       grew-pq : Grew X (EPQ .reached)

@@ -1,31 +1,31 @@
--- Two neighbouring able steps exchanged, for whole orders: on any sheet where the exchange is harmless, so on a calm sheet, where
--- it always is, and so of the calls of follow. Assumes nothing.
+-- Two neighbouring able steps exchanged, for whole orders: on any sheet where the exchange is harmless, so on a calm sheet,
+-- where it always is, and so of the calls of follow.
 --   swap-general, swap-same, calls-swap
-use mathlib.Core.Path.{_≡_, refl, sym, ap, subst, _∙_}
+-- Assumes nothing.
+use mathlib.Core.Path.{_≡_, sym, ap, subst, _∙_}
 use mathlib.Core.Logic.{_≢_}
-use mathlib.Core.Bool.{true, false}
+use mathlib.Core.Bool.{true}
 use mathlib.Core.List.{List, _∷_, _++_}
 use mathlib.Core.Option.{none}
 use Prim.Native.Nat.{ℕ, suc}
 use lib.ListN.{length}
-use Rattle.rules.specs.Sheet.{Sheet, op, sheet-in}
+use Rattle.rules.specs.Sheet.{Sheet, sheet-in}
 use Rattle.rules.specs.Job.{Job}
 use Rattle.rules.specs.Step.{able, step}
 use Rattle.rules.specs.Order.{Followed, follow, follow-from}
-use Rattle.rules.specs.Claims.{accepts, left-by, calm, Alike, Given}
+use Rattle.rules.specs.Claims.{accepts, left-by, calm, Alike}
+use Rattle.laws.specs.Tests.{true-not-false}
 use Rattle.promises.specs.Statements.{Lent, Harmless, Swap-general, Swap-same, Follow-swaps}
 use Rattle.promises.specs.Good.{Good}
 use Rattle.promises.specs.Ground.{Ground}
-use Rattle.promises.specs.Kinds.{clash}
 use Rattle.promises.specs.Invariant.{Reached}
-use Rattle.promises.specs.Sound.{Extended}
 use Rattle.promises.specs.Delivering.{ground}
 use Rattle.promises.specs.Orders.{Left-like, like-follow, follow-join, follow-two}
 use Rattle.promises.specs.Swap.{E, swap-able, able-p, able-q, swap-like}
 use Rattle.promises.specs.Calm.{calm-going, calm-tame-all}
 use Rattle.promises.specs.Likeness.{like-alike}
 use Rattle.promises.specs.Services.{follow-swaps}
-use Rattle.promises.specs.Kept.{lent-good, lent-reached, entries-long}
+use Rattle.promises.specs.Kept.{lent-good, lent-reached}
 
 module _ {bs i : List ℕ} (h : Lent bs i) (before : List ℕ) (p q : ℕ) (d : p ≢ q) where
   abbrev s : Sheet
@@ -44,7 +44,8 @@ module _ {bs i : List ℕ} (h : Lent bs i) (before : List ℕ) (p q : ℕ) (d : 
   X = lent-reached h before
 
   -- what follows two able steps after the beginning
-  two-more : (accepted : accepts s before i ≡ true) (j k : ℕ) (after : List ℕ) → able s x j ≡ true → able s (step s j x) k ≡ true →
+  two-more : (accepted : accepts s before i ≡ true) (j k : ℕ) (after : List ℕ) → able s x j ≡ true →
+      able s (step s j x) k ≡ true →
       follow s (before ++ (j ∷ k ∷ after)) i ≡ follow-from (suc (suc (length before))) s after (step s k (step s j x))
   two-more accepted j k after a b = follow-join s before (j ∷ k ∷ after) i accepted ∙ follow-two s (length before) j k after x a b
 
@@ -55,7 +56,8 @@ module _ {bs i : List ℕ} (h : Lent bs i) (before : List ℕ) (p q : ℕ) (d : 
   exchanged after accepted a b H = (
     ap (λ (f : Followed). f .refused-at) one ∙ L .refused ∙ sym (ap (λ (f : Followed). f .refused-at) other),
     subst (λ (f : Followed). Alike s (f .left) (follow s (before ++ (q ∷ p ∷ after)) i .left)) (sym one)
-        (subst (λ (f : Followed). Alike s (follow-from n s after (step s q (step s p x)) .left) (f .left)) (sym other) (like-alike g (L .like))),
+        (subst (λ (f : Followed). Alike s (follow-from n s after (step s q (step s p x)) .left) (f .left)) (sym other)
+        (like-alike g (L .like))),
   )
     where
       n : ℕ
@@ -81,7 +83,7 @@ module _ {bs i : List ℕ} (h : Lent bs i) (before : List ℕ) (p q : ℕ) (d : 
       record {
         goes-on = calm-on c p q d a b;
         goes-on-swapped = calm-on c q p (λ e. d (sym e)) b a;
-        no-race = λ r half other sends receives wild fits too. clash wild (calm-tame-all s c r);
+        no-race = λ r half other sends receives wild fits too. true-not-false wild (calm-tame-all s c r);
       }
 
 pub swap-general : Swap-general
@@ -90,7 +92,8 @@ swap-general bs i before after p q h accepted d a b H = exchanged h before p q d
 
 pub swap-same : Swap-same
 unfolding Swap-same
-swap-same bs i before after p q h accepted d a b = exchanged lent before p q d after accepted a b (calm-harmless lent before p q d (h .calm-sheet) a b)
+swap-same bs i before after p q h accepted d a b =
+    exchanged lent before p q d after accepted a b (calm-harmless lent before p q d (h .calm-sheet) a b)
   where
     lent : Lent bs i
     lent =
@@ -100,4 +103,4 @@ swap-same bs i before after p q h accepted d a b = exchanged lent before p q d a
         }
 
 pub calls-swap : Follow-swaps
-calls-swap = follow-swaps swap-same entries-long
+calls-swap = follow-swaps swap-same

@@ -1,5 +1,6 @@
--- Memory, byte by byte: what the deliveries in script order have painted is what `byte-told` tells. Assumes nothing.
+-- Memory, byte by byte: what the deliveries in script order have painted is what `byte-told` tells.
 --   deliveries-reached    the statement Deliveries, of one job that keeps the invariant
+-- Assumes nothing.
 use mathlib.Core.Path.{_≡_, refl, ap, _∙_}
 use mathlib.Core.Bool.{Bool, true, false, _&&_, cond}
 use mathlib.Core.List.{List}
@@ -24,7 +25,8 @@ module _ (s : Sheet) (g : Good s) (lent : List ℕ) (x : Job) (R : Reached s len
   abbrev message-byte : (j at : ℕ) → ℕ
   message-byte j at = getD (s .payload) (op s (partner-at x j) .offset + (at - area-start s j)) 0
 
-  paint-told : (j at : ℕ) (bs : List ℕ) → inbox-total s ≤ length bs → getD (paint s x j bs) at 0 ≡ cond (covers s x j at) (message-byte j at) (getD bs at 0)
+  paint-told : (j at : ℕ) (bs : List ℕ) → inbox-total s ≤ length bs →
+      getD (paint s x j bs) at 0 ≡ cond (covers s x j at) (message-byte j at) (getD bs at 0)
   unfolding paint covers
   paint-told j at bs l = go (is-receive (op s j) && eqb (state-at x j) 3) refl
     where
@@ -41,9 +43,11 @@ module _ (s : Sheet) (g : Good s) (lent : List ℕ) (x : Job) (R : Reached s len
   unfolding painted byte-told
   painted-told zero at = refl
   painted-told (suc n) at =
-      paint-told n at (painted s x n lent) (omega (arith, painted-length g (ground s g) (R .stable) (R .placed) (R .shaped) n lent room))
+      paint-told n at (painted s x n lent) (omega
+      (arith, painted-length g (ground s g) (R .stable) (R .placed) (R .shaped) n lent room))
       ∙ ap (λ (z : ℕ). cond (covers s x n at) (message-byte n at) z) (painted-told n at)
 
-  pub deliveries-reached : (length (x .memory) ≡ length lent) × ((at : ℕ) → getD (x .memory) at 0 ≡ byte-told (N-of s) s x lent at)
+  pub deliveries-reached : (length (x .memory) ≡ length lent)
+      × ((at : ℕ) → getD (x .memory) at 0 ≡ byte-told (N-of s) s x lent at)
   deliveries-reached =
       (R .memory-long, λ at. ap (λ (bs : List ℕ). getD bs at 0) (R .memory-painted) ∙ painted-told (N-of s) at)

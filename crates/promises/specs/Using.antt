@@ -1,8 +1,8 @@
 -- Buffer use: what is in use is the sum of the charges pending, and the peak is the most in use after any step so far.
--- Assumes nothing.
 --   in-use-reached     the statement In-use, of one job that keeps the invariant
 --   step-peak          a step raises the peak to what is then in use
 --   follow-peak        so the peak that an order leaves is the most of them
+-- Assumes nothing.
 use mathlib.Core.Path.{_≡_, refl, sym, ap, subst, _∙_}
 use mathlib.Core.Bool.{Bool, true, false, cond}
 use mathlib.Core.List.{List, [], _∷_}
@@ -29,7 +29,8 @@ unfolding sum-below charge-in pending-charges
 charges-summed s x r zero = refl
 charges-summed s x r (suc n) = ap (λ (k : ℕ). k + charge-in s x r n) (charges-summed s x r n)
 
-pub in-use-reached : {s : Sheet} {i : List ℕ} {x : Job} → Reached s i x → (r : ℕ) → r < P-of s → place-at x r .in-use ≡ pending-charges (N-of s) s x r
+pub in-use-reached : {s : Sheet} {i : List ℕ} {x : Job} → Reached s i x → (r : ℕ) → r < P-of s →
+    place-at x r .in-use ≡ pending-charges (N-of s) s x r
 in-use-reached {s} {i} {x} R r l = R .in-use-sum r l ∙ charges-summed s x r (N-of s)
 
 -- PEAKS
@@ -40,7 +41,9 @@ step-peak {s} g {i} {x} R q a r = go (step-after g R q a)
   where
     go : After s x (step s q x) q → place-at (step s q x) r .peak ≡ max (place-at x r .peak) (place-at (step s q x) r .in-use)
     go (goes-on e m) = moved-peak m r
-    go (halts t e same k) = subst (λ (ps : List Place). peak-in ps ≡ max (place-at x r .peak) (use-in ps)) (sym same) (omega (arith, R .in-use-peak r))
+    go (halts t e same k) =
+        subst (λ (ps : List Place). peak-in ps ≡ max (place-at x r .peak) (use-in ps)) (sym same)
+        (omega (arith, R .in-use-peak r))
       where
         peak-in : List Place → ℕ
         peak-in ps = getD ps r (place 0 false 0 0) .peak
@@ -48,7 +51,8 @@ step-peak {s} g {i} {x} R q a r = go (step-after g R q a)
         use-in : List Place → ℕ
         use-in ps = getD ps r (place 0 false 0 0) .in-use
 
-pub follow-peak : {s : Sheet} (g : Good s) → Ground s → {i : List ℕ} → inbox-total s ≤ length i → (r k : ℕ) (rs : List ℕ) {x : Job} → Reached s i x →
+pub follow-peak : {s : Sheet} (g : Good s) → Ground s → {i : List ℕ} → inbox-total s ≤ length i →
+    (r k : ℕ) (rs : List ℕ) {x : Job} → Reached s i x →
     place-at (follow-from k s rs x .left) r .peak ≡ max (place-at x r .peak) (most-in-use s rs x r)
 unfolding follow-from followed most-in-use
 follow-peak g A room r k [] R = omega arith
@@ -59,7 +63,8 @@ follow-peak {s} g A room r k (q ∷ rs) {x} R =
     y = step s q x
 
     go : (b : Bool) → able s x q ≡ b →
-        (able s x q ≡ true → place-at (follow-from (suc k) s rs y .left) r .peak ≡ max (place-at y r .peak) (most-in-use s rs y r)) →
+        (able s x q ≡ true → place-at (follow-from (suc k) s rs y .left) r .peak ≡ max (place-at y r .peak)
+        (most-in-use s rs y r)) →
         place-at (cond b (follow-from (suc k) s rs y) (followed (some k) x) .left) r .peak ≡
         max (place-at x r .peak) (cond b (max (place-at y r .in-use) (most-in-use s rs y r)) 0)
     go true e on = omega (arith, on e, step-peak g R q e r)

@@ -1,6 +1,6 @@
 -- What the bytes of scratch decode to: rows, places and waiting lists, each a table over its index. Assumes nothing: these are
 -- definitions.
-use mathlib.Core.Bool.{Bool, cond}
+use mathlib.Core.Bool.{cond}
 use mathlib.Core.List.{List, [], _∷_, _++_}
 use Prim.Native.Nat.{ℕ, _+_, _<_}
 use lib.Dec.{eqb}

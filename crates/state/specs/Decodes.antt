@@ -1,27 +1,29 @@
 -- Scratch and its tally hold a job. Each change of scratch is the change of the job that rules names, so that an engine above
 -- never speaks of bytes. Nothing is held of the inbox memory: deliveries are made at the end, from the rows. Assumes nothing.
 use mathlib.Core.Path.{_≡_, refl, sym, _∙_, ap, subst}
-use mathlib.Core.Bool.{Bool, true, false, cond}
+use mathlib.Core.Bool.{false}
 use mathlib.Core.List.{List, [], _∷_, _++_}
-use mathlib.Core.Option.{Option, none, some}
-use Prim.Native.Nat.{ℕ, zero, suc, _+_, _-_, _*_, _<_, _≤_}
+use mathlib.Core.Option.{Option, some}
+use Prim.Native.Nat.{ℕ, _+_, _-_, _*_, _<_, _≤_}
 use native.Mathlib.Omega.{arith}
-use lib.ListN.{length, getD, set}
-use Rattle.rules.specs.Limits.{most-ops, most-boards, scratch-size, absent}
-use Rattle.rules.specs.Sheet.{Sheet, op, N-of, P-of, rank-of, two}
+use lib.ListN.{length, getD, set, take}
+use Rattle.rules.specs.Limits.{most-ops, most-boards, scratch-size}
+use Rattle.rules.specs.Sheet.{Sheet, N-of, P-of, two}
 use Rattle.rules.specs.Job.{Job, Entry, Place, Stop, job, entry, bare-entry, place, entry-at, place-at, with-entries, with-places, with-messages, with-receives, with-memory, with-stop, with-steps}
-use Rattle.rules.specs.Step.{splice, without, is-cut, with-place, with-state, matched-rows, pend-message, pend-receive, stopped}
-use Rattle.rules.specs.Report.{low-two, op-row}
-use Rattle.words.specs.Splice.{Apart, splice-length, splice-apart}
+use Rattle.rules.specs.Step.{splice, without, with-place, with-state, stopped}
+use Rattle.rules.specs.Report.{low-two, op-row, op-rows}
+use Rattle.words.specs.Splice.{Apart, splice-length, splice-apart, splice-take, splice-take-before}
 use Rattle.words.specs.Putting.{part-length}
 use Rattle.words.specs.Tab.{drop-at}
 use Rattle.state.specs.declared.Tally.{Tally}
 use Rattle.state.specs.Layout.{row-at, seat-at, word-at, places-at, messages-at, receives-at, ranks-at}
 use Rattle.state.specs.Decoded.{entry-in, entries-in, place-in, places-in, place-row, words-in, Fits-row, Fits-place}
-use Rattle.state.specs.Rows.{row-length, entries-same, entries-put, entries-at}
+use Rattle.state.specs.Rows.{row-length, entries-same, entries-put, entries-at, entries-length}
+use Rattle.state.specs.Written.{rows-put}
 use Rattle.state.specs.Places.{seat-length, places-same, places-put, places-at-rank}
-use Rattle.state.specs.Lists.{behind, words-same, words-at, words-length, words-append, words-remove, without-at}
-use Rattle.state.specs.Tallied.{stop-of, stop-some, counted, stepped, halted}
+use Rattle.state.specs.Lists.{behind, words-same, words-at, words-length, words-append, words-remove, First-at, without-at}
+use Rattle.state.specs.Indexed.{Indexed, indexed-kept}
+use Rattle.state.specs.Tallied.{stop-of, stop-some, tally, counted, stepped, halted}
 
 pub record Decodes (s : Sheet) (c : List ℕ) (t : Tally) (x : Job) : Type 0 where
   pub few-ops : N-of s ≤ most-ops
@@ -30,11 +32,18 @@ pub record Decodes (s : Sheet) (c : List ℕ) (t : Tally) (x : Job) : Type 0 whe
   pub few-receives : t .receives ≤ most-ops
   pub roomy : scratch-size ≤ length c
   pub entries-are : x .entries ≡ entries-in c (N-of s)
+  pub rows-are : take (row-at (N-of s)) c ≡ op-rows (x .entries)
   pub places-are : x .places ≡ places-in c (P-of s)
   pub messages-are : x .messages ≡ words-in c messages-at (t .messages)
   pub receives-are : x .receives ≡ words-in c receives-at (t .receives)
   pub stop-is : x .stop ≡ stop-of (t .verdict) (t .rank) (t .op)
   pub steps-are : x .steps ≡ t .steps
+  pub indexed : Indexed s c
+
+-- the same bytes and numbers under other names
+pub decodes-as : (s : Sheet) (b c : List ℕ) (u t : Tally) (x : Job) → b ≡ c → u ≡ t → Decodes s c t x → Decodes s b u x
+decodes-as s b c u t x e f d =
+    subst (λ (l : List ℕ). Decodes s l u x) (sym e) (subst (λ (q : Tally). Decodes s c q x) (sym f) d)
 
 -- GETTERS: what a reader reads is the job's
 module _ (s : Sheet) (c : List ℕ) (t : Tally) (x : Job) (d : Decodes s c t x) where
@@ -71,9 +80,12 @@ module _ (c : List ℕ) (at : ℕ) (vs : List ℕ) (h : at + length vs ≤ lengt
 
 module _ (s : Sheet) (c : List ℕ) (t : Tally) (x : Job) (d : Decodes s c t x) where
   -- a splice, with what each part then decodes to
-  spliced : (at : ℕ) (vs : List ℕ) (m r : ℕ) (es : List Entry) (ps : List Place) (ms rs : List ℕ) → at + length vs ≤ ranks-at → m ≤ most-ops → r ≤ most-ops → entries-in (splice c at vs) (N-of s) ≡ es → places-in (splice c at vs) (P-of s) ≡ ps → words-in (splice c at vs) messages-at m ≡ ms → words-in (splice c at vs) receives-at r ≡ rs → Decodes s (splice c at vs) (counted m r t) (job es ps ms rs (x .memory) (x .stop) (x .steps))
+  spliced : (at : ℕ) (vs : List ℕ) (m r : ℕ) (es : List Entry) (ps : List Place) (ms rs : List ℕ) → at + length vs ≤ ranks-at → m ≤ most-ops →
+      r ≤ most-ops → entries-in (splice c at vs) (N-of s) ≡ es → take (row-at (N-of s)) (splice c at vs) ≡ op-rows es →
+      places-in (splice c at vs) (P-of s) ≡ ps → words-in (splice c at vs) messages-at m ≡ ms → words-in (splice c at vs) receives-at r ≡ rs →
+      Decodes s (splice c at vs) (counted m r t) (job es ps ms rs (x .memory) (x .stop) (x .steps))
   unfolding job
-  spliced at vs m r es ps ms rs h lm lr e p q w =
+  spliced at vs m r es ps ms rs h lm lr e k p q w =
       let roomy : scratch-size ≤ length c = d .roomy in
       let size = splice-length c at vs (omega arith) in
       record {
@@ -83,20 +95,22 @@ module _ (s : Sheet) (c : List ℕ) (t : Tally) (x : Job) (d : Decodes s c t x) 
         few-receives = lr;
         roomy = omega arith;
         entries-are = sym e;
+        rows-are = k;
         places-are = sym p;
         messages-are = sym q;
         receives-are = sym w;
         stop-is = d .stop-is;
         steps-are = d .steps-are;
+        indexed = indexed-kept s c at vs (d .few-ops) (d .roomy) h (d .indexed);
       }
 
   -- a splice inside one region changes that part of the job alone
-  rows-spliced : (at : ℕ) (vs : List ℕ) (es : List Entry) → at + length vs ≤ places-at → entries-in (splice c at vs) (N-of s) ≡ es → Decodes s (splice c at vs) t (with-entries es x)
+  rows-spliced : (at : ℕ) (vs : List ℕ) (es : List Entry) → at + length vs ≤ places-at → entries-in (splice c at vs) (N-of s) ≡ es → take (row-at (N-of s)) (splice c at vs) ≡ op-rows es → Decodes s (splice c at vs) t (with-entries es x)
   unfolding with-entries
-  rows-spliced at vs es h e =
+  rows-spliced at vs es h e k =
       let roomy : scratch-size ≤ length c = d .roomy in
       let fits : at + length vs ≤ length c = omega arith in
-      spliced at vs (t .messages) (t .receives) es (x .places) (x .messages) (x .receives) (omega arith) (d .few-messages) (d .few-receives) e
+      spliced at vs (t .messages) (t .receives) es (x .places) (x .messages) (x .receives) (omega arith) (d .few-messages) (d .few-receives) e k
       (places-kept c at vs fits (P-of s) (d .few-boards) (omega arith) ∙ sym (d .places-are))
       (words-kept c at vs fits messages-at (t .messages) (d .few-messages) (omega arith) ∙ sym (d .messages-are))
       (words-kept c at vs fits receives-at (t .receives) (d .few-receives) (omega arith) ∙ sym (d .receives-are))
@@ -108,28 +122,33 @@ module _ (s : Sheet) (c : List ℕ) (t : Tally) (x : Job) (d : Decodes s c t x) 
       let fits : at + length vs ≤ length c = omega arith in
       spliced at vs (t .messages) (t .receives) (x .entries) ps (x .messages) (x .receives) (omega arith) (d .few-messages) (d .few-receives)
       (entries-kept c at vs fits (N-of s) (d .few-ops) (omega arith) ∙ sym (d .entries-are))
+      (splice-take-before c (row-at (N-of s)) at vs (omega (arith, d .few-ops)) (omega arith) ∙ d .rows-are)
       e
       (words-kept c at vs fits messages-at (t .messages) (d .few-messages) (omega arith) ∙ sym (d .messages-are))
       (words-kept c at vs fits receives-at (t .receives) (d .few-receives) (omega arith) ∙ sym (d .receives-are))
 
-  messages-spliced : (at : ℕ) (vs : List ℕ) (m : ℕ) (ms : List ℕ) → messages-at ≤ at → at + length vs ≤ receives-at → m ≤ most-ops → words-in (splice c at vs) messages-at m ≡ ms → Decodes s (splice c at vs) (counted m (t .receives) t) (with-messages ms x)
+  messages-spliced : (at : ℕ) (vs : List ℕ) (m : ℕ) (ms : List ℕ) → messages-at ≤ at → at + length vs ≤ receives-at → m ≤ most-ops →
+      words-in (splice c at vs) messages-at m ≡ ms → Decodes s (splice c at vs) (counted m (t .receives) t) (with-messages ms x)
   unfolding with-messages
   messages-spliced at vs m ms l h lm e =
       let roomy : scratch-size ≤ length c = d .roomy in
       let fits : at + length vs ≤ length c = omega arith in
       spliced at vs m (t .receives) (x .entries) (x .places) ms (x .receives) (omega arith) lm (d .few-receives)
       (entries-kept c at vs fits (N-of s) (d .few-ops) (omega arith) ∙ sym (d .entries-are))
+      (splice-take-before c (row-at (N-of s)) at vs (omega (arith, d .few-ops)) (omega arith) ∙ d .rows-are)
       (places-kept c at vs fits (P-of s) (d .few-boards) (omega arith) ∙ sym (d .places-are))
       e
       (words-kept c at vs fits receives-at (t .receives) (d .few-receives) (omega arith) ∙ sym (d .receives-are))
 
-  receives-spliced : (at : ℕ) (vs : List ℕ) (r : ℕ) (rs : List ℕ) → receives-at ≤ at → at + length vs ≤ ranks-at → r ≤ most-ops → words-in (splice c at vs) receives-at r ≡ rs → Decodes s (splice c at vs) (counted (t .messages) r t) (with-receives rs x)
+  receives-spliced : (at : ℕ) (vs : List ℕ) (r : ℕ) (rs : List ℕ) → receives-at ≤ at → at + length vs ≤ ranks-at → r ≤ most-ops →
+      words-in (splice c at vs) receives-at r ≡ rs → Decodes s (splice c at vs) (counted (t .messages) r t) (with-receives rs x)
   unfolding with-receives
   receives-spliced at vs r rs l h lr e =
       let roomy : scratch-size ≤ length c = d .roomy in
       let fits : at + length vs ≤ length c = omega arith in
       spliced at vs (t .messages) r (x .entries) (x .places) (x .messages) rs (omega arith) (d .few-messages) lr
       (entries-kept c at vs fits (N-of s) (d .few-ops) (omega arith) ∙ sym (d .entries-are))
+      (splice-take-before c (row-at (N-of s)) at vs (omega (arith, d .few-ops)) (omega arith) ∙ d .rows-are)
       (places-kept c at vs fits (P-of s) (d .few-boards) (omega arith) ∙ sym (d .places-are))
       (words-kept c at vs fits messages-at (t .messages) (d .few-messages) (omega arith) ∙ sym (d .messages-are))
       e
@@ -141,6 +160,8 @@ module _ (s : Sheet) (c : List ℕ) (t : Tally) (x : Job) (d : Decodes s c t x) 
       let long = row-length e in
       rows-spliced (row-at i) (op-row e) (set (x .entries) i e) (omega arith)
       (entries-put c i (N-of s) e f l few (d .roomy) ∙ ap (λ (es : List Entry). set es i e) (sym (d .entries-are)))
+      (splice-take c (row-at (N-of s)) (row-at i) (op-row e) (omega arith) (omega (arith, d .roomy))
+      ∙ (ap (λ (b : List ℕ). splice b (row-at i) (op-row e)) (d .rows-are) ∙ rows-put (x .entries) i e (omega (arith, ap length (d .entries-are), entries-length c (N-of s)))))
 
   pub state-put : (i v : ℕ) → i < N-of s → Decodes s (splice c (row-at i) (op-row (bare-entry v))) t (with-state i v x)
   unfolding with-state bare-entry entry
@@ -177,31 +198,36 @@ module _ (s : Sheet) (c : List ℕ) (t : Tally) (x : Job) (d : Decodes s c t x) 
       receives-spliced (word-at receives-at (t .receives)) (low-two i) (t .receives + 1) (x .receives ++ (i ∷ [])) (omega arith) (omega arith) (omega arith)
       (words-append c receives-at (t .receives) i f (omega arith) ∙ ap (λ (rs : List ℕ). rs ++ (i ∷ [])) (sym (d .receives-are)))
 
-  -- v is the k-th and no earlier one is v
-  pub message-remove : (left k v : ℕ) → left + 1 ≡ t .messages → k ≤ left → getD (x .messages) k 0 ≡ v → ((j : ℕ) → j < k → getD (x .messages) j 0 ≡ v → ⊥) → Decodes s (splice c (word-at messages-at k) (behind c messages-at left k)) (counted left (t .receives) t) (with-messages (without v (x .messages)) x)
-  message-remove left k v n l e o =
+  pub message-remove : (left k v : ℕ) → left + 1 ≡ t .messages → First-at (x .messages) k v →
+      Decodes s (splice c (word-at messages-at k) (behind c messages-at left k)) (counted left (t .receives) t) (with-messages (without v (x .messages)) x)
+  message-remove left k v n f =
+      let inside : k < length (x .messages) = f .inside in
+      let size = messages-length s c t x d in
       let roomy : scratch-size ≤ length c = d .roomy in
       let few : t .messages ≤ most-ops = d .few-messages in
       let long = part-length c (word-at messages-at k + 2) (2 * (left - k)) (omega arith) in
       messages-spliced (word-at messages-at k) (behind c messages-at left k) left (without v (x .messages)) (omega arith) (omega arith) (omega arith)
       (words-remove c messages-at left k (omega arith) (omega arith)
       ∙ (ap (λ (i : ℕ). drop-at k (words-in c messages-at i)) n
-      ∙ (ap (λ (ms : List ℕ). drop-at k ms) (sym (d .messages-are)) ∙ sym (without-at (x .messages) k v (omega (arith, messages-length s c t x d)) e o))))
+      ∙ (ap (λ (ms : List ℕ). drop-at k ms) (sym (d .messages-are)) ∙ sym (without-at (x .messages) k v f))))
 
-  pub receive-remove : (left k v : ℕ) → left + 1 ≡ t .receives → k ≤ left → getD (x .receives) k 0 ≡ v → ((j : ℕ) → j < k → getD (x .receives) j 0 ≡ v → ⊥) → Decodes s (splice c (word-at receives-at k) (behind c receives-at left k)) (counted (t .messages) left t) (with-receives (without v (x .receives)) x)
-  receive-remove left k v n l e o =
+  pub receive-remove : (left k v : ℕ) → left + 1 ≡ t .receives → First-at (x .receives) k v →
+      Decodes s (splice c (word-at receives-at k) (behind c receives-at left k)) (counted (t .messages) left t) (with-receives (without v (x .receives)) x)
+  receive-remove left k v n f =
+      let inside : k < length (x .receives) = f .inside in
+      let size = receives-length s c t x d in
       let roomy : scratch-size ≤ length c = d .roomy in
       let few : t .receives ≤ most-ops = d .few-receives in
       let long = part-length c (word-at receives-at k + 2) (2 * (left - k)) (omega arith) in
       receives-spliced (word-at receives-at k) (behind c receives-at left k) left (without v (x .receives)) (omega arith) (omega arith) (omega arith)
       (words-remove c receives-at left k (omega arith) (omega arith)
       ∙ (ap (λ (i : ℕ). drop-at k (words-in c receives-at i)) n
-      ∙ (ap (λ (rs : List ℕ). drop-at k rs) (sym (d .receives-are)) ∙ sym (without-at (x .receives) k v (omega (arith, receives-length s c t x d)) e o))))
+      ∙ (ap (λ (rs : List ℕ). drop-at k rs) (sym (d .receives-are)) ∙ sym (without-at (x .receives) k v f))))
 
-  -- what is kept beside scratch, and what is kept nowhere
-  pub steps-put : (k : ℕ) → Decodes s c (stepped k t) (with-steps k x)
-  unfolding with-steps job
-  steps-put k =
+  -- what is kept beside scratch, and the memory, which is kept nowhere
+  beside : (m : List ℕ) (o : Option Stop) (j k v r i : ℕ) → o ≡ stop-of v r i → j ≡ k → Decodes s c (tally (t .messages) (t .receives) k v r i) (job (x .entries) (x .places) (x .messages) (x .receives) m o j)
+  unfolding job
+  beside m o j k v r i e f =
       record {
         few-ops = d .few-ops;
         few-boards = d .few-boards;
@@ -209,43 +235,31 @@ module _ (s : Sheet) (c : List ℕ) (t : Tally) (x : Job) (d : Decodes s c t x) 
         few-receives = d .few-receives;
         roomy = d .roomy;
         entries-are = d .entries-are;
+        rows-are = d .rows-are;
         places-are = d .places-are;
         messages-are = d .messages-are;
         receives-are = d .receives-are;
-        stop-is = d .stop-is;
-        steps-are = refl;
+        stop-is = e;
+        steps-are = f;
+        indexed = d .indexed;
       }
+
+  pub steps-put : (k : ℕ) → Decodes s c (stepped k t) (with-steps k x)
+  unfolding with-steps
+  steps-put k = beside (x .memory) (x .stop) k k (t .verdict) (t .rank) (t .op) (d .stop-is) refl
 
   pub stop-put : (v r i : ℕ) → (v ≡ 0 → ⊥) → Decodes s c (halted v r i t) (stopped v r i x)
-  unfolding stopped with-stop job
+  unfolding stopped with-stop
   stop-put v r i h =
-      record {
-        few-ops = d .few-ops;
-        few-boards = d .few-boards;
-        few-messages = d .few-messages;
-        few-receives = d .few-receives;
-        roomy = d .roomy;
-        entries-are = d .entries-are;
-        places-are = d .places-are;
-        messages-are = d .messages-are;
-        receives-are = d .receives-are;
-        stop-is = sym (stop-some v r i h);
-        steps-are = d .steps-are;
-      }
+      beside (x .memory)
+      (some
+      (record {
+        verdict = v;
+        rank = r;
+        at-op = i;
+      }))
+      (x .steps) (t .steps) v r i (sym (stop-some v r i h)) (d .steps-are)
 
   pub memory-put : (m : List ℕ) → Decodes s c t (with-memory m x)
-  unfolding with-memory job
-  memory-put m =
-      record {
-        few-ops = d .few-ops;
-        few-boards = d .few-boards;
-        few-messages = d .few-messages;
-        few-receives = d .few-receives;
-        roomy = d .roomy;
-        entries-are = d .entries-are;
-        places-are = d .places-are;
-        messages-are = d .messages-are;
-        receives-are = d .receives-are;
-        stop-is = d .stop-is;
-        steps-are = d .steps-are;
-      }
+  unfolding with-memory
+  memory-put m = beside m (x .stop) (x .steps) (t .steps) (t .verdict) (t .rank) (t .op) (d .stop-is) (d .steps-are)

@@ -2,20 +2,22 @@
 --   Layout   where each part stands
 --   Decoded  what the bytes decode to
 --   Rows     operation rows put and read
+--   Written  the rows as they stand are the report's rows
 --   Places   board places put and read
---   Lists    the waiting lists: an entry appended, an entry removed
+--   Lists    the waiting lists: searched, an entry appended, an entry removed
+--   Indexed  the tables of ranks and of waits
 --   Tallied  the numbers that are kept beside scratch
 --   Decodes  scratch and its tally hold a job; what each change of them does to the job, in the words of rules
 --   Steps    changes in two places, and a place changed by a function
 --   Start    the start of a job
---   Indexed  the tables of ranks and of waits
 pub mod Layout
 pub mod Decoded
 pub mod Rows
+pub mod Written
 pub mod Places
 pub mod Lists
+pub mod Indexed
 pub mod Tallied
 pub mod Decodes
 pub mod Steps
 pub mod Start
-pub mod Indexed

@@ -1,17 +1,19 @@
--- The waiting lists: an operation appended, the k-th one removed. Assumes nothing.
-use mathlib.Core.Path.{_≡_, refl, sym, _∙_, ap, subst}
-use mathlib.Core.Bool.{Bool, true, false, cond}
+-- The waiting lists: an operation appended, the k-th one removed, and the first one that passes a test. Assumes nothing.
+use mathlib.Core.Path.{_≡_, refl, sym, _∙_, ap}
+use mathlib.Core.Bool.{Bool, true, false}
 use mathlib.Core.List.{List, [], _∷_, _++_}
+use mathlib.Core.Option.{none, some}
 use Prim.Native.Nat.{ℕ, zero, suc, _+_, _-_, _*_, _<_, _≤_}
 use native.Mathlib.Omega.{arith}
 use native.Mathlib.Numerals.{add-one}
-use lib.Dec.{eqb}
+use native.Mathlib.Decide.{ℕ-discrete}
 use lib.ListN.{length, getD, take, drop}
 use borrow.Author.Tests.{eq-eqb, ne-eqb}
 use Rattle.rules.specs.Sheet.{two}
-use Rattle.rules.specs.Step.{splice, without}
+use Rattle.rules.specs.Step.{splice, without, first-by}
 use Rattle.rules.specs.Report.{low-two}
-use Rattle.words.specs.Splice.{Same, splice-within, splice-apart}
+use Rattle.laws.specs.Tests.{true-not-false}
+use Rattle.words.specs.Splice.{Same, splice-apart}
 use Rattle.words.specs.Two.{two-same, two-within, two-put}
 use Rattle.words.specs.Putting.{part-length, part-at}
 use Rattle.words.specs.Tab.{tab, drop-at, tab-same, tab-snoc, tab-out, tab-at, tab-length}
@@ -66,16 +68,60 @@ words-remove c base n k l h =
     moved
     ∙ ap (λ (i : ℕ). drop-at k (tab (λ j. two c (word-at base j)) 0 i)) (sym (add-one n))
 
--- the first v of a list stands at k: the list without its k-th is the list without v
-pub without-at : (xs : List ℕ) (k v : ℕ) → k < length xs → getD xs k 0 ≡ v → ((j : ℕ) → j < k → getD xs j 0 ≡ v → ⊥) → without v xs ≡ drop-at k xs
+-- v is the k-th of a list, and no earlier one is v
+pub record First-at (xs : List ℕ) (k v : ℕ) : Type 0 where
+  pub inside : k < length xs
+  pub here : getD xs k 0 ≡ v
+  pub before : (j : ℕ) → j < k → getD xs j 0 ≡ v → ⊥
+
+-- then the list without its k-th is the list without v
+pub without-at : (xs : List ℕ) (k v : ℕ) → First-at xs k v → without v xs ≡ drop-at k xs
 unfolding without drop-at
-without-at [] k v l e o = refl
-without-at (x ∷ xs) zero v l e o = rw (eq-eqb x v e)
-without-at (x ∷ xs) (suc k) v l e o =
-    rw (ne-eqb x v (o 0 (omega arith))) (ap (λ (ys : List ℕ). x ∷ ys) (without-at xs k v (omega arith) e (λ j u q. o (suc j) (omega arith) q)))
+without-at xs k v f = go xs k (f .inside) (f .here) (f .before)
+  where
+    go : (xs : List ℕ) (k : ℕ) → k < length xs → getD xs k 0 ≡ v → ((j : ℕ) → j < k → getD xs j 0 ≡ v → ⊥) → without v xs ≡ drop-at k xs
+    go [] k l e o = refl
+    go (x ∷ xs) zero l e o = rw (eq-eqb x v e)
+    go (x ∷ xs) (suc k) l e o =
+        rw (ne-eqb x v (o 0 (omega arith))) (ap (λ (ys : List ℕ). x ∷ ys) (go xs k (omega arith) e (λ j u q. o (suc j) (omega arith) q)))
 
 -- a list that has no v
 pub without-none : (xs : List ℕ) (v : ℕ) → ((j : ℕ) → j < length xs → getD xs j 0 ≡ v → ⊥) → without v xs ≡ xs
 unfolding without
 without-none [] v o = refl
 without-none (x ∷ xs) v o = rw (ne-eqb x v (o 0 (omega arith))) (ap (λ (ys : List ℕ). x ∷ ys) (without-none xs v (λ j u q. o (suc j) (omega arith) q)))
+
+-- SEARCH: the tests at the first k entries failed
+abbrev pub Failed : (ℕ → Bool) → List ℕ → (k : ℕ) → Type 0
+Failed f xs k = (j : ℕ) → j < k → f (getD xs j 0) ≡ false
+
+pub failed-none : (f : ℕ → Bool) (xs : List ℕ) → Failed f xs 0
+failed-none f xs j l = absurd (omega arith)
+
+pub failed-more : (f : ℕ → Bool) (xs : List ℕ) (k : ℕ) → Failed f xs k → f (getD xs k 0) ≡ false → Failed f xs (k + 1)
+failed-more f xs k o e j l = go (ℕ-discrete j k)
+  where
+    go : Dec (j ≡ k) → f (getD xs j 0) ≡ false
+    go (yes q) = ap (λ (i : ℕ). f (getD xs i 0)) q ∙ e
+    go (no q) = o j (omega arith)
+
+-- the first entry that passes is the answer of `first-by`, and stands nowhere before
+pub first-found : (f : ℕ → Bool) (xs : List ℕ) (k : ℕ) → k < length xs → Failed f xs k → f (getD xs k 0) ≡ true → first-by f xs ≡ some (getD xs k 0)
+unfolding first-by
+first-found f [] k l o e = absurd (omega arith)
+first-found f (x ∷ xs) zero l o e = rw e
+first-found f (x ∷ xs) (suc k) l o e = rw (o 0 (omega arith)) (first-found f xs k (omega arith) (λ j u. o (suc j) (omega arith)) e)
+
+pub first-stands : (f : ℕ → Bool) (xs : List ℕ) (k : ℕ) → k < length xs → Failed f xs k → f (getD xs k 0) ≡ true → First-at xs k (getD xs k 0)
+first-stands f xs k l o e =
+    record {
+      inside = l;
+      here = refl;
+      before = λ j u q. true-not-false (ap f q ∙ e) (o j u);
+    }
+
+-- where all failed there is none
+pub first-none : (f : ℕ → Bool) (xs : List ℕ) → Failed f xs (length xs) → first-by f xs ≡ none
+unfolding first-by
+first-none f [] o = refl
+first-none f (x ∷ xs) o = rw (o 0 (omega arith)) (first-none f xs (λ j u. o (suc j) (omega arith)))

@@ -1,8 +1,8 @@
 -- Places of boards: a place that was put is read back and is the only one that changed. Assumes nothing.
-use mathlib.Core.Path.{_≡_, refl, sym, _∙_, ap, subst}
+use mathlib.Core.Path.{_≡_, refl, sym, _∙_, ap}
 use mathlib.Core.Bool.{Bool, true, false, cond}
-use mathlib.Core.List.{List, [], _∷_, _++_}
-use Prim.Native.Nat.{ℕ, zero, suc, _+_, _*_, _<_, _≤_}
+use mathlib.Core.List.{List, [], _∷_}
+use Prim.Native.Nat.{ℕ, _+_, _<_, _≤_}
 use native.Mathlib.Omega.{arith}
 use lib.Dec.{eqb}
 use lib.ListN.{length, getD, set}
@@ -13,7 +13,7 @@ use Rattle.rules.specs.Step.{splice}
 use Rattle.rules.specs.Report.{low-two}
 use Rattle.words.specs.Splice.{Same, splice-within, splice-apart}
 use Rattle.words.specs.Two.{two-same, two-within, two-bytes}
-use Rattle.words.specs.Tab.{tab-same, tab-set, tab-at, tab-length}
+use Rattle.words.specs.Tab.{tab-same, tab-set, tab-at}
 use Rattle.state.specs.Layout.{seat-at, places-at}
 use Rattle.state.specs.Decoded.{place-in, places-in, place-row, Fits-place}
 
@@ -71,7 +71,3 @@ places-put c r p q f l m h =
 pub places-at-rank : (c : List ℕ) (p r : ℕ) → r < p → getD (places-in c p) r (place 0 false 0 0) ≡ place-in c (seat-at r)
 unfolding places-in
 places-at-rank c p r l = tab-at (λ k. place-in c (seat-at k)) p r (place 0 false 0 0) l
-
--- figures that were read and put again as a place that equals another
-pub seat-as : (c d : List ℕ) (r : ℕ) (q e : Place) → d ≡ splice c (seat-at r) (place-row q) → q ≡ e → d ≡ splice c (seat-at r) (place-row e)
-seat-as c d r q e h same = h ∙ ap (λ (z : Place). splice c (seat-at r) (place-row z)) same

@@ -1,7 +1,7 @@
 -- Operation rows: a row that was put is read back and is the only one that changed. Assumes nothing.
-use mathlib.Core.Path.{_≡_, refl, sym, _∙_, ap, subst}
-use mathlib.Core.List.{List, [], _∷_, _++_}
-use Prim.Native.Nat.{ℕ, zero, suc, _+_, _*_, _<_, _≤_}
+use mathlib.Core.Path.{_≡_, refl, sym, _∙_, ap}
+use mathlib.Core.List.{List}
+use Prim.Native.Nat.{ℕ, _+_, _<_, _≤_}
 use native.Mathlib.Omega.{arith}
 use lib.ListN.{length, getD, set}
 use Rattle.rules.specs.Limits.{most-ops, scratch-size}
@@ -12,7 +12,7 @@ use Rattle.rules.specs.Report.{low-two, op-row}
 use Rattle.words.specs.Splice.{Same, splice-within, splice-apart}
 use Rattle.words.specs.Two.{two-same, two-within, two-bytes}
 use Rattle.words.specs.Tab.{tab-same, tab-set, tab-at, tab-length}
-use Rattle.state.specs.Layout.{row-at, places-at}
+use Rattle.state.specs.Layout.{row-at}
 use Rattle.state.specs.Decoded.{entry-in, entries-in, Fits-row}
 
 pub row-length : (e : Entry) → length (op-row e) ≡ 12

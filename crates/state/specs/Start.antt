@@ -2,23 +2,24 @@
 use mathlib.Core.Path.{_≡_, refl, sym, _∙_, ap, ap₂, subst}
 use mathlib.Core.Bool.{false}
 use mathlib.Core.List.{List, [], _∷_, _++_, append-assoc, append-nil}
-use mathlib.Core.Option.{none}
 use Prim.Native.Nat.{ℕ, zero, suc, _+_, _-_, _*_, _<_, _≤_}
 use native.Mathlib.Omega.{arith}
 use native.Mathlib.Nat.{zero-add}
 use native.Mathlib.Numerals.{add-one}
-use lib.Dec.{eqb}
-use lib.ListN.{length, getD, replicate, length-append, length-replicate, getD-replicate}
+use lib.Seq.{take-at}
+use lib.ListN.{drop, length, getD, replicate, length-replicate, getD-replicate}
 use Rattle.rules.specs.Limits.{most-ops, most-boards, scratch-size}
 use Rattle.rules.specs.Sheet.{Sheet, N-of, P-of, two}
-use Rattle.rules.specs.Job.{Job, Entry, Place, job, entry, bare-entry, place, started}
+use Rattle.rules.specs.Job.{Entry, job, entry, bare-entry, place, started}
 use Rattle.rules.specs.Step.{splice}
 use Rattle.rules.specs.Report.{op-row, op-rows}
-use Rattle.words.specs.Splice.{splice-length, splice-none, splice-within, splice-apart, splice-then}
+use Rattle.words.specs.Splice.{splice-length, splice-none, splice-within, splice-apart, splice-then, splice-take-before}
 use Rattle.words.specs.Tab.{tab-snoc, tab-all, replicate-more}
-use Rattle.state.specs.Layout.{row-at, seat-at, places-at, messages-at}
+use Rattle.state.specs.Layout.{row-at, seat-at, places-at}
 use Rattle.state.specs.Decoded.{entry-in, entries-in, place-in, places-in, words-in, Fits-row}
 use Rattle.state.specs.Rows.{row-length, row-put, entries-same}
+use Rattle.state.specs.Indexed.{Indexed, indexed-kept}
+use Rattle.state.specs.Written.{rows-length}
 use Rattle.state.specs.Tallied.{stop-of, no-tally}
 use Rattle.state.specs.Decodes.{Decodes}
 
@@ -26,10 +27,8 @@ use Rattle.state.specs.Decodes.{Decodes}
 abbrev pub bare-rows : (n : ℕ) → List ℕ
 bare-rows n = op-rows (replicate n (bare-entry 0))
 
-rows-length : (n : ℕ) (e : Entry) → length (op-rows (replicate n e)) ≡ 12 * n
-unfolding op-rows
-rows-length zero e = refl
-rows-length (suc n) e = length-append (op-row e) (op-rows (replicate n e)) ∙ omega (arith, row-length e, rows-length n e)
+filled-length : (n : ℕ) (e : Entry) → length (op-rows (replicate n e)) ≡ 12 * n
+filled-length n e = rows-length (replicate n e) ∙ ap (λ (k : ℕ). 12 * k) (length-replicate n e)
 
 rows-more : (n : ℕ) (e : Entry) → op-rows (replicate n e) ++ op-row e ≡ op-rows (replicate (suc n) e)
 unfolding op-rows
@@ -61,7 +60,7 @@ bare-more c s d n i b l e =
     let roomy : scratch-size ≤ length c = b .roomy in
     let size : length s ≡ length c = b .size in
     let row = row-length (bare-entry 0) in
-    let rows = rows-length i (bare-entry 0) in
+    let rows = filled-length i (bare-entry 0) in
     let z : 0 + 12 * i ≡ 12 * i = zero-add (12 * i) in
     record {
       few = few;
@@ -80,7 +79,7 @@ entries-filled c zero e f m h = refl
 entries-filled c (suc n) e f m h =
     let d = splice c 0 (op-rows (replicate n e)) in
     let row = row-length e in
-    let rows = rows-length n e in
+    let rows = filled-length n e in
     let size = splice-length c 0 (op-rows (replicate n e)) (omega arith) in
     let z : 0 + 12 * n ≡ 12 * n = zero-add (12 * n) in
     let both : splice d (row-at n) (op-row e) ≡ splice c 0 (op-rows (replicate (suc n) e)) =
@@ -122,10 +121,10 @@ places-zero c p m h =
 abbrev pub started-bytes : List ℕ → (p n : ℕ) → List ℕ
 started-bytes c p n = splice (splice c 0 (bare-rows n)) places-at (replicate (8 * p) 0)
 
-pub started-decodes : (s : Sheet) (c inboxes : List ℕ) → N-of s ≤ most-ops → P-of s ≤ most-boards → scratch-size ≤ length c → Decodes s (started-bytes c (P-of s) (N-of s)) no-tally (started s inboxes)
-unfolding started job stop-of words-in Rattle.words.specs.Tab.tab bare-entry entry
-started-decodes s c inboxes n p h =
-    let rows = rows-length (N-of s) (bare-entry 0) in
+pub started-decodes : (s : Sheet) (c inboxes : List ℕ) → N-of s ≤ most-ops → P-of s ≤ most-boards → scratch-size ≤ length c → Indexed s c → Decodes s (started-bytes c (P-of s) (N-of s)) no-tally (started s inboxes)
+unfolding splice started job stop-of words-in Rattle.words.specs.Tab.tab bare-entry entry
+started-decodes s c inboxes n p h x =
+    let rows = filled-length (N-of s) (bare-entry 0) in
     let b = splice c 0 (bare-rows (N-of s)) in
     let one : length b ≡ length c = splice-length c 0 (bare-rows (N-of s)) (omega arith) in
     let zs : List ℕ = replicate (8 * P-of s) 0 in
@@ -148,9 +147,11 @@ started-decodes s c inboxes n p h =
             long-fits = omega arith;
           })
           n h);
+      rows-are = splice-take-before b (row-at (N-of s)) places-at zs (omega arith) (omega arith) ∙ take-at (bare-rows (N-of s)) (drop (0 + length (bare-rows (N-of s))) c) (12 * N-of s) rows;
       places-are = sym (places-zero b (P-of s) p (omega arith));
       messages-are = refl;
       receives-are = refl;
       stop-is = refl;
       steps-are = refl;
+      indexed = indexed-kept s b places-at zs n (omega arith) (omega arith) (indexed-kept s c 0 (bare-rows (N-of s)) n h (omega arith) x);
     }

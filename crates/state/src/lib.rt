@@ -5,6 +5,7 @@ pub mod places;
 pub mod ranks;
 pub mod rows;
 pub mod start;
+pub mod steps;
 pub mod tallies;
 pub mod waits;
 

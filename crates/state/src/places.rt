@@ -1,11 +1,11 @@
 // Places of boards: operations finished, bytes in use, the peak, and whether the board is in a waiting half.
 ghost use mathlib.Core.Path.{_≡_};
 ghost use mathlib.Core.Bool.{cond};
-ghost use Prim.Native.Nat.{_-_, _<_, _≤_, max};
+ghost use Prim.Native.Nat.{_<_, _≤_};
 ghost use lib.ListN.{length};
 ghost use Rattle.rules.specs.Limits.{most-boards, scratch-size};
 ghost use Rattle.rules.specs.Job.{place};
-ghost use Rattle.rules.specs.Step.{splice, charged, released, one-finished, now-waiting};
+ghost use Rattle.rules.specs.Step.{splice};
 ghost use Rattle.state.specs.Layout.{seat-at};
 ghost use Rattle.state.specs.Decoded.{place-in, place-row};
 use crate::PLACES;
@@ -58,64 +58,4 @@ pub fn put_place(c: &mut [u8], r: usize, finished: usize, waiting: bool, in_use:
     let at = PLACES + 8 * r;
     words::put_pair(c, at, finished, in_use);
     words::put_pair(c, at + 4, peak, w);
-}
-
-// The larger of two numbers.
-fn larger(a: usize, b: usize) -> usize
-    ensures { λ v. ⌜ v ≡ max a b ⌝ }
-{
-    if a < b { b } else { a }
-}
-
-// What is left of a number, 0 where nothing is.
-fn less(a: usize, b: usize) -> usize
-    ensures { λ v. ⌜ v ≡ a - b ⌝ }
-{
-    if b <= a { a - b } else { 0 }
-}
-
-// Board r is charged n bytes; its peak rises with what is in use.
-pub fn charge(c: &mut [u8], r: usize, n: usize)
-    requires { ⌜ (r < most-boards) × (n < 65536) × (scratch-size ≤ length (now c)) ⌝ }
-    ensures { λ _. ⌜ now (c .exit) ≡ splice (now (c .entry)) (seat-at r) (place-row (charged n (place-in (now (c .entry)) (seat-at r)))) ⌝ }
-{
-    let f = finished_of(c, r);
-    let w = waiting_of(c, r);
-    let u = in_use_of(c, r) + n;
-    let p = larger(peak_of(c, r), u);
-    put_place(c, r, f, w, u, p);
-}
-
-// A charge of n bytes goes.
-pub fn release(c: &mut [u8], r: usize, n: usize)
-    requires { ⌜ (r < most-boards) × (scratch-size ≤ length (now c)) ⌝ }
-    ensures { λ _. ⌜ now (c .exit) ≡ splice (now (c .entry)) (seat-at r) (place-row (released n (place-in (now (c .entry)) (seat-at r)))) ⌝ }
-{
-    let f = finished_of(c, r);
-    let w = waiting_of(c, r);
-    let u = less(in_use_of(c, r), n);
-    let p = peak_of(c, r);
-    put_place(c, r, f, w, u, p);
-}
-
-// Board r has finished one operation more.
-pub fn finish_one(c: &mut [u8], r: usize)
-    requires { ⌜ (r < most-boards) × (scratch-size ≤ length (now c)) ⌝ }
-    ensures { λ _. ⌜ now (c .exit) ≡ splice (now (c .entry)) (seat-at r) (place-row (one-finished (place-in (now (c .entry)) (seat-at r)))) ⌝ }
-{
-    let f = finished_of(c, r) + 1;
-    let u = in_use_of(c, r);
-    let p = peak_of(c, r);
-    put_place(c, r, f, false, u, p);
-}
-
-// Board r's next operation is in its waiting half.
-pub fn start_waiting(c: &mut [u8], r: usize)
-    requires { ⌜ (r < most-boards) × (scratch-size ≤ length (now c)) ⌝ }
-    ensures { λ _. ⌜ now (c .exit) ≡ splice (now (c .entry)) (seat-at r) (place-row (now-waiting (place-in (now (c .entry)) (seat-at r)))) ⌝ }
-{
-    let f = finished_of(c, r);
-    let u = in_use_of(c, r);
-    let p = peak_of(c, r);
-    put_place(c, r, f, true, u, p);
 }

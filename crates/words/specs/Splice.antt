@@ -3,12 +3,12 @@
 -- Assumes nothing.
 use mathlib.Core.Path.{_≡_, refl, sym, _∙_, ap, subst}
 use mathlib.Core.List.{List, [], _∷_, _++_, append-assoc}
-use Prim.Native.Nat.{ℕ, zero, suc, _+_, _-_, _<_, _≤_}
+use Prim.Native.Nat.{ℕ, suc, _+_, _-_, _<_, _≤_}
 use native.Mathlib.Omega.{arith}
 use native.Mathlib.Nat.{zero-add}
 use native.Mathlib.Decide.{decLt}
 use lib.ListN.{length, getD, take, drop, set, length-append, length-drop, List·getD-append}
-use lib.Seq.{sets, sets-eq, length-take-le, getD-take, getD-drop, getD-append-add, drop-length}
+use lib.Seq.{sets, sets-eq, length-take-le, getD-take, getD-drop, getD-append-add, drop-length, take-set-lt, take-append-le, take-take, drop-append-seam}
 use Rattle.rules.specs.Step.{splice}
 
 -- a splice is a run of stores
@@ -100,3 +100,41 @@ splice-more c at u n b e h =
 pub splice-whole : (c vs : List ℕ) → length vs ≡ length c → splice c 0 vs ≡ vs
 unfolding splice
 splice-whole c vs e = rw (zero-add (length vs), e, drop-length c) (mathlib.Core.List.append-nil vs)
+
+-- SPLICES AND PARTS: the first n bytes, with the splice among them or behind them
+sets-take : (c : List ℕ) (n at : ℕ) (vs : List ℕ) → at + length vs ≤ n → take n (sets c at vs) ≡ sets (take n c) at vs
+sets-take c n at [] h = refl
+sets-take c n at (a ∷ vs) h =
+    sets-take (set c at a) n (suc at) vs (omega arith) ∙ ap (λ (l : List ℕ). sets l (suc at) vs) (take-set-lt n c at a (omega arith))
+
+pub splice-take : (c : List ℕ) (n at : ℕ) (vs : List ℕ) → at + length vs ≤ n → n ≤ length c → take n (splice c at vs) ≡ splice (take n c) at vs
+splice-take c n at vs h l =
+    let size = length-take-le n c l in
+    ap (λ (d : List ℕ). take n d) (sym (sets-splice c at vs (omega arith))) ∙ (sets-take c n at vs h ∙ sets-splice (take n c) at vs (omega arith))
+
+pub splice-take-before : (c : List ℕ) (n at : ℕ) (vs : List ℕ) → n ≤ at → at ≤ length c → take n (splice c at vs) ≡ take n c
+unfolding splice
+splice-take-before c n at vs h l =
+    let size = length-take-le at c l in
+    take-append-le n (take at c) (vs ++ drop (at + length vs) c) (omega arith) ∙ take-take n at c h
+
+-- a list in two parts, with the splice over the first or in the second
+pub splice-front : (u w vs : List ℕ) → length vs ≡ length u → splice (u ++ w) 0 vs ≡ vs ++ w
+unfolding splice
+splice-front u w vs e =
+    let z : 0 + length vs ≡ length u = omega arith in
+    ap (λ (k : ℕ). vs ++ drop k (u ++ w)) z ∙ ap (λ (r : List ℕ). vs ++ r) (drop-append-seam u w)
+
+sets-behind : (u w : List ℕ) (k : ℕ) (vs : List ℕ) → sets (u ++ w) (length u + k) vs ≡ u ++ sets w k vs
+sets-behind [] w k vs = ap (λ (i : ℕ). sets w i vs) (zero-add k)
+sets-behind (x ∷ u) w k vs =
+    let e : suc (length u) + k ≡ suc (length u + k) = omega arith in
+    ap (λ (i : ℕ). sets (x ∷ (u ++ w)) i vs) e ∙ (under (u ++ w) (length u + k) vs ∙ ap (λ (r : List ℕ). x ∷ r) (sets-behind u w k vs))
+  where
+    under : (l : List ℕ) (i : ℕ) (vs : List ℕ) → sets (x ∷ l) (suc i) vs ≡ x ∷ sets l i vs
+    under l i [] = refl
+    under l i (a ∷ vs) = under (set l i a) (suc i) vs
+
+pub splice-behind : (u w : List ℕ) (k : ℕ) (vs : List ℕ) → k + length vs ≤ length w → splice (u ++ w) (length u + k) vs ≡ u ++ splice w k vs
+splice-behind u w k vs h =
+    sym (sets-splice (u ++ w) (length u + k) vs (omega (arith, length-append u w))) ∙ (sets-behind u w k vs ∙ ap (λ (r : List ℕ). u ++ r) (sets-splice w k vs h))

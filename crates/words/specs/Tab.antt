@@ -1,11 +1,11 @@
 -- A table made of a function: entry k is f k. Every decoded component is such a table, so that a change of bytes is a change
 -- of f, and these laws say what that does to the table. Assumes nothing.
-use mathlib.Core.Path.{_≡_, refl, sym, _∙_, ap, ap₂, subst}
+use mathlib.Core.Path.{_≡_, refl, _∙_, ap, ap₂}
 use mathlib.Core.List.{List, [], _∷_, _++_}
-use Prim.Native.Nat.{ℕ, zero, suc, _+_, _-_, _<_, _≤_}
+use Prim.Native.Nat.{ℕ, zero, suc, _+_, _<_, _≤_}
 use native.Mathlib.Omega.{arith}
 use native.Mathlib.Nat.{zero-add}
-use lib.ListN.{length, getD, take, drop, set, replicate}
+use lib.ListN.{length, getD, set, replicate}
 
 -- f i, f (i + 1) and so on, n of them
 unfoldable pub tab : {A : Type 0} → (ℕ → A) → (i n : ℕ) → List A

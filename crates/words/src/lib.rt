@@ -57,14 +57,14 @@ pub fn put_pair(s: &mut [u8], at: usize, v: usize, w: usize)
     put_two(s, at + 2, w);
 }
 
-// Zeros put over n bytes.
-pub fn put_zeros(s: &mut [u8], at: usize, n: usize)
+// One byte put over n places.
+pub fn fill(s: &mut [u8], at: usize, n: usize, v: u8)
     requires { ⌜ at + n ≤ length (now s) ⌝ }
-    ensures { λ _. ⌜ now (s .exit) ≡ splice (now (s .entry)) at (replicate n 0) ⌝ }
+    ensures { λ _. ⌜ now (s .exit) ≡ splice (now (s .entry)) at (replicate n v) ⌝ }
 {
     let mut i = 0;
     while i < n {
-        s[at + i] = 0;
+        s[at + i] = v;
         i += 1;
     }
 }
@@ -74,7 +74,7 @@ pub fn zero(s: &mut [u8])
     ensures { λ _. ⌜ now (s .exit) ≡ replicate (length (now (s .entry))) 0 ⌝ }
 {
     let n = s.len();
-    put_zeros(s, 0, n);
+    fill(s, 0, n, 0);
 }
 
 // The n bytes of another slice from a place on, put at a place.

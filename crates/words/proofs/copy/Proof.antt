@@ -1,15 +1,13 @@
 -- `words::copy` meets its contract. The loop's invariant: the first i bytes are put. The measure is how many are left.
 -- Assumes nothing.
 use mathlib.Core.Path.{sym}
-use Prim.Native.Nat.{_+_, _-_}
+use Prim.Native.Nat.{_-_}
 use native.Mathlib.Omega.{arith}
 use borrow.Author.Needs.{needs}
 use lib.ListN.{take, drop}
 use Rattle.words.specs.Putting.{Putting, putting-none, putting-more, putting-all, part-length, part-at}
 use Rattle.words.proofs.copy.Statement.{statement}
 use Rattle.words.proofs.copy.Tie as tie
-use Rattle.words.proofs.copy.Reads as reads
-use Rattle.words.proofs.copy.Lts as lts
 
 abbrev Inv-loop : tie.InvT-loop
 Inv-loop s₀ at src from n i₀ s i = Putting s₀ at (take n (drop from src)) s i
@@ -17,39 +15,31 @@ Inv-loop s₀ at src from n i₀ s i = Putting s₀ at (take n (drop from src)) 
 abbrev μ-loop : tie.MeasureT-loop
 μ-loop s₀ at src from n i₀ s i = n - i
 
--- src/lib.rt:86:5
 loop-holds : tie.Need-loop-holds Inv-loop μ-loop
 loop-holds c =
     let a = c .args in
     putting-none (a .s .now) (a .at) (take (a .n) (drop (a .from) (a .src .now))) (omega (arith, part-length (a .src .now) (a .from) (a .n) (omega arith)))
 
--- src/lib.rt:87:25
 add-s : tie.Need-add-s Inv-loop μ-loop
 add-s c = search needs
 
--- src/lib.rt:87:21
 shared-slice-read-s : tie.Need-shared-slice-read-s Inv-loop μ-loop
 shared-slice-read-s c = search needs
 
--- src/lib.rt:87:11
 add-s-2 : tie.Need-add-s-2 Inv-loop μ-loop
 add-s-2 c = search needs
 
--- src/lib.rt:87:9
 slice-write-s : tie.Need-slice-write-s Inv-loop μ-loop
 slice-write-s c =
     let a = c .before .before .before .args in
     omega (arith, part-length (a .src .now) (a .from) (a .n) (omega arith))
 
--- src/lib.rt:88:9
 add-i : tie.Need-add-i Inv-loop μ-loop
 add-i c = search needs
 
--- src/lib.rt:86:5
 loop-less : tie.Need-loop-less Inv-loop μ-loop
 loop-less c = search needs
 
--- src/lib.rt:86:5
 loop-again : tie.Need-loop-again Inv-loop μ-loop
 loop-again c =
     let a = c .before .before .before .args in
@@ -57,11 +47,9 @@ loop-again c =
     let long = part-length (a .src .now) (a .from) (a .n) (omega arith) in
     putting-more (a .s .now) (a .at) (take (a .n) (drop (a .from) (a .src .now))) (l .s) (l .i) (l .inv) _ (omega arith) (sym (part-at (a .src .now) (a .from) (a .n) (l .i) (c .before .loop-test .taken)))
 
--- src/lib.rt:81:1
 same-length : tie.Need-same-length Inv-loop μ-loop
 same-length c = search needs
 
--- src/lib.rt:81:1
 returns : tie.Need-returns Inv-loop μ-loop
 returns c =
     let a = c .before .before .args in

@@ -8,8 +8,6 @@ use lib.ListN.{take, drop}
 use Rattle.words.specs.Putting.{Putting, putting-none, putting-more, putting-ahead, putting-all, part-length, part-at}
 use Rattle.words.proofs.move_down.Statement.{statement}
 use Rattle.words.proofs.move_down.Tie as tie
-use Rattle.words.proofs.move_down.Reads as reads
-use Rattle.words.proofs.move_down.Lts as lts
 
 abbrev Inv-loop : tie.InvT-loop
 Inv-loop s₀ at gap n from i₀ s i = Putting s₀ at (take n (drop from s₀)) s i
@@ -17,46 +15,37 @@ Inv-loop s₀ at gap n from i₀ s i = Putting s₀ at (take n (drop from s₀))
 abbrev μ-loop : tie.MeasureT-loop
 μ-loop s₀ at gap n from i₀ s i = n - i
 
--- src/lib.rt:98:16
 add-from : tie.Need-add-from Inv-loop μ-loop
 add-from c = search needs
 
--- src/lib.rt:100:5
 loop-holds : tie.Need-loop-holds Inv-loop μ-loop
 loop-holds c =
     let a = c .args in
     let long = part-length (a .s .now) (a .at + a .gap) (a .n) (omega arith) in
     putting-none (a .s .now) (a .at) (take (a .n) (drop (a .at + a .gap) (a .s .now))) (omega arith)
 
--- src/lib.rt:101:23
 add-s : tie.Need-add-s Inv-loop μ-loop
 add-s c = search needs
 
--- src/lib.rt:101:21
 slice-read-s : tie.Need-slice-read-s Inv-loop μ-loop
 slice-read-s c =
     let a = c .before .before .before .args in
     omega (arith, part-length (a .s .now) (a .at + a .gap) (a .n) (omega arith))
 
--- src/lib.rt:101:11
 add-s-2 : tie.Need-add-s-2 Inv-loop μ-loop
 add-s-2 c = search needs
 
--- src/lib.rt:101:9
 slice-write-s : tie.Need-slice-write-s Inv-loop μ-loop
 slice-write-s c =
     let a = c .before .before .before .args in
     omega (arith, part-length (a .s .now) (a .at + a .gap) (a .n) (omega arith))
 
--- src/lib.rt:102:9
 add-i : tie.Need-add-i Inv-loop μ-loop
 add-i c = search needs
 
--- src/lib.rt:100:5
 loop-less : tie.Need-loop-less Inv-loop μ-loop
 loop-less c = search needs
 
--- src/lib.rt:100:5
 loop-again : tie.Need-loop-again Inv-loop μ-loop
 loop-again c =
     let a = c .before .before .before .args in
@@ -67,11 +56,9 @@ loop-again c =
     putting-more (a .s .now) (a .at) xs (l .s) (l .i) (l .inv) _ (omega arith)
     (putting-ahead (a .s .now) (a .at) xs (l .s) (l .i) (l .inv) (from + l .i) (omega arith) ∙ sym (part-at (a .s .now) from (a .n) (l .i) (c .before .loop-test .taken)))
 
--- src/lib.rt:94:1
 same-length : tie.Need-same-length Inv-loop μ-loop
 same-length c = search needs
 
--- src/lib.rt:94:1
 returns : tie.Need-returns Inv-loop μ-loop
 returns c =
     let a = c .before .before .args in

@@ -5,18 +5,13 @@ use Rattle.words.specs.Splice.{sets-splice}
 use borrow.Author.Needs.{needs}
 use Rattle.words.proofs.put_byte.Statement.{statement}
 use Rattle.words.proofs.put_byte.Tie as tie
-use Rattle.words.proofs.put_byte.Reads as reads
-use Rattle.words.proofs.put_byte.Lts as lts
 
--- src/lib.rt:39:5
 slice-write-s : tie.Need-slice-write-s
 slice-write-s c = search needs
 
--- src/lib.rt:35:1
 same-length : tie.Need-same-length
 same-length c = search needs
 
--- src/lib.rt:35:1
 returns : tie.Need-returns
 returns c =
     let a = c .args in

@@ -6,27 +6,19 @@ use Rattle.words.specs.Splice.{splice-then}
 use borrow.Author.Needs.{needs}
 use Rattle.words.proofs.put_pair.Statement.{statement}
 use Rattle.words.proofs.put_pair.Tie as tie
-use Rattle.words.proofs.put_pair.Reads as reads
-use Rattle.words.proofs.put_pair.Lts as lts
-use Rattle.words.proofs.put_two.Reads as put-two-reads
 
--- src/lib.rt:56:5
 put-two-requires : tie.Need-put-two-requires
 put-two-requires c κs = search needs
 
--- src/lib.rt:57:16
 add-put-two : tie.Need-add-put-two
 add-put-two c = search needs
 
--- src/lib.rt:57:5
 put-two-requires-2 : tie.Need-put-two-requires-2
 put-two-requires-2 c κs = search needs
 
--- src/lib.rt:52:1
 same-length : tie.Need-same-length
 same-length c = search needs
 
--- src/lib.rt:52:1
 returns : tie.Need-returns
 unfolding low-two
 returns c =

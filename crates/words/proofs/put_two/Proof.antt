@@ -1,6 +1,5 @@
 -- `words::put_two` meets its contract: two stores are a splice of two bytes. Assumes nothing.
 use mathlib.Core.Path.{_∙_, ap}
-use mathlib.Core.List.{List}
 use Prim.Native.Nat.{ℕ, _/_, _%_}
 use native.Mathlib.Omega.{arith}
 use native.Mathlib.Numerals.{add-one}
@@ -10,34 +9,25 @@ use Rattle.words.specs.Splice.{sets-splice}
 use borrow.Author.Needs.{needs}
 use Rattle.words.proofs.put_two.Statement.{statement}
 use Rattle.words.proofs.put_two.Tie as tie
-use Rattle.words.proofs.put_two.Reads as reads
-use Rattle.words.proofs.put_two.Lts as lts
 
--- src/lib.rt:47:13
 cast-s : tie.Need-cast-s
 cast-s c = search needs
 
--- src/lib.rt:47:5
 slice-write-s : tie.Need-slice-write-s
 slice-write-s c = search needs
 
--- src/lib.rt:48:17
 cast-s-2 : tie.Need-cast-s-2
 cast-s-2 c = search needs
 
--- src/lib.rt:48:7
 add-s : tie.Need-add-s
 add-s c = search needs
 
--- src/lib.rt:48:5
 slice-write-s-2 : tie.Need-slice-write-s-2
 slice-write-s-2 c = simp length-set (omega arith)
 
--- src/lib.rt:43:1
 same-length : tie.Need-same-length
 same-length c = search needs
 
--- src/lib.rt:43:1
 returns : tie.Need-returns
 unfolding low-two
 returns c =

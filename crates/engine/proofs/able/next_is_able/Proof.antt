@@ -8,7 +8,8 @@ use Rattle.rules.specs.Sheet.{sheet-in, N-of}
 use Rattle.state.specs.declared.Tally.{Tally}
 use Rattle.state.specs.Layout.{row-at}
 use Rattle.state.specs.Decoded.{entry-in}
-use Rattle.engine.specs.Able.{Next-there, next-below, op-within, wait-read, no-wait-read, wait-target, next-wait, next-initiating, next-half, waiting-is, state-is}
+use Rattle.laws.specs.Decoded.{op-within}
+use Rattle.engine.specs.Able.{Next-there, next-below, wait-read, no-wait-read, wait-target, next-wait, next-initiating, next-half, waiting-is, state-is}
 use borrow.Author.Needs.{needs}
 use Rattle.engine.proofs.able.next_is_able.Statement.{statement}
 use Rattle.engine.proofs.able.next_is_able.Tie as tie
@@ -47,8 +48,8 @@ add-at-2 c = let n = inside (c .before .before .before .pre) in omega (arith, c 
 -- src/able.rt:27:8
 kind-requires : tie.Need-kind-requires
 kind-requires c κs =
-    let q = c .before .before .before .pre in
-    op-within (c .before .before .before .args .s .now) (q .lent) (c .before .before .before .args .c .now) (c .before .before .before .args .t) (q .job) (q .stands) (c .before .before .before .args .i) (c .boards .result) (inside q) (c .boards .ensures .0)
+    op-within (c .before .before .before .args .s .now) (c .before .before .before .args .i) (c .boards .result) (inside (c .before .before .before .pre)) (c .boards .ensures .0)
+    (c .before .before .before .pre .stands .laid .whole)
 
 -- src/able.rt:28:13
 waited-at-requires : tie.Need-waited-at-requires

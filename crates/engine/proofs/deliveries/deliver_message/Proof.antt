@@ -1,43 +1,38 @@
 -- `engine::deliveries::deliver_message` meets its contract: the bytes put at the front of the part that was lent are the
 -- delivery of rules. Assumes nothing.
-use mathlib.Core.Path.{_≡_, sym, _∙_, ap}
+use mathlib.Core.Path.{_≡_, _∙_, ap}
 use mathlib.Core.List.{List}
 use Prim.Native.Nat.{ℕ, _+_, _-_, _*_, _<_, _≤_}
 use native.Mathlib.Omega.{arith}
 use lib.ListN.{length}
 use borrow.Rule.Slice.PartMut.{midOf, putMid, mid-len}
 use Rattle.rules.specs.Limits.{ops-at}
-use Rattle.rules.specs.Sheet.{Op, sheet-in, op, op-in, inbox-total, P-in, N-in}
+use Rattle.rules.specs.Sheet.{Op, sheet-in, op, op-in, inbox-total, P-in, N-of}
 use Rattle.rules.specs.Step.{area-start}
-use Rattle.engine.specs.Deliveries.{message-small, receive-small, message-end, area-end, delivered-cut, delivered-part, op-read, op-room}
+use Rattle.laws.specs.Decoded.{op-by, op-within}
+use Rattle.promises.specs.Extents.{send-inside, receive-inside}
+use Rattle.engine.specs.Deliveries.{message-end, area-end, delivered-cut, delivered-part}
 use borrow.Author.Needs.{needs}
 use Rattle.engine.proofs.deliveries.deliver_message.Statement.{statement}
 use Rattle.engine.proofs.deliveries.deliver_message.Tie as tie
-use Rattle.engine.proofs.deliveries.deliver_message.Reads as reads
-use Rattle.engine.proofs.deliveries.deliver_message.Lts as lts
-use Rattle.sheet.proofs.header.boards.Reads as boards-reads
-use Rattle.sheet.proofs.header.ops.Reads as ops-reads
-use Rattle.sheet.proofs.ops.long.Reads as long-reads
-use Rattle.sheet.proofs.ops.offset.Reads as offset-reads
-use Rattle.words.proofs.copy.Reads as copy-reads
 
 -- what the entry tells of the two operations, with P as it was read
 module _ (z : tie.Start) where
   abbrev bytes : List ℕ
   bytes = z .args .s .now
 
-  small-message : z .args .m < N-in bytes
-  small-message = message-small bytes (z .pre .0) (z .pre .1) (z .args .m) (z .args .r) (z .pre .2) (z .pre .3)
+  small-message : z .args .m < N-of (sheet-in bytes)
+  small-message = send-inside (sheet-in bytes) (z .args .m) (z .pre .2)
 
-  small-receive : z .args .r < N-in bytes
-  small-receive = receive-small bytes (z .pre .0) (z .pre .1) (z .args .m) (z .args .r) (z .pre .2) (z .pre .3)
+  small-receive : z .args .r < N-of (sheet-in bytes)
+  small-receive = receive-inside (sheet-in bytes) (z .args .r) (z .pre .3)
 
   module _ (p : ℕ) (e : p ≡ P-in bytes) where
     message-read : op-in bytes (ops-at p + 16 * z .args .m) ≡ op (sheet-in bytes) (z .args .m)
-    message-read = op-read bytes p (z .args .m) e small-message
+    message-read = op-by bytes (z .args .m) p small-message e
 
     receive-read : op-in bytes (ops-at p + 16 * z .args .r) ≡ op (sheet-in bytes) (z .args .r)
-    receive-read = op-read bytes p (z .args .r) e small-receive
+    receive-read = op-by bytes (z .args .r) p small-receive e
 
     long-message : op-in bytes (ops-at p + 16 * z .args .m) .long ≡ op (sheet-in bytes) (z .args .m) .long
     long-message = ap (λ (o : Op). o .long) message-read
@@ -63,43 +58,33 @@ module _ (z : tie.Start) where
           ap (λ (o : Op). o .offset) receive-read,
         )
 
--- src/deliveries.rt:27:26
 boards-requires : tie.Need-boards-requires
 boards-requires c κs = search needs
 
--- src/deliveries.rt:27:22
 mul-table : tie.Need-mul-table
 mul-table c = search needs
 
--- src/deliveries.rt:27:17
 add-table : tie.Need-add-table
 add-table c = search needs
 
--- src/deliveries.rt:28:27
 mul-message : tie.Need-mul-message
-mul-message c = omega (arith, small-message (c  .before .before .before), c  .before .before .before .pre .0 .few-ops)
+mul-message c = omega (arith, small-message (c  .before .before .before), c  .before .before .before .pre .1 .ops-few)
 
--- src/deliveries.rt:28:19
 add-message : tie.Need-add-message
-add-message c = omega (arith, small-message (c  .before .before .before), c  .before .before .before .pre .0 .few-ops)
+add-message c = omega (arith, small-message (c  .before .before .before), c  .before .before .before .pre .1 .ops-few)
 
--- src/deliveries.rt:29:27
 mul-receive : tie.Need-mul-receive
-mul-receive c = omega (arith, small-receive (c  .before .before .before), c  .before .before .before .pre .0 .few-ops)
+mul-receive c = omega (arith, small-receive (c  .before .before .before), c  .before .before .before .pre .1 .ops-few)
 
--- src/deliveries.rt:29:19
 add-receive : tie.Need-add-receive
-add-receive c = omega (arith, small-receive (c  .before .before .before), c  .before .before .before .pre .0 .few-ops)
+add-receive c = omega (arith, small-receive (c  .before .before .before), c  .before .before .before .pre .1 .ops-few)
 
--- src/deliveries.rt:30:9
 long-requires : tie.Need-long-requires
-long-requires c κs = op-room (c  .before .before .before .args .s .now) (c .boards .result) (c  .before .before .before .args .m) (c .boards .ensures .0) (small-message (c  .before .before .before)) (c  .before .before .before .pre .0)
+long-requires c κs = op-within (c  .before .before .before .args .s .now) (c  .before .before .before .args .m) (c .boards .result) (small-message (c  .before .before .before)) (c .boards .ensures .0) (c  .before .before .before .pre .0 .whole)
 
--- src/deliveries.rt:31:9
 long-requires-2 : tie.Need-long-requires-2
-long-requires-2 c κs = op-room (c  .before .before .before .before .args .s .now) (c  .before .boards .result) (c  .before .before .before .before .args .r) (c  .before .boards .ensures .0) (small-receive (c  .before .before .before .before)) (c  .before .before .before .before .pre .0)
+long-requires-2 c κs = op-within (c  .before .before .before .before .args .s .now) (c  .before .before .before .before .args .r) (c  .before .boards .result) (small-receive (c  .before .before .before .before)) (c  .before .boards .ensures .0) (c  .before .before .before .before .pre .0 .whole)
 
--- src/deliveries.rt:33:9
 returns : tie.Need-returns
 returns c =
     let z = c  .before .before .before .before .before .before in
@@ -108,51 +93,39 @@ returns c =
     delivered-cut (z .args .s .now) (p .0) (p .1) (z .args .m) (z .args .r) (p .2) (p .3) (z .args .inbox .now) (p .5)
     (omega (arith, c  .before .before .long .ensures .0, c  .before .long2 .ensures .0, long-message z (b .result) (b .ensures .0), long-receive z (b .result) (b .ensures .0)))
 
--- src/deliveries.rt:35:29
 ops-requires : tie.Need-ops-requires
 ops-requires c κs = search needs
 
--- src/deliveries.rt:35:24
 mul-from : tie.Need-mul-from
 mul-from c = search needs
 
--- src/deliveries.rt:35:16
 add-from : tie.Need-add-from
 add-from c = search needs
 
--- src/deliveries.rt:35:46
 offset-requires : tie.Need-offset-requires
-offset-requires c κs = op-room (c  .before .before .before .before .before .before .before .args .s .now) (c  .before .before .before .before .boards .result) (c  .before .before .before .before .before .before .before .args .m) (c  .before .before .before .before .boards .ensures .0) (small-message (c  .before .before .before .before .before .before .before)) (c  .before .before .before .before .before .before .before .pre .0)
+offset-requires c κs = op-within (c  .before .before .before .before .before .before .before .args .s .now) (c  .before .before .before .before .before .before .before .args .m) (c  .before .before .before .before .boards .result) (small-message (c  .before .before .before .before .before .before .before)) (c  .before .before .before .before .boards .ensures .0) (c  .before .before .before .before .before .before .before .pre .0 .whole)
 
--- src/deliveries.rt:35:16
 add-from-2 : tie.Need-add-from-2
 add-from-2 c = search needs
 
--- src/deliveries.rt:36:24
 offset-requires-2 : tie.Need-offset-requires-2
-offset-requires-2 c κs = op-room (c  .before .before .before .before .before .before .before .before .args .s .now) (c  .before .before .before .before .before .boards .result) (c  .before .before .before .before .before .before .before .before .args .r) (c  .before .before .before .before .before .boards .ensures .0) (small-receive (c  .before .before .before .before .before .before .before .before)) (c  .before .before .before .before .before .before .before .before .pre .0)
+offset-requires-2 c κs = op-within (c  .before .before .before .before .before .before .before .before .args .s .now) (c  .before .before .before .before .before .before .before .before .args .r) (c  .before .before .before .before .before .boards .result) (small-receive (c  .before .before .before .before .before .before .before .before)) (c  .before .before .before .before .before .boards .ensures .0) (c  .before .before .before .before .before .before .before .before .pre .0 .whole)
 
--- src/deliveries.rt:36:16
 add-area : tie.Need-add-area
 add-area c = omega (arith, area-small (c  .before .before .before .before .before .before .before .before .before) (c  .before .before .before .before .before .before .boards .result) (c  .before .before .before .before .before .before .boards .ensures .0))
 
--- src/deliveries.rt:37:15
 add-end : tie.Need-add-end
 add-end c = omega (arith, area-small (c  .before .before .before .before .before .before .before .before .before) (c  .before .before .before .before .before .before .boards .result) (c  .before .before .before .before .before .before .boards .ensures .0))
 
--- src/deliveries.rt:38:17
 sub-copy : tie.Need-sub-copy
 sub-copy c = search needs
 
--- src/deliveries.rt:38:17
 part-copy-start : tie.Need-part-copy-start
 part-copy-start c = search needs
 
--- src/deliveries.rt:38:17
 part-copy-end : tie.Need-part-copy-end
 part-copy-end c = omega (arith, c  .before .before .before .before .before .before .before .before .before .pre .5, area-small (c  .before .before .before .before .before .before .before .before .before) (c  .before .before .before .before .before .before .boards .result) (c  .before .before .before .before .before .before .boards .ensures .0))
 
--- src/deliveries.rt:38:5
 copy-requires : tie.Need-copy-requires
 copy-requires c κs =
     let z = c  .before .before .before .before .before .before .before .before .before .before in
@@ -164,11 +137,9 @@ copy-requires c κs =
         omega (arith, mid-len area (area + c  .before .before .before .before .before .long2 .result) (z .args .inbox .now) room) in
     (first, omega (arith, message-end (z .args .s .now) (z .pre .0) (z .pre .1) (z .args .m) (z .args .r) (z .pre .2) (z .pre .3), long-message z (b .result) (b .ensures .0), offset-message z (b .result) (b .ensures .0)))
 
--- src/deliveries.rt:23:1
 same-length : tie.Need-same-length
 same-length c = search needs
 
--- src/deliveries.rt:23:1
 returns-2 : tie.Need-returns-2
 returns-2 c =
     let z = c  .before .before .before .before .before .before .before .before .before .before .before .before .before in

@@ -1,62 +1,45 @@
 -- `engine::deliveries::deliver_one` meets its contract: what is no matched receive tells no delivery. Assumes nothing.
 use mathlib.Core.Path.{_≡_, sym, _∙_, ap}
-use mathlib.Core.Bool.{true, false}
-use mathlib.Core.List.{List}
-use Prim.Native.Nat.{ℕ, _+_, _*_, _<_}
+use mathlib.Core.Bool.{true}
+use Prim.Native.Nat.{ℕ, _+_, _*_}
 use native.Mathlib.Omega.{arith}
 use borrow.Author.Tests.{eq-eqb, ne-eqb}
 use Rattle.rules.specs.Limits.{ops-at}
-use Rattle.rules.specs.Sheet.{Op, sheet-in, op, op-in, is-send, is-receive, P-in, N-of}
+use Rattle.rules.specs.Sheet.{Op, sheet-in, op, op-in, is-send, is-receive, P-in}
 use Rattle.rules.specs.Step.{delivered}
-use Rattle.laws.specs.Decoded.{N-decoded}
-use Rattle.state.specs.Layout.{row-at}
-use Rattle.state.specs.Decoded.{entry-in}
-use Rattle.engine.specs.Deliveries.{paint-in-due, paint-in-other, paint-in-unmatched, op-read}
+use Rattle.laws.specs.Decoded.{N-decoded, op-by}
+use Rattle.engine.specs.Deliveries.{paint-in-due, paint-in-other, paint-in-unmatched}
 use borrow.Author.Needs.{needs}
 use Rattle.engine.proofs.deliveries.deliver_one.Statement.{statement}
 use Rattle.engine.proofs.deliveries.deliver_one.Tie as tie
-use Rattle.engine.proofs.deliveries.deliver_one.Reads as reads
-use Rattle.engine.proofs.deliveries.deliver_one.Lts as lts
-use Rattle.engine.proofs.deliveries.deliver_message.Reads as deliver-message-reads
-use Rattle.sheet.proofs.header.boards.Reads as boards-reads
-use Rattle.sheet.proofs.ops.kind.Reads as kind-reads
-use Rattle.state.proofs.rows.partner_of.Reads as partner-of-reads
-use Rattle.state.proofs.rows.state_of.Reads as state-of-reads
 
 -- the kind of operation i, with P as it was read
 module _ (z : tie.Start) (p : ℕ) (e : p ≡ P-in (z .args .s .now)) where
   kind-read : op-in (z .args .s .now) (ops-at p + 16 * z .args .i) .kind ≡ op (sheet-in (z .args .s .now)) (z .args .i) .kind
-  kind-read = ap (λ (o : Op). o .kind) (op-read (z .args .s .now) p (z .args .i) e (z .pre .1))
+  kind-read = ap (λ (o : Op). o .kind) (op-by (z .args .s .now) (z .args .i) p (omega (arith, z .pre .1, N-decoded (z .args .s .now))) e)
 
   is-due : (k : ℕ) → k ≡ op-in (z .args .s .now) (ops-at p + 16 * z .args .i) .kind → k ≡ 5 → is-receive (op (sheet-in (z .args .s .now)) (z .args .i)) ≡ true
   unfolding is-receive
   is-due k a b = eq-eqb (op (sheet-in (z .args .s .now)) (z .args .i) .kind) 5 (sym kind-read ∙ sym a ∙ b)
 
--- src/deliveries.rt:46:23
 boards-requires : tie.Need-boards-requires
 boards-requires c κs = search needs
 
--- src/deliveries.rt:46:19
 mul-at : tie.Need-mul-at
 mul-at c = search needs
 
--- src/deliveries.rt:46:14
 add-at : tie.Need-add-at
 add-at c = search needs
 
--- src/deliveries.rt:46:43
 mul-at-2 : tie.Need-mul-at-2
 mul-at-2 c = search needs
 
--- src/deliveries.rt:46:14
 add-at-2 : tie.Need-add-at-2
 add-at-2 c = search needs
 
--- src/deliveries.rt:47:8
 kind-requires : tie.Need-kind-requires
 kind-requires c κs = search needs
 
--- src/deliveries.rt:48:9
 returns : tie.Need-returns
 unfolding is-receive
 returns c =
@@ -65,21 +48,17 @@ returns c =
     paint-in-other (sheet-in (a .s .now)) (a .c .now) (a .i) (a .inbox .now)
     (ne-eqb (op (sheet-in (a .s .now)) (a .i) .kind) 5 (λ h. c .if1 .taken (c  .before .kind .ensures .0 ∙ kind-read z (c  .before .before .boards .result) (c  .before .before .boards .ensures .0) ∙ h)))
 
--- src/deliveries.rt:50:8
 state-of-requires : tie.Need-state-of-requires
 state-of-requires c κs = search needs
 
--- src/deliveries.rt:51:9
 returns-2 : tie.Need-returns-2
 returns-2 c =
     let a = c  .before .before .before .before .before .before .before .before .args in
     paint-in-unmatched (sheet-in (a .s .now)) (a .c .now) (a .i) (a .inbox .now) (λ h. c .if2 .taken (c  .before .state-of .ensures .0 ∙ h))
 
--- src/deliveries.rt:53:9
 partner-of-requires : tie.Need-partner-of-requires
 partner-of-requires c κs = search needs
 
--- src/deliveries.rt:54:5
 deliver-message-requires : tie.Need-deliver-message-requires
 deliver-message-requires c κs =
     let z = c  .before .before .before .before .before .before .before .before .before .before in
@@ -94,11 +73,9 @@ deliver-message-requires c κs =
       z .pre .3,
     )
 
--- src/deliveries.rt:42:1
 same-length : tie.Need-same-length
 same-length c = search needs
 
--- src/deliveries.rt:42:1
 returns-3 : tie.Need-returns-3
 returns-3 c =
     let z = c  .before .before .before .before .before .before .before .before .before .before .before .before .before in

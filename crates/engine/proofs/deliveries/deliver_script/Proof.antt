@@ -1,19 +1,13 @@
 -- `engine::deliveries::deliver_script` meets its contract. The loop's invariant: the operations of the script before i are
 -- delivered. The measure is how many are left. Assumes nothing.
-use mathlib.Core.Path.{_≡_, refl, sym, _∙_, ap}
+use mathlib.Core.Path.{sym, _∙_, ap}
 use Prim.Native.Nat.{ℕ, _+_, _-_, _<_, _≤_}
 use native.Mathlib.Omega.{arith}
-use lib.ListN.{length}
-use Rattle.rules.specs.Sheet.{sheet-in, board, rank-of, inbox-start, P-of, N-in}
+use Rattle.rules.specs.Sheet.{sheet-in, board, inbox-start, P-of}
 use Rattle.laws.specs.Decoded.{P-decoded, N-decoded}
 use Rattle.engine.specs.Deliveries.{Scripting, scripting-none, scripting-more, painting-at}
 use Rattle.engine.proofs.deliveries.deliver_script.Statement.{statement}
 use Rattle.engine.proofs.deliveries.deliver_script.Tie as tie
-use Rattle.engine.proofs.deliveries.deliver_script.Reads as reads
-use Rattle.engine.proofs.deliveries.deliver_script.Lts as lts
-use Rattle.engine.proofs.deliveries.deliver_one.Reads as deliver-one-reads
-use Rattle.sheet.proofs.boards.count.Reads as count-reads
-use Rattle.sheet.proofs.boards.first.Reads as first-reads
 
 abbrev Inv-loop : tie.InvT-loop
 Inv-loop s c r start inbox₀ i₀ end inbox i = Scripting (sheet-in s) c r inbox₀ i inbox × (i ≤ end)
@@ -21,25 +15,20 @@ Inv-loop s c r start inbox₀ i₀ end inbox i = Scripting (sheet-in s) c r inbo
 abbrev μ-loop : tie.MeasureT-loop
 μ-loop s c r start inbox₀ i₀ end inbox i = end - i
 
--- src/deliveries.rt:62:9
 first-requires : tie.Need-first-requires Inv-loop μ-loop
 first-requires c κs = (c  .before .before .before .pre .0 .laid, c  .before .before .before .pre .1)
 
--- src/deliveries.rt:63:19
 count-requires : tie.Need-count-requires Inv-loop μ-loop
 count-requires c κs = (c  .before .before .before .before .pre .0 .laid, c  .before .before .before .before .pre .1)
 
--- src/deliveries.rt:63:15
 add-end : tie.Need-add-end Inv-loop μ-loop
 add-end c = omega arith
 
--- src/deliveries.rt:64:5
 loop-holds : tie.Need-loop-holds Inv-loop μ-loop
 loop-holds c =
     let a = c  .before .before .before .before .before .args in
     (scripting-none (sheet-in (a .s .now)) (a .c .now) (a .r) (a .inbox .now) (c  .before .first .result) (c  .before .first .ensures .0), omega arith)
 
--- src/deliveries.rt:65:9
 deliver-one-requires : tie.Need-deliver-one-requires Inv-loop μ-loop
 deliver-one-requires c κs =
     let z = c  .before .before .before .before .before .before .before .before in
@@ -55,26 +44,21 @@ deliver-one-requires c κs =
       omega (arith, z .pre .3, l .inv .0 .size),
     )
 
--- src/deliveries.rt:66:9
 add-i : tie.Need-add-i Inv-loop μ-loop
 add-i c = omega arith
 
--- src/deliveries.rt:64:5
 loop-less : tie.Need-loop-less Inv-loop μ-loop
 loop-less c = omega arith
 
--- src/deliveries.rt:64:5
 loop-again : tie.Need-loop-again Inv-loop μ-loop
 loop-again c =
     let a = c  .before .before .before .before .before .before .before .before .before .before .before .args in
     let l = c  .before .before .before .before .before .loop in
     (scripting-more (sheet-in (a .s .now)) (a .c .now) (a .r) (a .inbox .now) (l .i) (l .inbox) (c  .before .before .deliver-one .last .1 .1 .1 .1 .0) (l .inv .0) (c  .before .before .deliver-one .ensures) (omega arith), omega arith)
 
--- src/deliveries.rt:58:1
 same-length : tie.Need-same-length Inv-loop μ-loop
 same-length c = c  .before .loop .inv .0 .size
 
--- src/deliveries.rt:58:1
 returns : tie.Need-returns Inv-loop μ-loop
 returns c =
     let a = c  .before .before .before .before .before .before .before .args in

@@ -1,7 +1,6 @@
 -- `engine::report::all_are_finished` meets its contract. The loop's invariant: every board before r is finished. The measure is
 -- how many are left. Assumes nothing.
-use mathlib.Core.Path.{_≡_, refl, sym, _∙_, ap}
-use Prim.Native.Nat.{ℕ, _-_, _<_, _≤_}
+use Prim.Native.Nat.{_-_, _<_, _≤_}
 use native.Mathlib.Omega.{arith}
 use Rattle.rules.specs.Sheet.{sheet-in, P-of}
 use Rattle.laws.specs.Decoded.{P-decoded}
@@ -9,11 +8,6 @@ use Rattle.state.specs.declared.Tally.{Tally}
 use Rattle.engine.specs.Report.{Every, Finishing, finishing-none, finishing-more, finishing-not, finishing-all, finished-yes, finished-no}
 use Rattle.engine.proofs.report.all_are_finished.Statement.{statement}
 use Rattle.engine.proofs.report.all_are_finished.Tie as tie
-use Rattle.engine.proofs.report.all_are_finished.Reads as reads
-use Rattle.engine.proofs.report.all_are_finished.Lts as lts
-use Rattle.sheet.proofs.boards.count.Reads as count-reads
-use Rattle.sheet.proofs.header.boards.Reads as boards-reads
-use Rattle.state.proofs.places.finished_of.Reads as finished-of-reads
 
 abbrev Inv-loop : tie.InvT-loop
 Inv-loop s c p r₀ r = (r ≤ p) × ((t : Tally) → Every s c t (λ x. Finishing (sheet-in s) x r))
@@ -21,23 +15,18 @@ Inv-loop s c p r₀ r = (r ≤ p) × ((t : Tally) → Every s c t (λ x. Finishi
 abbrev μ-loop : tie.MeasureT-loop
 μ-loop s c p r₀ r = p - r
 
--- src/report.rt:96:9
 boards-requires : tie.Need-boards-requires Inv-loop μ-loop
 boards-requires c κs = omega (arith, c  .before .before .pre .0 .whole)
 
--- src/report.rt:98:5
 loop-holds : tie.Need-loop-holds Inv-loop μ-loop
 loop-holds c = (omega arith, λ t lent x d. finishing-none (sheet-in (c  .before .before .before .args .s .now)) x)
 
--- src/report.rt:99:12
 finished-of-requires : tie.Need-finished-of-requires Inv-loop μ-loop
 finished-of-requires c κs = (omega (arith, c  .before .before .before .before .before .pre .0 .few-boards), c  .before .before .before .before .before .pre .1)
 
--- src/report.rt:99:40
 count-requires : tie.Need-count-requires Inv-loop μ-loop
 count-requires c κs = (c  .before .before .before .before .before .before .pre .0, omega arith)
 
--- src/report.rt:100:13
 returns : tie.Need-returns Inv-loop μ-loop
 returns c =
     let a = c  .before .before .before .before .before .before .before .before .args in
@@ -46,15 +35,12 @@ returns c =
     λ t lent x d. finishing-not (sheet-in (a .s .now)) x r l (c  .before .before .before .before .loop .inv .1 t lent x d)
         (finished-no (a .s .now) lent (a .c .now) t x d r (c  .before .before .finished-of .result) (c  .before .count .result) l (c  .before .before .finished-of .ensures .0) (c  .before .count .ensures .0) (c .if1 .taken))
 
--- src/report.rt:102:9
 add-r : tie.Need-add-r Inv-loop μ-loop
 add-r c = omega arith
 
--- src/report.rt:98:5
 loop-less : tie.Need-loop-less Inv-loop μ-loop
 loop-less c = omega arith
 
--- src/report.rt:98:5
 loop-again : tie.Need-loop-again Inv-loop μ-loop
 loop-again c =
     let a = c  .before .before .before .before .before .before .before .before .args in
@@ -65,7 +51,6 @@ loop-again c =
           (finished-yes (a .s .now) lent (a .c .now) t x d r (c  .before .before .finished-of .result) (c  .before .count .result) l (c  .before .before .finished-of .ensures .0) (c  .before .count .ensures .0) (c .if1 .left)),
     )
 
--- src/report.rt:92:1
 returns-2 : tie.Need-returns-2 Inv-loop μ-loop
 returns-2 c =
     let a = c  .before .before .before .before .before .args in

@@ -1,9 +1,9 @@
 -- `engine::report::board_row` meets its contract: two splices side by side are the row. Assumes nothing.
-use mathlib.Core.Path.{_≡_, refl, sym, _∙_, ap}
+use mathlib.Core.Path.{refl, _∙_, ap}
 use mathlib.Core.List.{List, _++_}
-use Prim.Native.Nat.{ℕ, _+_, _*_, _<_, _≤_}
+use Prim.Native.Nat.{ℕ, _+_, _*_}
 use native.Mathlib.Omega.{arith}
-use Rattle.rules.specs.Sheet.{sheet-in, board, P-of}
+use Rattle.rules.specs.Sheet.{sheet-in, board}
 use Rattle.rules.specs.Step.{splice}
 use Rattle.rules.specs.Report.{low-two}
 use Rattle.laws.specs.Decoded.{P-decoded}
@@ -12,55 +12,37 @@ use Rattle.engine.specs.Report.{row-is}
 use borrow.Author.Needs.{needs}
 use Rattle.engine.proofs.report.board_row.Statement.{statement}
 use Rattle.engine.proofs.report.board_row.Tie as tie
-use Rattle.engine.proofs.report.board_row.Reads as reads
-use Rattle.engine.proofs.report.board_row.Lts as lts
-use Rattle.engine.proofs.report.board_state.Reads as board-state-reads
-use Rattle.state.proofs.places.finished_of.Reads as finished-of-reads
-use Rattle.state.proofs.places.in_use_of.Reads as in-use-of-reads
-use Rattle.state.proofs.places.peak_of.Reads as peak-of-reads
-use Rattle.words.proofs.put_pair.Reads as put-pair-reads
 
--- src/report.rt:69:19
 mul-at : tie.Need-mul-at
 mul-at c = search needs
 
--- src/report.rt:69:14
 add-at : tie.Need-add-at
 add-at c = search needs
 
--- src/report.rt:70:9
 finished-of-requires : tie.Need-finished-of-requires
 finished-of-requires c κs = search needs
 
--- src/report.rt:71:9
 in-use-of-requires : tie.Need-in-use-of-requires
 in-use-of-requires c κs = search needs
 
--- src/report.rt:72:9
 peak-of-requires : tie.Need-peak-of-requires
 peak-of-requires c κs = search needs
 
--- src/report.rt:73:9
 board-state-requires : tie.Need-board-state-requires
 board-state-requires c κs = search needs
 
--- src/report.rt:74:5
 put-pair-requires : tie.Need-put-pair-requires
 put-pair-requires c κs = search needs
 
--- src/report.rt:75:26
 add-put-pair : tie.Need-add-put-pair
 add-put-pair c = search needs
 
--- src/report.rt:75:5
 put-pair-requires-2 : tie.Need-put-pair-requires-2
 put-pair-requires-2 c κs = search needs
 
--- src/report.rt:65:1
 same-length : tie.Need-same-length
 same-length c = search needs
 
--- src/report.rt:65:1
 returns : tie.Need-returns
 unfolding low-two
 returns c =

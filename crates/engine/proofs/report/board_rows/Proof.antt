@@ -1,8 +1,7 @@
 -- `engine::report::board_rows` meets its contract. The loop's invariant: the rows of the boards before r are written, of every
 -- job that stands in scratch. The measure is how many are left. Assumes nothing.
-use mathlib.Core.Path.{_≡_, refl, sym, _∙_, ap}
-use mathlib.Core.List.{List}
-use Prim.Native.Nat.{ℕ, _+_, _-_, _*_, _<_, _≤_}
+use mathlib.Core.Path.{_≡_, refl, _∙_, ap}
+use Prim.Native.Nat.{ℕ, _-_, _*_, _≤_}
 use native.Mathlib.Omega.{arith}
 use lib.ListN.{length}
 use Rattle.rules.specs.Sheet.{sheet-in, P-of}
@@ -13,10 +12,6 @@ use Rattle.engine.specs.Report.{Every}
 use Rattle.engine.specs.ReportRows.{board-row-length, joined, joined-length, Rowing, rowing-none, rowing-more}
 use Rattle.engine.proofs.report.board_rows.Statement.{statement}
 use Rattle.engine.proofs.report.board_rows.Tie as tie
-use Rattle.engine.proofs.report.board_rows.Reads as reads
-use Rattle.engine.proofs.report.board_rows.Lts as lts
-use Rattle.engine.proofs.report.board_row.Reads as board-row-reads
-use Rattle.sheet.proofs.header.boards.Reads as boards-reads
 
 abbrev Inv-loop : tie.InvT-loop
 Inv-loop s c t out₀ p r₀ out r = (r ≤ p) × (length out ≡ length out₀) × Every s c t (λ x. Rowing (board-row (sheet-in s) x) 16 out₀ out r)
@@ -24,29 +19,23 @@ Inv-loop s c t out₀ p r₀ out r = (r ≤ p) × (length out ≡ length out₀)
 abbrev μ-loop : tie.MeasureT-loop
 μ-loop s c t out₀ p r₀ out r = p - r
 
--- src/report.rt:83:9
 boards-requires : tie.Need-boards-requires Inv-loop μ-loop
 boards-requires c κs = omega (arith, c  .before .before .before .pre .0 .stands .laid .whole)
 
--- src/report.rt:85:5
 loop-holds : tie.Need-loop-holds Inv-loop μ-loop
 loop-holds c =
     let a = c  .before .before .before .before .args in
     (omega arith, refl, λ lent x d. rowing-none (board-row (sheet-in (a .s .now)) x) 16 (a .out .now) (omega (arith, c  .before .before .before .before .pre .1)))
 
--- src/report.rt:86:9
 board-row-requires : tie.Need-board-row-requires Inv-loop μ-loop
 board-row-requires c κs = (c  .before .before .before .before .before .before .before .pre .0, omega arith, omega (arith, c  .before .before .before .before .before .before .before .pre .1, c  .before .before .loop .inv .1))
 
--- src/report.rt:87:9
 add-r : tie.Need-add-r Inv-loop μ-loop
 add-r c = omega arith
 
--- src/report.rt:85:5
 loop-less : tie.Need-loop-less Inv-loop μ-loop
 loop-less c = omega arith
 
--- src/report.rt:85:5
 loop-again : tie.Need-loop-again Inv-loop μ-loop
 loop-again c =
     let a = c  .before .before .before .before .before .before .before .before .before .before .args in
@@ -59,11 +48,9 @@ loop-again c =
           (omega (arith, c  .before .before .before .before .before .before .before .before .before .before .pre .1, joined-length 8 (board-row s x) (board-row-length s x) 0 (l .r), board-row-length s x (l .r))),
     )
 
--- src/report.rt:79:1
 same-length : tie.Need-same-length Inv-loop μ-loop
 same-length c = c  .before .loop .inv .1
 
--- src/report.rt:79:1
 returns : tie.Need-returns Inv-loop μ-loop
 returns c =
     let a = c  .before .before .before .before .before .before .args in

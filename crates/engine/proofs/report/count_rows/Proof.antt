@@ -1,8 +1,6 @@
 -- `engine::report::count_rows` meets its contract. The loop's invariant: the operations before i are counted, three times over.
 -- The measure is how many are left. Assumes nothing.
-use mathlib.Core.Path.{_≡_, refl, sym, _∙_, ap}
-use mathlib.Core.Bool.{Bool}
-use mathlib.Core.List.{List}
+use mathlib.Core.Path.{ap}
 use Prim.Native.Nat.{ℕ, _+_, _-_, _*_, _<_, _≤_}
 use native.Mathlib.Omega.{arith}
 use Rattle.rules.specs.Limits.{ops-at}
@@ -10,13 +8,6 @@ use Rattle.rules.specs.Sheet.{sheet-in, N-in}
 use Rattle.engine.specs.ReportCounts.{message-row, receive-row, cut-row, Counted, counted-none, counted-more, counted-all, bit-small}
 use Rattle.engine.proofs.report.count_rows.Statement.{statement}
 use Rattle.engine.proofs.report.count_rows.Tie as tie
-use Rattle.engine.proofs.report.count_rows.Reads as reads
-use Rattle.engine.proofs.report.count_rows.Lts as lts
-use Rattle.engine.proofs.report.cut_at.Reads as cut-at-reads
-use Rattle.engine.proofs.report.message_at.Reads as message-at-reads
-use Rattle.engine.proofs.report.receive_at.Reads as receive-at-reads
-use Rattle.sheet.proofs.header.boards.Reads as boards-reads
-use Rattle.sheet.proofs.header.ops.Reads as ops-reads
 
 abbrev Inv-loop : tie.InvT-loop
 Inv-loop s c table n messages₀ receives₀ cut₀ i₀ messages receives cut i = Counted (N-in s) (message-row (sheet-in s) c) messages i × Counted (N-in s) (receive-row (sheet-in s) c) receives i × Counted (N-in s) (cut-row c) cut i
@@ -24,23 +15,18 @@ Inv-loop s c table n messages₀ receives₀ cut₀ i₀ messages receives cut i
 abbrev μ-loop : tie.MeasureT-loop
 μ-loop s c table n messages₀ receives₀ cut₀ i₀ messages receives cut i = n - i
 
--- src/report.rt:194:26
 boards-requires : tie.Need-boards-requires Inv-loop μ-loop
 boards-requires c κs = omega (arith, c  .before .before .pre .0 .whole)
 
--- src/report.rt:194:22
 mul-table : tie.Need-mul-table Inv-loop μ-loop
 mul-table c = omega arith
 
--- src/report.rt:194:17
 add-table : tie.Need-add-table Inv-loop μ-loop
 add-table c = omega arith
 
--- src/report.rt:195:9
 ops-requires : tie.Need-ops-requires Inv-loop μ-loop
 ops-requires c κs = omega (arith, c  .before .before .before .pre .0 .whole)
 
--- src/report.rt:200:5
 loop-holds : tie.Need-loop-holds Inv-loop μ-loop
 loop-holds c =
     let a = c  .before .before .before .before .args in
@@ -48,53 +34,42 @@ loop-holds c =
     let s = sheet-in (a .s .now) in
     (counted-none n (message-row s (a .c .now)), counted-none n (receive-row s (a .c .now)), counted-none n (cut-row (a .c .now)))
 
--- src/report.rt:201:26
 mul-at : tie.Need-mul-at Inv-loop μ-loop
 mul-at c = omega (arith, c  .before .before .before .before .before .before .pre .0 .few-ops)
 
--- src/report.rt:201:18
 add-at : tie.Need-add-at Inv-loop μ-loop
 add-at c = omega (arith, c  .before .before .before .before .before .before .pre .0 .few-ops)
 
--- src/report.rt:202:21
 message-at-requires : tie.Need-message-at-requires Inv-loop μ-loop
 message-at-requires c κs =
     let z = c  .before .before .before .before .before .before in
     let i = c  .before .loop .i in
     (z .pre .0, z .pre .1, omega arith, ap (λ (p : ℕ). ops-at p + 16 * i) (c  .before .before .before .boards .ensures .0))
 
--- src/report.rt:202:9
 add-messages : tie.Need-add-messages Inv-loop μ-loop
 add-messages c = omega (arith, c  .before .before .loop .inv .0 .few, c  .before .before .before .before .before .before .before .pre .0 .few-ops, bit-small (message-row (sheet-in (c  .before .before .before .before .before .before .before .args .s .now)) (c  .before .before .before .before .before .before .before .args .c .now) (c  .before .before .loop .i)))
 
--- src/report.rt:203:21
 receive-at-requires : tie.Need-receive-at-requires Inv-loop μ-loop
 receive-at-requires c κs =
     let z = c  .before .before .before .before .before .before .before in
     let i = c  .before .before .loop .i in
     (z .pre .0, z .pre .1, omega arith, ap (λ (p : ℕ). ops-at p + 16 * i) (c  .before .before .before .before .boards .ensures .0))
 
--- src/report.rt:203:9
 add-receives : tie.Need-add-receives Inv-loop μ-loop
 add-receives c = omega (arith, c  .before .before .before .loop .inv .1 .few, c  .before .before .before .before .before .before .before .before .pre .0 .few-ops, bit-small (receive-row (sheet-in (c  .before .before .before .before .before .before .before .before .args .s .now)) (c  .before .before .before .before .before .before .before .before .args .c .now) (c  .before .before .before .loop .i)))
 
--- src/report.rt:204:16
 cut-at-requires : tie.Need-cut-at-requires Inv-loop μ-loop
 cut-at-requires c κs = (omega (arith, c  .before .before .before .before .before .before .before .before .pre .0 .few-ops), c  .before .before .before .before .before .before .before .before .pre .1)
 
--- src/report.rt:204:9
 add-cut : tie.Need-add-cut Inv-loop μ-loop
 add-cut c = omega (arith, c  .before .before .before .before .loop .inv .2 .few, c  .before .before .before .before .before .before .before .before .before .pre .0 .few-ops, bit-small (cut-row (c  .before .before .before .before .before .before .before .before .before .args .c .now) (c  .before .before .before .before .loop .i)))
 
--- src/report.rt:205:9
 add-i : tie.Need-add-i Inv-loop μ-loop
 add-i c = omega arith
 
--- src/report.rt:200:5
 loop-less : tie.Need-loop-less Inv-loop μ-loop
 loop-less c = omega arith
 
--- src/report.rt:200:5
 loop-again : tie.Need-loop-again Inv-loop μ-loop
 loop-again c =
     let a = c  .before .before .before .before .before .before .before .before .before .args in
@@ -107,7 +82,6 @@ loop-again c =
       counted-more n (cut-row (a .c .now)) (l .cut) (l .i) (c .cut-at .result) (l .inv .2) h (c .cut-at .ensures),
     )
 
--- src/report.rt:190:1
 returns : tie.Need-returns Inv-loop μ-loop
 returns c =
     let a = c  .before .before .before .before .before .before .args in

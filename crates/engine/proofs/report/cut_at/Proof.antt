@@ -1,8 +1,6 @@
 -- `engine::report::cut_at` meets its contract. Assumes nothing.
 use mathlib.Core.Path.{sym, _∙_, ap}
 use mathlib.Core.Bool.{Bool, cond}
-use Prim.Native.Nat.{ℕ}
-use lib.Dec.{eqb}
 use borrow.Author.Tests.{eq-eqb, ne-eqb}
 use Rattle.state.specs.Layout.{row-at}
 use Rattle.state.specs.Decoded.{entry-in}
@@ -10,22 +8,16 @@ use Rattle.engine.specs.ReportCounts.{cut-row}
 use borrow.Author.Needs.{needs}
 use Rattle.engine.proofs.report.cut_at.Statement.{statement}
 use Rattle.engine.proofs.report.cut_at.Tie as tie
-use Rattle.engine.proofs.report.cut_at.Reads as reads
-use Rattle.engine.proofs.report.cut_at.Lts as lts
-use Rattle.state.proofs.rows.cut_of.Reads as cut-of-reads
 
--- src/report.rt:179:8
 cut-of-requires : tie.Need-cut-of-requires
 cut-of-requires c κs = search needs
 
--- src/report.rt:175:1
 returns : tie.Need-returns
 unfolding cut-row
 returns c =
     let a = c  .before .before .before .args in
     sym (ap (λ (b : Bool). cond b 1 0) (eq-eqb (entry-in (a .c .now) (row-at (a .i)) .cut) 1 (sym (c  .before .cut-of .ensures .0) ∙ c .if1 .taken)))
 
--- src/report.rt:175:1
 returns-2 : tie.Need-returns-2
 unfolding cut-row
 returns-2 c =

@@ -1,7 +1,7 @@
 -- `engine::report::header_back` meets its contract: two splices side by side. Assumes nothing.
 use mathlib.Core.Path.{_≡_, refl, sym, _∙_, ap, ap₂}
 use mathlib.Core.List.{List, _++_}
-use Prim.Native.Nat.{ℕ, _+_}
+use Prim.Native.Nat.{ℕ}
 use native.Mathlib.Omega.{arith}
 use Rattle.rules.specs.Sheet.{sheet-in, N-of}
 use Rattle.rules.specs.Step.{splice}
@@ -13,33 +13,22 @@ use Rattle.engine.specs.ReportCounts.{message-row, receive-row, cut-row}
 use borrow.Author.Needs.{needs}
 use Rattle.engine.proofs.report.header_back.Statement.{statement}
 use Rattle.engine.proofs.report.header_back.Tie as tie
-use Rattle.engine.proofs.report.header_back.Reads as reads
-use Rattle.engine.proofs.report.header_back.Lts as lts
-use Rattle.engine.proofs.report.count_rows.Reads as count-rows-reads
-use Rattle.sheet.proofs.header.ops.Reads as ops-reads
-use Rattle.words.proofs.put_pair.Reads as put-pair-reads
 
--- src/report.rt:231:9
 count-rows-requires : tie.Need-count-rows-requires
 count-rows-requires c κs = search needs
 
--- src/report.rt:232:9
 ops-requires : tie.Need-ops-requires
 ops-requires c κs = search needs
 
--- src/report.rt:233:5
 put-pair-requires : tie.Need-put-pair-requires
 put-pair-requires c κs = search needs
 
--- src/report.rt:234:5
 put-pair-requires-2 : tie.Need-put-pair-requires-2
 put-pair-requires-2 c κs = search needs
 
--- src/report.rt:227:1
 same-length : tie.Need-same-length
 same-length c = search needs
 
--- src/report.rt:227:1
 returns : tie.Need-returns
 unfolding low-two back-bytes
 returns c =

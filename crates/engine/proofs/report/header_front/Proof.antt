@@ -1,9 +1,8 @@
 -- `engine::report::header_front` meets its contract: two splices side by side. Assumes nothing.
-use mathlib.Core.Path.{_≡_, refl, sym, _∙_, ap}
-use mathlib.Core.List.{List, _++_}
+use mathlib.Core.Path.{refl, _∙_, ap}
+use mathlib.Core.List.{_++_}
 use Prim.Native.Nat.{ℕ, _+_, _*_}
 use native.Mathlib.Omega.{arith}
-use Rattle.rules.specs.Sheet.{P-in}
 use Rattle.rules.specs.Step.{splice}
 use Rattle.rules.specs.Report.{low-two}
 use Rattle.words.specs.Splice.{splice-then}
@@ -11,46 +10,31 @@ use Rattle.engine.specs.Report.{front-bytes, rank-told, op-told}
 use borrow.Author.Needs.{needs}
 use Rattle.engine.proofs.report.header_front.Statement.{statement}
 use Rattle.engine.proofs.report.header_front.Tie as tie
-use Rattle.engine.proofs.report.header_front.Reads as reads
-use Rattle.engine.proofs.report.header_front.Lts as lts
-use Rattle.engine.proofs.report.stop_op.Reads as stop-op-reads
-use Rattle.engine.proofs.report.stop_rank.Reads as stop-rank-reads
-use Rattle.sheet.proofs.header.boards.Reads as boards-reads
-use Rattle.words.proofs.put_pair.Reads as put-pair-reads
 
--- src/report.rt:219:27
 stop-rank-requires : tie.Need-stop-rank-requires
 stop-rank-requires c κs = search needs
 
--- src/report.rt:219:21
 mul-front : tie.Need-mul-front
 mul-front c = search needs
 
--- src/report.rt:219:17
 add-front : tie.Need-add-front
 add-front c = search needs
 
--- src/report.rt:220:9
 stop-op-requires : tie.Need-stop-op-requires
 stop-op-requires c κs = search needs
 
--- src/report.rt:221:9
 boards-requires : tie.Need-boards-requires
 boards-requires c κs = search needs
 
--- src/report.rt:222:5
 put-pair-requires : tie.Need-put-pair-requires
 put-pair-requires c κs = search needs
 
--- src/report.rt:223:5
 put-pair-requires-2 : tie.Need-put-pair-requires-2
 put-pair-requires-2 c κs = search needs
 
--- src/report.rt:215:1
 same-length : tie.Need-same-length
 same-length c = search needs
 
--- src/report.rt:215:1
 returns : tie.Need-returns
 unfolding low-two front-bytes
 returns c =

@@ -1,9 +1,9 @@
 -- `engine::report::op_row` meets its contract: ten bytes of scratch and two zeros are the row. Assumes nothing.
-use mathlib.Core.Path.{_≡_, refl, _∙_, ap}
-use mathlib.Core.List.{List, _++_}
-use Prim.Native.Nat.{ℕ, _+_, _*_, _<_}
+use mathlib.Core.Path.{_≡_, _∙_, ap}
+use mathlib.Core.List.{List}
+use Prim.Native.Nat.{ℕ, _*_}
 use native.Mathlib.Omega.{arith}
-use lib.ListN.{length, getD, take, drop}
+use lib.ListN.{length, take, drop}
 use Rattle.rules.specs.Step.{splice}
 use Rattle.rules.specs.Report.{low-two}
 use Rattle.words.specs.Splice.{splice-then}
@@ -12,32 +12,22 @@ use Rattle.engine.specs.ReportRows.{row-copied}
 use borrow.Author.Needs.{needs}
 use Rattle.engine.proofs.report.op_row.Statement.{statement}
 use Rattle.engine.proofs.report.op_row.Tie as tie
-use Rattle.engine.proofs.report.op_row.Reads as reads
-use Rattle.engine.proofs.report.op_row.Lts as lts
-use Rattle.words.proofs.copy.Reads as copy-reads
-use Rattle.words.proofs.put_two.Reads as put-two-reads
 
--- src/report.rt:16:29
 mul-copy : tie.Need-mul-copy
 mul-copy c = search needs
 
--- src/report.rt:16:5
 copy-requires : tie.Need-copy-requires
 copy-requires c κs = search needs
 
--- src/report.rt:17:25
 add-put-two : tie.Need-add-put-two
 add-put-two c = search needs
 
--- src/report.rt:17:5
 put-two-requires : tie.Need-put-two-requires
 put-two-requires c κs = search needs
 
--- src/report.rt:12:1
 same-length : tie.Need-same-length
 same-length c = search needs
 
--- src/report.rt:12:1
 returns : tie.Need-returns
 unfolding low-two
 returns c =

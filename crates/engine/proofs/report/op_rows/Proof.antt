@@ -1,17 +1,12 @@
 -- `engine::report::op_rows` meets its contract. The loop's invariant: the first i rows are written. The measure is how many are
 -- left. Assumes nothing.
-use mathlib.Core.Path.{_≡_, refl, sym, _∙_, ap}
-use mathlib.Core.List.{List}
-use Prim.Native.Nat.{ℕ, _+_, _-_, _*_, _<_, _≤_}
+use mathlib.Core.Path.{_≡_, _∙_, ap}
+use Prim.Native.Nat.{ℕ, _-_, _*_, _≤_}
 use native.Mathlib.Omega.{arith}
-use lib.ListN.{length}
 use Rattle.rules.specs.Step.{splice}
 use Rattle.engine.specs.ReportRows.{row-in, row-in-length, joined, joined-length, Rowing, rowing-none, rowing-more}
 use Rattle.engine.proofs.report.op_rows.Statement.{statement}
 use Rattle.engine.proofs.report.op_rows.Tie as tie
-use Rattle.engine.proofs.report.op_rows.Reads as reads
-use Rattle.engine.proofs.report.op_rows.Lts as lts
-use Rattle.engine.proofs.report.op_row.Reads as op-row-reads
 
 abbrev Inv-loop : tie.InvT-loop
 Inv-loop c n at out₀ i₀ out i = Rowing (row-in c) at out₀ out i × (i ≤ n)
@@ -19,33 +14,26 @@ Inv-loop c n at out₀ i₀ out i = Rowing (row-in c) at out₀ out i × (i ≤ 
 abbrev μ-loop : tie.MeasureT-loop
 μ-loop c n at out₀ i₀ out i = n - i
 
--- src/report.rt:26:5
 loop-holds : tie.Need-loop-holds Inv-loop μ-loop
 loop-holds c =
     let a = c  .before .before .args in
     (rowing-none (row-in (a .c .now)) (a .at) (a .out .now) (omega arith), omega arith)
 
--- src/report.rt:27:27
 mul-op-row : tie.Need-mul-op-row Inv-loop μ-loop
 mul-op-row c = omega arith
 
--- src/report.rt:27:22
 add-op-row : tie.Need-add-op-row Inv-loop μ-loop
 add-op-row c = omega arith
 
--- src/report.rt:27:9
 op-row-requires : tie.Need-op-row-requires Inv-loop μ-loop
 op-row-requires c κs = (omega arith, c  .before .before .before .before .before .pre .1, omega (arith, c  .before .before .before .before .before .pre .2, c  .before .before .loop .inv .0 .size))
 
--- src/report.rt:28:9
 add-i : tie.Need-add-i Inv-loop μ-loop
 add-i c = omega arith
 
--- src/report.rt:26:5
 loop-less : tie.Need-loop-less Inv-loop μ-loop
 loop-less c = omega arith
 
--- src/report.rt:26:5
 loop-again : tie.Need-loop-again Inv-loop μ-loop
 loop-again c =
     let a = c  .before .before .before .before .before .before .before .before .args in
@@ -53,11 +41,9 @@ loop-again c =
     let long = joined-length 12 (row-in (a .c .now)) (row-in-length (a .c .now)) 0 (l .i) in
     (rowing-more (row-in (a .c .now)) (a .at) (a .out .now) (l .out) (c  .before .before .op-row .last .1 .1 .1 .0) (l .i) (12 * l .i) (l .inv .0) long (c  .before .before .op-row .ensures) (omega (arith, row-in-length (a .c .now) (l .i), c  .before .before .before .before .before .before .before .before .pre .2)), omega arith)
 
--- src/report.rt:21:1
 same-length : tie.Need-same-length Inv-loop μ-loop
 same-length c = c  .before .loop .inv .0 .size
 
--- src/report.rt:21:1
 returns : tie.Need-returns Inv-loop μ-loop
 returns c =
     let a = c  .before .before .before .before .args in

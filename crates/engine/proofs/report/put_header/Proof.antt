@@ -1,9 +1,8 @@
 -- `engine::report::put_header` meets its contract: front and back side by side are the header. Assumes nothing.
-use mathlib.Core.Path.{_≡_, refl, sym, _∙_, ap}
+use mathlib.Core.Path.{refl, sym, _∙_, ap}
 use mathlib.Core.List.{List, _++_}
-use Prim.Native.Nat.{ℕ, _+_, _<_, _≤_}
+use Prim.Native.Nat.{ℕ}
 use native.Mathlib.Omega.{arith}
-use lib.ListN.{length}
 use Rattle.rules.specs.Sheet.{sheet-in, P-in}
 use Rattle.rules.specs.Step.{splice}
 use Rattle.rules.specs.Report.{low-two}
@@ -13,17 +12,10 @@ use Rattle.engine.specs.Report.{front-bytes, back-bytes, rank-small, hea
 use borrow.Author.Needs.{needs}
 use Rattle.engine.proofs.report.put_header.Statement.{statement}
 use Rattle.engine.proofs.report.put_header.Tie as tie
-use Rattle.engine.proofs.report.put_header.Reads as reads
-use Rattle.engine.proofs.report.put_header.Lts as lts
-use Rattle.engine.proofs.report.header_back.Reads as header-back-reads
-use Rattle.engine.proofs.report.header_front.Reads as header-front-reads
-use Rattle.engine.proofs.report.verdict.Reads as verdict-reads
 
--- src/report.rt:242:9
 verdict-requires : tie.Need-verdict-requires
 verdict-requires c κs = search needs
 
--- src/report.rt:243:5
 header-front-requires : tie.Need-header-front-requires
 header-front-requires c κs =
     let z = c  .before .before .before .before .before in
@@ -31,15 +23,12 @@ header-front-requires c κs =
     let w = z .pre .0 in
     (omega (arith, w .stands .laid .whole), c  .before .verdict .ensures .1, rank-small (a .s .now) (w .lent) (a .c .now) (a .t) (w .job) (w .stands), omega (arith, z .pre .1))
 
--- src/report.rt:244:5
 header-back-requires : tie.Need-header-back-requires
 header-back-requires c κs = search needs
 
--- src/report.rt:238:1
 same-length : tie.Need-same-length
 same-length c = search needs
 
--- src/report.rt:238:1
 returns : tie.Need-returns
 unfolding front-bytes back-bytes low-two
 returns c =

@@ -1,20 +1,15 @@
 -- `engine::report::stop_op` meets its contract. Assumes nothing.
 use mathlib.Core.Path.{sym, ap}
 use mathlib.Core.Bool.{Bool, cond}
-use Prim.Native.Nat.{ℕ}
 use borrow.Author.Tests.{eq-eqb, ne-eqb}
 use Rattle.engine.proofs.report.stop_op.Statement.{statement}
 use Rattle.engine.proofs.report.stop_op.Tie as tie
-use Rattle.engine.proofs.report.stop_op.Reads as reads
-use Rattle.engine.proofs.report.stop_op.Lts as lts
 
--- src/report.rt:148:1
 returns : tie.Need-returns
 returns c =
     let t = c  .before .before .args .t in
     sym (ap (λ (b : Bool). cond b 65535 (t .op)) (eq-eqb (t .verdict) 0 (c .if1 .taken)))
 
--- src/report.rt:148:1
 returns-2 : tie.Need-returns-2
 returns-2 c =
     let t = c  .before .before .args .t in

@@ -1,44 +1,33 @@
 -- `engine::report::verdict` meets its contract. Assumes nothing.
-use mathlib.Core.Path.{_≡_, refl, sym, _∙_, ap}
-use Prim.Native.Nat.{ℕ, _≤_}
+use mathlib.Core.Path.{sym, _∙_}
 use native.Mathlib.Omega.{arith}
 use Rattle.engine.specs.Report.{verdict-small, verdict-stopped, verdict-finished, verdict-deadlock, verdict-going}
 use borrow.Author.Needs.{needs}
 use Rattle.engine.proofs.report.verdict.Statement.{statement}
 use Rattle.engine.proofs.report.verdict.Tie as tie
-use Rattle.engine.proofs.report.verdict.Reads as reads
-use Rattle.engine.proofs.report.verdict.Lts as lts
-use Rattle.engine.proofs.report.all_are_finished.Reads as all-are-finished-reads
-use Rattle.engine.proofs.report.none_is_able.Reads as none-is-able-reads
 
--- src/report.rt:129:9
 returns : tie.Need-returns
 returns c =
     let z = c  .before .before .before .before in
     let a = z .args in
     (λ lent x d. verdict-stopped (a .s .now) lent (a .c .now) (a .t) x d (c .if1 .taken), verdict-small (a .s .now) (z .pre .lent) (a .c .now) (a .t) (z .pre .job) (z .pre .stands) (c .if1 .taken))
 
--- src/report.rt:131:8
 all-are-finished-requires : tie.Need-all-are-finished-requires
 all-are-finished-requires c κs = search needs
 
--- src/report.rt:132:9
 returns-2 : tie.Need-returns-2
 returns-2 c =
     let a = c  .before .before .before .before .before .before .args in
     (λ lent x d. verdict-finished (a .s .now) lent (a .c .now) (a .t) x d (c  .before .before .if1 .left) (sym (c  .before .all-are-finished .ensures (a .t) lent x d) ∙ c .if2 .taken), omega arith)
 
--- src/report.rt:134:8
 none-is-able-requires : tie.Need-none-is-able-requires
 none-is-able-requires c κs = search needs
 
--- src/report.rt:135:9
 returns-3 : tie.Need-returns-3
 returns-3 c =
     let a = c  .before .before .before .before .before .before .before .before .args in
     (λ lent x d. verdict-deadlock (a .s .now) lent (a .c .now) (a .t) x d (c  .before .before .before .before .if1 .left) (sym (c  .before .before .before .all-are-finished .ensures (a .t) lent x d) ∙ c  .before .before .if2 .left) (sym (c  .before .none-is-able .ensures lent x d) ∙ c .if3 .taken), omega arith)
 
--- src/report.rt:124:1
 returns-4 : tie.Need-returns-4
 returns-4 c =
     let a = c  .before .before .before .before .before .before .before .before .args in

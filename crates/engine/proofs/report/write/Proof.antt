@@ -1,10 +1,8 @@
 -- `engine::report::write` meets its contract: header, board rows and operation rows side by side are the report. Assumes
 -- nothing.
-use mathlib.Core.Path.{_≡_, refl, sym, _∙_, ap, ap₂}
-use mathlib.Core.List.{List}
-use Prim.Native.Nat.{ℕ, _+_, _*_, _<_, _≤_}
+use mathlib.Core.Path.{_≡_, sym, _∙_, ap₂}
+use Prim.Native.Nat.{ℕ, _+_, _*_}
 use native.Mathlib.Omega.{arith}
-use lib.ListN.{length}
 use Rattle.rules.specs.Sheet.{sheet-in, P-of, N-of}
 use Rattle.rules.specs.Step.{splice}
 use Rattle.laws.specs.Decoded.{P-decoded, N-decoded}
@@ -13,50 +11,34 @@ use Rattle.engine.specs.ReportRows.{row-in, joined}
 use borrow.Author.Needs.{needs}
 use Rattle.engine.proofs.report.write.Statement.{statement}
 use Rattle.engine.proofs.report.write.Tie as tie
-use Rattle.engine.proofs.report.write.Reads as reads
-use Rattle.engine.proofs.report.write.Lts as lts
-use Rattle.engine.proofs.report.board_rows.Reads as board-rows-reads
-use Rattle.engine.proofs.report.op_rows.Reads as op-rows-reads
-use Rattle.engine.proofs.report.put_header.Reads as put-header-reads
-use Rattle.sheet.proofs.header.boards.Reads as boards-reads
-use Rattle.sheet.proofs.header.ops.Reads as ops-reads
 
--- src/report.rt:252:5
 put-header-requires : tie.Need-put-header-requires
 put-header-requires c κs = search needs
 
--- src/report.rt:253:5
 board-rows-requires : tie.Need-board-rows-requires
 board-rows-requires c κs = (c  .before .before .before .before .before .before .before .before .pre .0, omega (arith, c  .before .before .before .before .before .before .before .before .pre .1, P-decoded (c  .before .before .before .before .before .before .before .before .args .s .now)))
 
--- src/report.rt:254:9
 ops-requires : tie.Need-ops-requires
 ops-requires c κs = search needs
 
--- src/report.rt:255:23
 boards-requires : tie.Need-boards-requires
 boards-requires c κs = search needs
 
--- src/report.rt:255:19
 mul-at : tie.Need-mul-at
 mul-at c = search needs
 
--- src/report.rt:255:14
 add-at : tie.Need-add-at
 add-at c = search needs
 
--- src/report.rt:256:5
 op-rows-requires : tie.Need-op-rows-requires
 op-rows-requires c κs =
     let z = c  .before .before .before .before .before .before .before .before .before .before .before .before .before .before in
     let bs = z .args .s .now in
     (omega (arith, z .pre .0 .stands .laid .few-ops), z .pre .0 .stands .decodes .roomy, omega (arith, z .pre .1, P-decoded bs, N-decoded bs))
 
--- src/report.rt:248:1
 same-length : tie.Need-same-length
 same-length c = search needs
 
--- src/report.rt:248:1
 returns : tie.Need-returns
 returns c =
     let z = c  .before .before .before .before .before .before .before .before .before .before .before .before .before .before .before .before .before in

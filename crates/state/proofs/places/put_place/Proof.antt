@@ -14,40 +14,28 @@ use Rattle.state.specs.Places.{waiting-bytes}
 use borrow.Author.Needs.{needs}
 use Rattle.state.proofs.places.put_place.Statement.{statement}
 use Rattle.state.proofs.places.put_place.Tie as tie
-use Rattle.state.proofs.places.put_place.Reads as reads
-use Rattle.state.proofs.places.put_place.Lts as lts
-use Rattle.state.proofs.places.bit.Reads as bit-reads
-use Rattle.words.proofs.put_pair.Reads as put-pair-reads
 
--- src/places.rt:57:9
 bit-requires : tie.Need-bit-requires
 bit-requires c κs = search needs
 
--- src/places.rt:58:23
 mul-at : tie.Need-mul-at
 mul-at c = search needs
 
--- src/places.rt:58:14
 add-at : tie.Need-add-at
 add-at c = search needs
 
--- src/places.rt:59:5
 put-pair-requires : tie.Need-put-pair-requires
 put-pair-requires c κs = search needs
 
--- src/places.rt:60:24
 add-put-pair : tie.Need-add-put-pair
 add-put-pair c = search needs
 
--- src/places.rt:60:5
 put-pair-requires-2 : tie.Need-put-pair-requires-2
 put-pair-requires-2 c κs = search needs
 
--- src/places.rt:53:1
 same-length : tie.Need-same-length
 same-length c = search needs
 
--- src/places.rt:53:1
 returns : tie.Need-returns
 unfolding low-two place place-row
 returns c =

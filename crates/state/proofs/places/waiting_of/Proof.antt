@@ -5,27 +5,19 @@ use lib.Dec.{eqb}
 use borrow.Author.Needs.{needs}
 use Rattle.state.proofs.places.waiting_of.Statement.{statement}
 use Rattle.state.proofs.places.waiting_of.Tie as tie
-use Rattle.state.proofs.places.waiting_of.Reads as reads
-use Rattle.state.proofs.places.waiting_of.Lts as lts
-use Rattle.words.proofs.byte_at.Reads as byte-at-reads
 
--- src/places.rt:26:32
 mul-byte-at : tie.Need-mul-byte-at
 mul-byte-at c = search needs
 
--- src/places.rt:26:23
 add-byte-at : tie.Need-add-byte-at
 add-byte-at c = search needs
 
--- src/places.rt:26:23
 add-byte-at-2 : tie.Need-add-byte-at-2
 add-byte-at-2 c = search needs
 
--- src/places.rt:26:5
 byte-at-requires : tie.Need-byte-at-requires
 byte-at-requires c κs = search needs
 
--- src/places.rt:22:1
 returns : tie.Need-returns
 returns c = ap (λ (k : ℕ). eqb k 1) (c .byte-at .ensures .0)
 

@@ -3,19 +3,13 @@ use Rattle.rules.specs.Job.{bare-entry}
 use borrow.Author.Needs.{needs}
 use Rattle.state.proofs.rows.put_bare.Statement.{statement}
 use Rattle.state.proofs.rows.put_bare.Tie as tie
-use Rattle.state.proofs.rows.put_bare.Reads as reads
-use Rattle.state.proofs.rows.put_bare.Lts as lts
-use Rattle.state.proofs.rows.put_row.Reads as put-row-reads
 
--- src/rows.rt:63:5
 put-row-requires : tie.Need-put-row-requires
 put-row-requires c κs = search needs
 
--- src/rows.rt:59:1
 same-length : tie.Need-same-length
 same-length c = search needs
 
--- src/rows.rt:59:1
 returns : tie.Need-returns
 unfolding bare-entry
 returns c = c .before .before .put-row .ensures

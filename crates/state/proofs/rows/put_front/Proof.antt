@@ -1,43 +1,31 @@
 -- `state::rows::put_front` meets its contract: three splices side by side are one. Assumes nothing.
 use mathlib.Core.Path.{refl}
 use mathlib.Core.List.{[], _∷_}
-use Prim.Native.Nat.{_+_}
 use native.Mathlib.Omega.{arith}
 use Rattle.rules.specs.Report.{low-two}
 use Rattle.words.specs.Splice.{splice-then}
 use borrow.Author.Needs.{needs}
 use Rattle.state.proofs.rows.put_front.Statement.{statement}
 use Rattle.state.proofs.rows.put_front.Tie as tie
-use Rattle.state.proofs.rows.put_front.Reads as reads
-use Rattle.state.proofs.rows.put_front.Lts as lts
-use Rattle.words.proofs.put_byte.Reads as put-byte-reads
-use Rattle.words.proofs.put_two.Reads as put-two-reads
 
--- src/rows.rt:42:5
 put-byte-requires : tie.Need-put-byte-requires
 put-byte-requires c κs = search needs
 
--- src/rows.rt:43:24
 add-put-byte : tie.Need-add-put-byte
 add-put-byte c = search needs
 
--- src/rows.rt:43:5
 put-byte-requires-2 : tie.Need-put-byte-requires-2
 put-byte-requires-2 c κs = search needs
 
--- src/rows.rt:44:23
 add-put-two : tie.Need-add-put-two
 add-put-two c = search needs
 
--- src/rows.rt:44:5
 put-two-requires : tie.Need-put-two-requires
 put-two-requires c κs = search needs
 
--- src/rows.rt:38:1
 same-length : tie.Need-same-length
 same-length c = search needs
 
--- src/rows.rt:38:1
 returns : tie.Need-returns
 unfolding low-two
 returns c =

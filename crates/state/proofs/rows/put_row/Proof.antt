@@ -1,6 +1,6 @@
 -- `state::rows::put_row` meets its contract: three splices side by side are the row's twelve bytes. Assumes nothing.
 use mathlib.Core.Path.{refl}
-use mathlib.Core.List.{[], _∷_, _++_}
+use mathlib.Core.List.{_∷_, _++_}
 use native.Mathlib.Omega.{arith}
 use Rattle.rules.specs.Job.{entry}
 use Rattle.rules.specs.Report.{low-two, op-row}
@@ -9,40 +9,28 @@ use Rattle.state.specs.Layout.{row-at}
 use borrow.Author.Needs.{needs}
 use Rattle.state.proofs.rows.put_row.Statement.{statement}
 use Rattle.state.proofs.rows.put_row.Tie as tie
-use Rattle.state.proofs.rows.put_row.Reads as reads
-use Rattle.state.proofs.rows.put_row.Lts as lts
-use Rattle.state.proofs.rows.put_front.Reads as put-front-reads
-use Rattle.words.proofs.put_pair.Reads as put-pair-reads
 
--- src/rows.rt:52:14
 mul-at : tie.Need-mul-at
 mul-at c = search needs
 
--- src/rows.rt:53:5
 put-front-requires : tie.Need-put-front-requires
 put-front-requires c κs = search needs
 
--- src/rows.rt:54:24
 add-put-pair : tie.Need-add-put-pair
 add-put-pair c = search needs
 
--- src/rows.rt:54:5
 put-pair-requires : tie.Need-put-pair-requires
 put-pair-requires c κs = search needs
 
--- src/rows.rt:55:24
 add-put-pair-2 : tie.Need-add-put-pair-2
 add-put-pair-2 c = search needs
 
--- src/rows.rt:55:5
 put-pair-requires-2 : tie.Need-put-pair-requires-2
 put-pair-requires-2 c κs = search needs
 
--- src/rows.rt:48:1
 same-length : tie.Need-same-length
 same-length c = search needs
 
--- src/rows.rt:48:1
 returns : tie.Need-returns
 unfolding low-two op-row entry
 returns c =

@@ -1,17 +1,12 @@
 -- `state::start::put_rows` meets its contract. The loop's invariant: the first i rows are bare. The measure is how many are left.
 -- Assumes nothing.
 use mathlib.Core.Path.{_≡_, _∙_, ap}
-use mathlib.Core.List.{List}
 use Prim.Native.Nat.{ℕ, _-_}
 use native.Mathlib.Omega.{arith}
-use borrow.Author.Needs.{needs}
 use Rattle.rules.specs.Step.{splice}
 use Rattle.state.specs.Start.{Bare, bare-none, bare-more, bare-rows}
 use Rattle.state.proofs.start.put_rows.Statement.{statement}
 use Rattle.state.proofs.start.put_rows.Tie as tie
-use Rattle.state.proofs.start.put_rows.Reads as reads
-use Rattle.state.proofs.start.put_rows.Lts as lts
-use Rattle.state.proofs.rows.put_bare.Reads as put-bare-reads
 
 abbrev Inv-loop : tie.InvT-loop
 Inv-loop c₀ n i₀ c i = Bare c₀ c n i
@@ -19,36 +14,29 @@ Inv-loop c₀ n i₀ c i = Bare c₀ c n i
 abbrev μ-loop : tie.MeasureT-loop
 μ-loop c₀ n i₀ c i = n - i
 
--- src/start.rt:17:5
 loop-holds : tie.Need-loop-holds Inv-loop μ-loop
 loop-holds c =
     let a = c .before .args in
     bare-none (a .c .now) (a .n) (c .before .pre .0) (c .before .pre .1)
 
--- src/start.rt:18:9
 put-bare-requires : tie.Need-put-bare-requires Inv-loop μ-loop
 put-bare-requires c κs = omega arith
 
--- src/start.rt:19:9
 add-i : tie.Need-add-i Inv-loop μ-loop
 add-i c = omega arith
 
--- src/start.rt:17:5
 loop-less : tie.Need-loop-less Inv-loop μ-loop
 loop-less c = omega arith
 
--- src/start.rt:17:5
 loop-again : tie.Need-loop-again Inv-loop μ-loop
 loop-again c =
     let a = c .before .before .before .before .before .before .before .args in
     let l = c .before .before .before .before .before .loop in
     bare-more (a .c .now) (l .c) (c .before .before .put-bare .last .0) (a .n) (l .i) (l .inv) (c .before .before .before .before .loop-test .taken) (c .before .before .put-bare .ensures)
 
--- src/start.rt:12:1
 same-length : tie.Need-same-length Inv-loop μ-loop
 same-length c = omega arith
 
--- src/start.rt:12:1
 returns : tie.Need-returns Inv-loop μ-loop
 returns c =
     let a = c .before .before .before .args in

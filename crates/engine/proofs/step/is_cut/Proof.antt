@@ -1,0 +1,17 @@
+-- `engine::step::is_cut` meets its contract. Assumes nothing.
+use borrow.Author.Tests.{lt-ltb, le-ltb}
+use Rattle.engine.proofs.step.is_cut.Statement.{statement}
+use Rattle.engine.proofs.step.is_cut.Tie as tie
+use Rattle.engine.proofs.step.is_cut.Reads as reads
+use Rattle.engine.proofs.step.is_cut.Lts as lts
+
+-- src/step.rt:45:1
+returns : tie.Need-returns
+returns c = let t = lt-ltb (c .before .args .capacity) (c .before .args .long) (c .if1 .taken) in rw t
+
+-- src/step.rt:45:1
+returns-2 : tie.Need-returns-2
+returns-2 c = let t = le-ltb (c .before .args .capacity) (c .before .args .long) (c .if1 .left) in rw t
+
+pub is-cut-spec : {M : Type 1} → statement M
+is-cut-spec = tie.close (tie.spec returns returns-2)
