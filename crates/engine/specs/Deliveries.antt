@@ -177,6 +177,12 @@ painting-more s c lent i inbox after q e h =
 pub painting-at : {s : Sheet} {c lent inbox : List ℕ} {i k : ℕ} → i ≡ k → Painting s c lent i inbox → Painting s c lent k inbox
 painting-at {s} {c} {lent} {inbox} e q = subst (λ (n : ℕ). Painting s c lent n inbox) e q
 
+-- the script of board r is delivered: what was done before it was met is done, and its own operations too
+abbrev pub Script-delivered : Sheet → (c : List ℕ) → (r : ℕ) → (met inbox : List ℕ) → Type 0
+Script-delivered s c r met inbox =
+    (lent : List ℕ) → Painting s c lent (board s r .first) met →
+    Painting s c lent (board s r .first + board s r .count) inbox
+
 -- in the script of board r, which was met with inboxes `met`, the operations before i are delivered too
 pub record Scripting (s : Sheet) (c : List ℕ) (r : ℕ) (met : List ℕ) (i : ℕ) (inbox : List ℕ) : Type 0 where
   pub lower : board s r .first ≤ i
@@ -218,7 +224,7 @@ unfolding inbox-total
 filling-start {s} {c} {lent} {inbox} {r} {start} g q l = omega (arith, q .start-is, g .inbox-order r (P-of s) l (omega arith), g .inbox-small)
 
 pub filling-more : (s : Sheet) → Good s → (c lent : List ℕ) (r start : ℕ) (inbox after : List ℕ) (more : ℕ) → Filling s c lent r start inbox → r < P-of s → more ≡ board s r .inbox →
-    ((i : List ℕ) → Painting s c i (board s r .first) inbox → Painting s c i (board s r .first + board s r .count) after) → Filling s c lent (r + 1) (start + more) after
+    Script-delivered s c r inbox after → Filling s c lent (r + 1) (start + more) after
 filling-more s g c lent r start inbox after more q l e h =
     let first : board s r .first ≡ counts-before s r = good-first s g r l in
     let next : r + 1 ≡ suc r = add-one r in
