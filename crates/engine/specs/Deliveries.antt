@@ -103,7 +103,8 @@ module _ (bs : List ℕ) (l : Laid bs) (g : Good (sheet-in bs)) (m r : ℕ)
   area-end = area-inside sheet g r receives
 
   -- a part of the payload, as the sheet's bytes have it
-  payload-part : (off n : ℕ) → off + n ≤ length (sheet .payload) → take n (drop off (sheet .payload)) ≡ take n (drop (payload-at (P-in bs) (N-in bs) + off) bs)
+  payload-part : (off n : ℕ) → off + n ≤ length (sheet .payload) →
+      take n (drop off (sheet .payload)) ≡ take n (drop (payload-at (P-in bs) (N-in bs) + off) bs)
   unfolding sheet-in
   payload-part off n h =
       let pa = payload-at (P-in bs) (N-in bs) in
@@ -112,7 +113,8 @@ module _ (bs : List ℕ) (l : Laid bs) (g : Good (sheet-in bs)) (m r : ℕ)
       ∙ ap (λ (z : List ℕ). take n z) (drop-drop off pa bs)
 
   -- a message that is longer than the area leaves all as it was
-  pub delivered-cut : (inbox : List ℕ) → inbox-total sheet ≤ length inbox → op sheet r .long < op sheet m .long → inbox ≡ delivered sheet m r inbox
+  pub delivered-cut : (inbox : List ℕ) → inbox-total sheet ≤ length inbox → op sheet r .long < op sheet m .long →
+      inbox ≡ delivered sheet m r inbox
   unfolding delivered copied is-cut area-start
   delivered-cut inbox room longer =
       let none : copied sheet m r ≡ 0 = ap (λ (b : Bool). cond b 0 (op sheet m .long)) (lt-ltb (op sheet r .long) (op sheet m .long) longer) in
@@ -121,7 +123,8 @@ module _ (bs : List ℕ) (l : Laid bs) (g : Good (sheet-in bs)) (m r : ℕ)
       ∙ splice-none inbox (area-start sheet r) (omega (arith, area-end)))
 
   -- any other is copied to the front of the part that is the area
-  pub delivered-part : (inbox : List ℕ) (from size area end : ℕ) → inbox-total sheet ≤ length inbox → (op sheet r .long < op sheet m .long → ⊥) →
+  pub delivered-part : (inbox : List ℕ) (from size area end : ℕ) → inbox-total sheet ≤ length inbox →
+      (op sheet r .long < op sheet m .long → ⊥) →
       from ≡ payload-at (P-in bs) (N-in bs) + op sheet m .offset → size ≡ op sheet m .long → area ≡ area-start sheet r → end ≡ area + op sheet r .long →
       putMid area (end - area) inbox (splice (midOf area (end - area) inbox) 0 (take size (drop from bs))) ≡ delivered sheet m r inbox
   unfolding delivered copied is-cut area-start
@@ -139,7 +142,8 @@ module _ (bs : List ℕ) (l : Laid bs) (g : Good (sheet-in bs)) (m r : ℕ)
 
 -- ONE OPERATION: its row tells a delivery or none
 module _ (s : Sheet) (c : List ℕ) (j : ℕ) (inbox : List ℕ) where
-  pub paint-in-due : is-receive (op s j) ≡ true → entry-in c (row-at j) .state ≡ 3 → delivered s (entry-in c (row-at j) .partner) j inbox ≡ paint-in s c j inbox
+  pub paint-in-due : is-receive (op s j) ≡ true → entry-in c (row-at j) .state ≡ 3 →
+      delivered s (entry-in c (row-at j) .partner) j inbox ≡ paint-in s c j inbox
   unfolding paint-in
   paint-in-due e f = cc (e, eq-eqb (entry-in c (row-at j) .state) 3 f)
 
@@ -166,7 +170,8 @@ pub painting-none : (s : Sheet) (c lent : List ℕ) → Painting s c lent 0 lent
 unfolding painted-in
 painting-none s c lent = record { is = refl; size = refl }
 
-pub painting-more : (s : Sheet) (c lent : List ℕ) (i : ℕ) (inbox after : List ℕ) → Painting s c lent i inbox → after ≡ paint-in s c i inbox → length after ≡ length inbox → Painting s c lent (i + 1) after
+pub painting-more : (s : Sheet) (c lent : List ℕ) (i : ℕ) (inbox after : List ℕ) → Painting s c lent i inbox →
+    after ≡ paint-in s c i inbox → length after ≡ length inbox → Painting s c lent (i + 1) after
 unfolding painted-in
 painting-more s c lent i inbox after q e h =
     record {
@@ -197,7 +202,9 @@ scripting-none s c r met i e =
       goes = λ lent q. painting-at (sym e) q;
     }
 
-pub scripting-more : (s : Sheet) (c : List ℕ) (r : ℕ) (met : List ℕ) (i : ℕ) (inbox after : List ℕ) → Scripting s c r met i inbox → after ≡ paint-in s c i inbox → length after ≡ length inbox → Scripting s c r met (i + 1) after
+pub scripting-more : (s : Sheet) (c : List ℕ) (r : ℕ) (met : List ℕ) (i : ℕ) (inbox after : List ℕ) →
+    Scripting s c r met i inbox → after ≡ paint-in s c i inbox → length after ≡ length inbox →
+    Scripting s c r met (i + 1) after
 scripting-more s c r met i inbox after q e h =
     record {
       lower = omega (arith, q .lower);
@@ -219,11 +226,13 @@ filling-none s c lent =
       painting = painting-at (sym (counts-none s)) (painting-none s c lent);
     }
 
-pub filling-start : {s : Sheet} {c lent inbox : List ℕ} {r start : ℕ} → Good s → Filling s c lent r start inbox → r < P-of s → start ≤ most-inbox
+pub filling-start : {s : Sheet} {c lent inbox : List ℕ} {r start : ℕ} → Good s → Filling s c lent r start inbox →
+    r < P-of s → start ≤ most-inbox
 unfolding inbox-total
 filling-start {s} {c} {lent} {inbox} {r} {start} g q l = omega (arith, q .start-is, g .inbox-order r (P-of s) l (omega arith), g .inbox-small)
 
-pub filling-more : (s : Sheet) → Good s → (c lent : List ℕ) (r start : ℕ) (inbox after : List ℕ) (more : ℕ) → Filling s c lent r start inbox → r < P-of s → more ≡ board s r .inbox →
+pub filling-more : (s : Sheet) → Good s → (c lent : List ℕ) (r start : ℕ) (inbox after : List ℕ) (more : ℕ) →
+    Filling s c lent r start inbox → r < P-of s → more ≡ board s r .inbox →
     Script-delivered s c r inbox after → Filling s c lent (r + 1) (start + more) after
 filling-more s g c lent r start inbox after more q l e h =
     let first : board s r .first ≡ counts-before s r = good-first s g r l in
@@ -237,16 +246,19 @@ filling-more s g c lent r start inbox after more q l e h =
     }
 
 -- rows of a job that stands in scratch tell what its entries tell
-painted-rows : (bs c lent : List ℕ) (t : Tally) (x : Job) → Stands bs lent c t x → (n : ℕ) → n ≤ N-of (sheet-in bs) → painted-in (sheet-in bs) c n lent ≡ painted (sheet-in bs) x n lent
+painted-rows : (bs c lent : List ℕ) (t : Tally) (x : Job) → Stands bs lent c t x → (n : ℕ) → n ≤ N-of (sheet-in bs) →
+    painted-in (sheet-in bs) c n lent ≡ painted (sheet-in bs) x n lent
 unfolding painted-in painted
 painted-rows bs c lent t x h zero l = refl
 painted-rows bs c lent t x h (suc n) l =
     ap (λ (z : List ℕ). paint-in (sheet-in bs) c n z) (painted-rows bs c lent t x h n (omega arith))
     ∙ row (painted (sheet-in bs) x n lent) (entry-is (sheet-in bs) c t x (h .decodes) n (omega arith))
   where
-    row : (inbox : List ℕ) → entry-in c (row-at n) ≡ entry-at x n → paint-in (sheet-in bs) c n inbox ≡ paint (sheet-in bs) x n inbox
+    row : (inbox : List ℕ) → entry-in c (row-at n) ≡ entry-at x n →
+        paint-in (sheet-in bs) c n inbox ≡ paint (sheet-in bs) x n inbox
     row inbox e = unfold paint-in paint in ap (λ (z : Entry). cond (is-receive (op (sheet-in bs) n) && eqb (z .state) 3) (delivered (sheet-in bs) (z .partner) n inbox) inbox) e
 
-pub memory-is : (bs c lent inbox : List ℕ) (n : ℕ) → Painting (sheet-in bs) c lent n inbox → n ≡ N-of (sheet-in bs) → (t : Tally) (x : Job) → Stands bs lent c t x → inbox ≡ x .memory
+pub memory-is : (bs c lent inbox : List ℕ) (n : ℕ) → Painting (sheet-in bs) c lent n inbox → n ≡ N-of (sheet-in bs) →
+    (t : Tally) (x : Job) → Stands bs lent c t x → inbox ≡ x .memory
 memory-is bs c lent inbox n q e t x h =
     q .is ∙ ap (λ (k : ℕ). painted-in (sheet-in bs) c k lent) e ∙ painted-rows bs c lent t x h (N-of (sheet-in bs)) (omega arith) ∙ sym (h .reached .memory-painted)

@@ -74,7 +74,8 @@ module _ (bs lent c : List ℕ) (t : Tally) (x : Job) (d : Stands bs lent c t x)
       ∙ ap (λ (f : Bool). cond f 2 (cond (able s x r) 1 0)) (sym (finished-no q))
 
   -- a board row, with its figures as they were read
-  pub row-is : (charged peak state : ℕ) → charged ≡ place-in c (seat-at r) .in-use → peak ≡ place-in c (seat-at r) .peak → state ≡ board-state s x r → state ≤ 2 →
+  pub row-is : (charged peak state : ℕ) → charged ≡ place-in c (seat-at r) .in-use → peak ≡ place-in c (seat-at r) .peak →
+      state ≡ board-state s x r → state ≤ 2 →
       (low-two done ++ low-two charged) ++ (low-two peak ++ low-two state) ≡ board-row s x r
   unfolding board-row low-two
   row-is charged peak state u p v small =
@@ -195,10 +196,12 @@ module _ (bs lent c : List ℕ) (t : Tally) (x : Job) (d : Stands bs lent c t x)
   pub verdict-finished : t .verdict ≡ 0 → all-finished (P-of here) 0 here x ≡ true → 1 ≡ verdict-of (x .stop) here x
   verdict-finished h e = sym (going h ∙ ap (λ (b : Bool). cond b 1 (cond (none-able here x) 2 0)) e)
 
-  pub verdict-deadlock : t .verdict ≡ 0 → all-finished (P-of here) 0 here x ≡ false → none-able here x ≡ true → 2 ≡ verdict-of (x .stop) here x
+  pub verdict-deadlock : t .verdict ≡ 0 → all-finished (P-of here) 0 here x ≡ false → none-able here x ≡ true →
+      2 ≡ verdict-of (x .stop) here x
   verdict-deadlock h e f = sym (going h ∙ cc (e, f))
 
-  pub verdict-going : t .verdict ≡ 0 → all-finished (P-of here) 0 here x ≡ false → none-able here x ≡ false → 0 ≡ verdict-of (x .stop) here x
+  pub verdict-going : t .verdict ≡ 0 → all-finished (P-of here) 0 here x ≡ false → none-able here x ≡ false →
+      0 ≡ verdict-of (x .stop) here x
   verdict-going h e f = sym (going h ∙ cc (e, f))
 
   -- THE STOP
@@ -222,7 +225,8 @@ module _ (bs lent c : List ℕ) (t : Tally) (x : Job) (d : Stands bs lent c t x)
   abbrev rest : (steps messages receives cut : ℕ) → List ℕ
   rest k m r q = low-two k ++ (low-two (P-of here) ++ (low-two (N-of here) ++ (low-two m ++ (low-two r ++ low-two q))))
 
-  pub header-is : (v : ℕ) → v ≡ verdict-of (x .stop) here x → v ≤ 4 → front-bytes v t (P-of here) ++ back-bytes here c ≡ header-bytes here x
+  pub header-is : (v : ℕ) → v ≡ verdict-of (x .stop) here x → v ≤ 4 →
+      front-bytes v t (P-of here) ++ back-bytes here c ≡ header-bytes here x
   unfolding front-bytes back-bytes header-bytes low-two
   header-is v e small =
       let m = count-from (N-of here) 0 (message-row here c) in
@@ -240,7 +244,8 @@ module _ (bs lent c : List ℕ) (t : Tally) (x : Job) (d : Stands bs lent c t x)
   header-long = ap (λ (b : List ℕ). length (verdict-of (x .stop) here x ∷ (b ++ rest (x .steps) (pending-messages here x) (pending-receives here x) (cut-messages here x)))) stop-bytes-are
 
   -- THE WHOLE: three stretches side by side
-  pub report-whole : (met one two all : List ℕ) → report-size (P-of here) (N-of here) ≤ length met → one ≡ splice met 0 (header-bytes here x) →
+  pub report-whole : (met one two all : List ℕ) → report-size (P-of here) (N-of here) ≤ length met →
+      one ≡ splice met 0 (header-bytes here x) →
       two ≡ splice one 16 (joined (board-row here x) 0 (P-of here)) → all ≡ splice two (16 + 8 * P-of here) (joined (row-in c) 0 (N-of here)) →
       all ≡ in-front (report here x) met
   unfolding report in-front

@@ -55,7 +55,8 @@ rowing-none f at met h =
       is = sym (splice-none met at h);
     }
 
-pub rowing-more : (f : ℕ → List ℕ) (at : ℕ) (met out after : List ℕ) (i long : ℕ) → Rowing f at met out i → length (joined f 0 i) ≡ long →
+pub rowing-more : (f : ℕ → List ℕ) (at : ℕ) (met out after : List ℕ) (i long : ℕ) → Rowing f at met out i →
+    length (joined f 0 i) ≡ long →
     after ≡ splice out (at + long) (f i) → at + (length (joined f 0 i) + length (f i)) ≤ length met → Rowing f at met after (i + 1)
 rowing-more f at met out after i long q e w h =
     let next : joined f 0 (i + 1) ≡ joined f 0 i ++ f i = ap (λ (k : ℕ). joined f 0 k) (add-one i) ∙ joined-more f 0 i ∙ ap (λ (k : ℕ). joined f 0 i ++ f k) (omega arith) in
@@ -108,7 +109,8 @@ module _ (c : List ℕ) (bytes : (k : ℕ) → getD c k 0 < 256) where
   part-one n at next l e =
       ap (λ (z : List ℕ). take (suc n) z) (drop-cons c at 0 l) ∙ ap (λ (k : ℕ). getD c at 0 ∷ take n (drop k c)) (sym (add-one at) ∙ e)
 
-  part-two : (n at next : ℕ) → at + 1 < length c → at + 2 ≡ next → take (suc (suc n)) (drop at c) ≡ low-two (two c at) ++ take n (drop next c)
+  part-two : (n at next : ℕ) → at + 1 < length c → at + 2 ≡ next →
+      take (suc (suc n)) (drop at c) ≡ low-two (two c at) ++ take n (drop next c)
   unfolding two
   part-two n at next l e =
       part-one (suc n) at (at + 1) (omega arith) refl
