@@ -133,9 +133,9 @@ module _ (bs : List ℕ) (l : Laid bs) (g : Good (sheet-in bs)) (m r : ℕ)
       let inside : from + size ≤ length bs = omega (arith, message-end) in
       let long : length (take size (drop from bs)) ≡ size = length-take-le size (drop from bs) (omega (arith, length-drop from bs)) in
       let bytes : take size (drop from bs) ≡ take (copied sheet m r) (drop (op sheet m .offset) (sheet .payload)) =
-          ap (λ (n : ℕ). take size (drop n bs)) ef
-          ∙ sym (payload-part (op sheet m .offset) size (omega (arith, send-extent sheet g m sends)))
-          ∙ ap (λ (n : ℕ). take n (drop (op sheet m .offset) (sheet .payload))) (es ∙ sym all) in
+      ap (λ (n : ℕ). take size (drop n bs)) ef
+      ∙ sym (payload-part (op sheet m .offset) size (omega (arith, send-extent sheet g m sends)))
+      ∙ ap (λ (n : ℕ). take n (drop (op sheet m .offset) (sheet .payload))) (es ∙ sym all) in
       part-splice inbox area end (take size (drop from bs)) (omega arith) (omega (arith, area-end)) (omega arith)
       ∙ ap (λ (vs : List ℕ). splice inbox area vs) bytes
       ∙ ap (λ (n : ℕ). splice inbox n (take (copied sheet m r) (drop (op sheet m .offset) (sheet .payload)))) ea

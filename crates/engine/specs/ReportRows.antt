@@ -63,8 +63,8 @@ rowing-more f at met out after i long q e w h =
     let is : after ≡ splice met at (joined f 0 i ++ f i) = splice-then met out after at long (joined f 0 i) (f i) (q .is) e w h in
     record {
       size =
-        ap (λ (z : List ℕ). length z) is
-        ∙ splice-length met at (joined f 0 i ++ f i) (omega (arith, length-append (joined f 0 i) (f i)));
+          ap (λ (z : List ℕ). length z) is
+          ∙ splice-length met at (joined f 0 i ++ f i) (omega (arith, length-append (joined f 0 i) (f i)));
       is = is ∙ ap (λ (vs : List ℕ). splice met at vs) (sym next);
     }
 

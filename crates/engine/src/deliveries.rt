@@ -21,12 +21,10 @@ use state::rows;
 
 // Message m to receive r, whose board's inbox starts at `start`. A message longer than the area is cut: nothing is copied.
 fn deliver_message(s: &[u8], m: usize, r: usize, start: usize, inbox: &mut [u8])
-    requires {
-        ⌜ Laid (now s) × Good (sheet-in (now s))
+    requires { ⌜ Laid (now s) × Good (sheet-in (now s))
         × (is-send (op (sheet-in (now s)) m) ≡ true) × (is-receive (op (sheet-in (now s)) r) ≡ true)
         × (start ≡ inbox-start (sheet-in (now s)) (rank-of (sheet-in (now s)) r))
-        × (inbox-total (sheet-in (now s)) ≤ length (now inbox)) ⌝
-    }
+        × (inbox-total (sheet-in (now s)) ≤ length (now inbox)) ⌝ }
     ensures { λ _. ⌜ now (inbox .exit) ≡ delivered (sheet-in (now (s .entry))) m r (now (inbox .entry)) ⌝ }
 {
     let table = 16 + 8 * header::boards(s);
@@ -45,11 +43,9 @@ fn deliver_message(s: &[u8], m: usize, r: usize, start: usize, inbox: &mut [u8])
 
 // Operation i: a receive that is matched has its message delivered.
 fn deliver_one(s: &[u8], c: &[u8], i: usize, start: usize, inbox: &mut [u8])
-    requires {
-        ⌜ Deliverable (now s) (now c) × (i < N-in (now s))
+    requires { ⌜ Deliverable (now s) (now c) × (i < N-in (now s))
         × (start ≡ inbox-start (sheet-in (now s)) (rank-of (sheet-in (now s)) i))
-        × (inbox-total (sheet-in (now s)) ≤ length (now inbox)) ⌝
-    }
+        × (inbox-total (sheet-in (now s)) ≤ length (now inbox)) ⌝ }
     ensures { λ _. ⌜ now (inbox .exit) ≡ paint-in (sheet-in (now (s .entry))) (now (c .entry)) i (now (inbox .entry)) ⌝ }
 {
     let at = 16 + 8 * header::boards(s) + 16 * i;
@@ -65,11 +61,9 @@ fn deliver_one(s: &[u8], c: &[u8], i: usize, start: usize, inbox: &mut [u8])
 
 // The script of board r, whose inbox starts at `start`.
 fn deliver_script(s: &[u8], c: &[u8], r: usize, start: usize, inbox: &mut [u8])
-    requires {
-        ⌜ Deliverable (now s) (now c) × (r < P-in (now s))
+    requires { ⌜ Deliverable (now s) (now c) × (r < P-in (now s))
         × (start ≡ inbox-start (sheet-in (now s)) r)
-        × (inbox-total (sheet-in (now s)) ≤ length (now inbox)) ⌝
-    }
+        × (inbox-total (sheet-in (now s)) ≤ length (now inbox)) ⌝ }
     ensures { λ _. ⌜ Script-delivered (sheet-in (now (s .entry))) (now (c .entry)) r (now (inbox .entry)) (now (inbox .exit)) ⌝ }
 {
     let mut i = boards::first(s, r);
@@ -84,10 +78,8 @@ fn deliver_script(s: &[u8], c: &[u8], r: usize, start: usize, inbox: &mut [u8])
 // one after another too, so `start` is a running sum.
 pub fn deliver(s: &[u8], c: &[u8], inbox: &mut [u8])
     requires { ⌜ Deliverable (now s) (now c) × (inbox-total (sheet-in (now s)) ≤ length (now inbox)) ⌝ }
-    ensures {
-        λ _. ⌜ ((t : Tally) (x : Job) → Stands (now (s .entry)) (now (inbox .entry)) (now (c .entry)) t x →
-        now (inbox .exit) ≡ x .memory) ⌝
-    }
+    ensures { λ _. ⌜ ((t : Tally) (x : Job) → Stands (now (s .entry)) (now (inbox .entry)) (now (c .entry)) t x →
+        now (inbox .exit) ≡ x .memory) ⌝ }
 {
     let p = header::boards(s);
     let mut start = 0;

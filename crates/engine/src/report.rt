@@ -62,10 +62,8 @@ fn board_state(s: &[u8], c: &[u8], t: Tally, r: usize) -> usize
 // The row of board r: operations finished, buffer in use, peak, state and a zero byte.
 fn board_row(s: &[u8], c: &[u8], t: Tally, r: usize, out: &mut [u8])
     requires { ⌜ Standing (now s) (now c) t × (r < P-in (now s)) × (16 + 8 * r + 8 ≤ length (now out)) ⌝ }
-    ensures {
-        λ _. ⌜ Every (now (s .entry)) (now (c .entry)) t
-        (λ x. now (out .exit) ≡ splice (now (out .entry)) (16 + 8 * r) (board-row (sheet-in (now (s .entry))) x r)) ⌝
-    }
+    ensures { λ _. ⌜ Every (now (s .entry)) (now (c .entry)) t
+        (λ x. now (out .exit) ≡ splice (now (out .entry)) (16 + 8 * r) (board-row (sheet-in (now (s .entry))) x r)) ⌝ }
 {
     let at = 16 + 8 * r;
     let finished = places::finished_of(c, r);
@@ -79,11 +77,9 @@ fn board_row(s: &[u8], c: &[u8], t: Tally, r: usize, out: &mut [u8])
 // The rows of all boards.
 fn board_rows(s: &[u8], c: &[u8], t: Tally, out: &mut [u8])
     requires { ⌜ Standing (now s) (now c) t × (16 + 8 * P-in (now s) ≤ length (now out)) ⌝ }
-    ensures {
-        λ _. ⌜ Every (now (s .entry)) (now (c .entry)) t
+    ensures { λ _. ⌜ Every (now (s .entry)) (now (c .entry)) t
         (λ x. now (out .exit) ≡ splice (now (out .entry)) 16
-        (joined (board-row (sheet-in (now (s .entry))) x) 0 (P-of (sheet-in (now (s .entry)))))) ⌝
-    }
+        (joined (board-row (sheet-in (now (s .entry))) x) 0 (P-of (sheet-in (now (s .entry)))))) ⌝ }
 {
     let p = header::boards(s);
     let mut r = 0;
@@ -96,10 +92,8 @@ fn board_rows(s: &[u8], c: &[u8], t: Tally, out: &mut [u8])
 // Whether all boards are finished.
 fn all_are_finished(s: &[u8], c: &[u8]) -> bool
     requires { ⌜ Laid (now s) × (scratch-size ≤ length (now c)) ⌝ }
-    ensures {
-        λ b. ⌜ ((t : Tally) → Every (now (s .entry)) (now (c .entry)) t
-        (λ x. b ≡ all-finished (P-of (sheet-in (now (s .entry)))) 0 (sheet-in (now (s .entry))) x)) ⌝
-    }
+    ensures { λ b. ⌜ ((t : Tally) → Every (now (s .entry)) (now (c .entry)) t
+        (λ x. b ≡ all-finished (P-of (sheet-in (now (s .entry)))) 0 (sheet-in (now (s .entry))) x)) ⌝ }
 {
     let p = header::boards(s);
     let mut r = 0;
@@ -131,10 +125,8 @@ fn none_is_able(s: &[u8], c: &[u8], t: Tally) -> bool
 // The verdict: 3 overflow and 4 not ready stopped the job; else 1 all finished; else 2 none able; else 0.
 fn verdict(s: &[u8], c: &[u8], t: Tally) -> usize
     requires { ⌜ Standing (now s) (now c) t ⌝ }
-    ensures {
-        λ v. ⌜ Every (now (s .entry)) (now (c .entry)) t (λ x. v ≡ verdict-of (x .stop) (sheet-in (now (s .entry))) x)
-        × (v ≤ 4) ⌝
-    }
+    ensures { λ v. ⌜ Every (now (s .entry)) (now (c .entry)) t (λ x. v ≡ verdict-of (x .stop) (sheet-in (now (s .entry))) x)
+        × (v ≤ 4) ⌝ }
 {
     if t.verdict != 0 {
         return t.verdict;
@@ -169,7 +161,11 @@ fn message_at(s: &[u8], c: &[u8], at: usize, i: usize) -> usize
 {
     let kind = ops::kind(s, at);
     let state = rows::state_of(c, i);
-    if ((1 <= kind) & (kind <= 4)) & ((state == 1) | (state == 2)) { 1 } else { 0 }
+    if ((1 <= kind) & (kind <= 4)) & ((state == 1) | (state == 2)) {
+        1
+    } else {
+        0
+    }
 }
 
 // 1 if it is a pending receive, else 0.
@@ -200,11 +196,9 @@ struct Counts {
 // The three of them, in one pass over the rows.
 fn count_rows(s: &[u8], c: &[u8]) -> Counts
     requires { ⌜ Laid (now s) × (scratch-size ≤ length (now c)) ⌝ }
-    ensures {
-        λ k. ⌜ (k .messages ≡ count-from (N-in (now (s .entry))) 0 (message-row (sheet-in (now (s .entry))) (now (c .entry))))
+    ensures { λ k. ⌜ (k .messages ≡ count-from (N-in (now (s .entry))) 0 (message-row (sheet-in (now (s .entry))) (now (c .entry))))
         × (k .receives ≡ count-from (N-in (now (s .entry))) 0 (receive-row (sheet-in (now (s .entry))) (now (c .entry))))
-        × (k .cut ≡ count-from (N-in (now (s .entry))) 0 (cut-row (now (c .entry)))) ⌝
-    }
+        × (k .cut ≡ count-from (N-in (now (s .entry))) 0 (cut-row (now (c .entry)))) ⌝ }
 {
     let table = 16 + 8 * header::boards(s);
     let n = header::ops(s);
@@ -252,10 +246,8 @@ fn header_back(s: &[u8], c: &[u8], out: &mut [u8])
 // The header.
 fn put_header(s: &[u8], c: &[u8], t: Tally, out: &mut [u8])
     requires { ⌜ Standing (now s) (now c) t × (16 ≤ length (now out)) ⌝ }
-    ensures {
-        λ _. ⌜ Every (now (s .entry)) (now (c .entry)) t
-        (λ x. now (out .exit) ≡ splice (now (out .entry)) 0 (header-bytes (sheet-in (now (s .entry))) x)) ⌝
-    }
+    ensures { λ _. ⌜ Every (now (s .entry)) (now (c .entry)) t
+        (λ x. now (out .exit) ≡ splice (now (out .entry)) 0 (header-bytes (sheet-in (now (s .entry))) x)) ⌝ }
 {
     let v = verdict(s, c, t);
     header_front(s, t, v, out);
@@ -265,10 +257,8 @@ fn put_header(s: &[u8], c: &[u8], t: Tally, out: &mut [u8])
 // The whole report, in front of what else the room holds.
 pub fn write(s: &[u8], c: &[u8], t: Tally, out: &mut [u8])
     requires { ⌜ Standing (now s) (now c) t × (report-size (P-of (sheet-in (now s))) (N-of (sheet-in (now s))) ≤ length (now out)) ⌝ }
-    ensures {
-        λ _. ⌜ Every (now (s .entry)) (now (c .entry)) t
-        (λ x. now (out .exit) ≡ in-front (report (sheet-in (now (s .entry))) x) (now (out .entry))) ⌝
-    }
+    ensures { λ _. ⌜ Every (now (s .entry)) (now (c .entry)) t
+        (λ x. now (out .exit) ≡ in-front (report (sheet-in (now (s .entry))) x) (now (out .entry))) ⌝ }
 {
     put_header(s, c, t, out);
     board_rows(s, c, t, out);

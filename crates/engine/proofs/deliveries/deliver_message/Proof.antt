@@ -68,30 +68,30 @@ add-table : tie.Need-add-table
 add-table c = search needs
 
 mul-message : tie.Need-mul-message
-mul-message c = omega (arith, small-message (c  .before .before .before), c  .before .before .before .pre .1 .ops-few)
+mul-message c = omega (arith, small-message (c .before .before .before), c .before .before .before .pre .1 .ops-few)
 
 add-message : tie.Need-add-message
-add-message c = omega (arith, small-message (c  .before .before .before), c  .before .before .before .pre .1 .ops-few)
+add-message c = omega (arith, small-message (c .before .before .before), c .before .before .before .pre .1 .ops-few)
 
 mul-receive : tie.Need-mul-receive
-mul-receive c = omega (arith, small-receive (c  .before .before .before), c  .before .before .before .pre .1 .ops-few)
+mul-receive c = omega (arith, small-receive (c .before .before .before), c .before .before .before .pre .1 .ops-few)
 
 add-receive : tie.Need-add-receive
-add-receive c = omega (arith, small-receive (c  .before .before .before), c  .before .before .before .pre .1 .ops-few)
+add-receive c = omega (arith, small-receive (c .before .before .before), c .before .before .before .pre .1 .ops-few)
 
 long-requires : tie.Need-long-requires
-long-requires c κs = op-within (c  .before .before .before .args .s .now) (c  .before .before .before .args .m) (c .boards .result) (small-message (c  .before .before .before)) (c .boards .ensures .0) (c  .before .before .before .pre .0 .whole)
+long-requires c κs = op-within (c .before .before .before .args .s .now) (c .before .before .before .args .m) (c .boards .result) (small-message (c .before .before .before)) (c .boards .ensures .0) (c .before .before .before .pre .0 .whole)
 
 long-requires-2 : tie.Need-long-requires-2
-long-requires-2 c κs = op-within (c  .before .before .before .before .args .s .now) (c  .before .before .before .before .args .r) (c  .before .boards .result) (small-receive (c  .before .before .before .before)) (c  .before .boards .ensures .0) (c  .before .before .before .before .pre .0 .whole)
+long-requires-2 c κs = op-within (c .before .before .before .before .args .s .now) (c .before .before .before .before .args .r) (c .before .boards .result) (small-receive (c .before .before .before .before)) (c .before .boards .ensures .0) (c .before .before .before .before .pre .0 .whole)
 
 returns : tie.Need-returns
 returns c =
-    let z = c  .before .before .before .before .before .before in
+    let z = c .before .before .before .before .before .before in
     let p = z .pre in
-    let b = c  .before .before .before .boards in
+    let b = c .before .before .before .boards in
     delivered-cut (z .args .s .now) (p .0) (p .1) (z .args .m) (z .args .r) (p .2) (p .3) (z .args .inbox .now) (p .5)
-    (omega (arith, c  .before .before .long .ensures .0, c  .before .long2 .ensures .0, long-message z (b .result) (b .ensures .0), long-receive z (b .result) (b .ensures .0)))
+    (omega (arith, c .before .before .long .ensures .0, c .before .long2 .ensures .0, long-message z (b .result) (b .ensures .0), long-receive z (b .result) (b .ensures .0)))
 
 ops-requires : tie.Need-ops-requires
 ops-requires c κs = search needs
@@ -103,19 +103,19 @@ add-from : tie.Need-add-from
 add-from c = search needs
 
 offset-requires : tie.Need-offset-requires
-offset-requires c κs = op-within (c  .before .before .before .before .before .before .before .args .s .now) (c  .before .before .before .before .before .before .before .args .m) (c  .before .before .before .before .boards .result) (small-message (c  .before .before .before .before .before .before .before)) (c  .before .before .before .before .boards .ensures .0) (c  .before .before .before .before .before .before .before .pre .0 .whole)
+offset-requires c κs = op-within (c .before .before .before .before .before .before .before .args .s .now) (c .before .before .before .before .before .before .before .args .m) (c .before .before .before .before .boards .result) (small-message (c .before .before .before .before .before .before .before)) (c .before .before .before .before .boards .ensures .0) (c .before .before .before .before .before .before .before .pre .0 .whole)
 
 add-from-2 : tie.Need-add-from-2
 add-from-2 c = search needs
 
 offset-requires-2 : tie.Need-offset-requires-2
-offset-requires-2 c κs = op-within (c  .before .before .before .before .before .before .before .before .args .s .now) (c  .before .before .before .before .before .before .before .before .args .r) (c  .before .before .before .before .before .boards .result) (small-receive (c  .before .before .before .before .before .before .before .before)) (c  .before .before .before .before .before .boards .ensures .0) (c  .before .before .before .before .before .before .before .before .pre .0 .whole)
+offset-requires-2 c κs = op-within (c .before .before .before .before .before .before .before .before .args .s .now) (c .before .before .before .before .before .before .before .before .args .r) (c .before .before .before .before .before .boards .result) (small-receive (c .before .before .before .before .before .before .before .before)) (c .before .before .before .before .before .boards .ensures .0) (c .before .before .before .before .before .before .before .before .pre .0 .whole)
 
 add-area : tie.Need-add-area
-add-area c = omega (arith, area-small (c  .before .before .before .before .before .before .before .before .before) (c  .before .before .before .before .before .before .boards .result) (c  .before .before .before .before .before .before .boards .ensures .0))
+add-area c = omega (arith, area-small (c .before .before .before .before .before .before .before .before .before) (c .before .before .before .before .before .before .boards .result) (c .before .before .before .before .before .before .boards .ensures .0))
 
 add-end : tie.Need-add-end
-add-end c = omega (arith, area-small (c  .before .before .before .before .before .before .before .before .before) (c  .before .before .before .before .before .before .boards .result) (c  .before .before .before .before .before .before .boards .ensures .0))
+add-end c = omega (arith, area-small (c .before .before .before .before .before .before .before .before .before) (c .before .before .before .before .before .before .boards .result) (c .before .before .before .before .before .before .boards .ensures .0))
 
 sub-copy : tie.Need-sub-copy
 sub-copy c = search needs
@@ -124,17 +124,17 @@ part-copy-start : tie.Need-part-copy-start
 part-copy-start c = search needs
 
 part-copy-end : tie.Need-part-copy-end
-part-copy-end c = omega (arith, c  .before .before .before .before .before .before .before .before .before .pre .5, area-small (c  .before .before .before .before .before .before .before .before .before) (c  .before .before .before .before .before .before .boards .result) (c  .before .before .before .before .before .before .boards .ensures .0))
+part-copy-end c = omega (arith, c .before .before .before .before .before .before .before .before .before .pre .5, area-small (c .before .before .before .before .before .before .before .before .before) (c .before .before .before .before .before .before .boards .result) (c .before .before .before .before .before .before .boards .ensures .0))
 
 copy-requires : tie.Need-copy-requires
 copy-requires c κs =
-    let z = c  .before .before .before .before .before .before .before .before .before .before in
-    let b = c  .before .before .before .before .before .before .before .boards in
+    let z = c .before .before .before .before .before .before .before .before .before .before in
+    let b = c .before .before .before .before .before .before .before .boards in
     let small = area-small z (b .result) (b .ensures .0) in
-    let area = z .args .start + c  .before .offset2 .result in
-    let room : area + c  .before .before .before .before .before .long2 .result ≤ length (z .args .inbox .now) = omega (arith, z .pre .5) in
-    let first : 0 + c  .before .before .before .before .before .before .long .result ≤ length (midOf area ((area + c  .before .before .before .before .before .long2 .result) - area) (z .args .inbox .now)) =
-        omega (arith, mid-len area (area + c  .before .before .before .before .before .long2 .result) (z .args .inbox .now) room) in
+    let area = z .args .start + c .before .offset2 .result in
+    let room : area + c .before .before .before .before .before .long2 .result ≤ length (z .args .inbox .now) = omega (arith, z .pre .5) in
+    let first : 0 + c .before .before .before .before .before .before .long .result ≤ length (midOf area ((area + c .before .before .before .before .before .long2 .result) - area) (z .args .inbox .now)) =
+    omega (arith, mid-len area (area + c .before .before .before .before .before .long2 .result) (z .args .inbox .now) room) in
     (first, omega (arith, message-end (z .args .s .now) (z .pre .0) (z .pre .1) (z .args .m) (z .args .r) (z .pre .2) (z .pre .3), long-message z (b .result) (b .ensures .0), offset-message z (b .result) (b .ensures .0)))
 
 same-length : tie.Need-same-length
@@ -142,18 +142,18 @@ same-length c = search needs
 
 returns-2 : tie.Need-returns-2
 returns-2 c =
-    let z = c  .before .before .before .before .before .before .before .before .before .before .before .before .before in
+    let z = c .before .before .before .before .before .before .before .before .before .before .before .before .before in
     let p = z .pre in
-    let b = c  .before .before .before .before .before .before .before .before .before .before .boards in
-    let area = z .args .start + c  .before .before .before .before .offset2 .result in
-    let end = area + c  .before .before .before .before .before .before .before .before .long2 .result in
-    ap (λ (part : List ℕ). putMid area (end - area) (z .args .inbox .now) part) (c  .before .before .copy .ensures)
+    let b = c .before .before .before .before .before .before .before .before .before .before .boards in
+    let area = z .args .start + c .before .before .before .before .offset2 .result in
+    let end = area + c .before .before .before .before .before .before .before .before .long2 .result in
+    ap (λ (part : List ℕ). putMid area (end - area) (z .args .inbox .now) part) (c .before .before .copy .ensures)
     ∙ delivered-part (z .args .s .now) (p .0) (p .1) (z .args .m) (z .args .r) (p .2) (p .3) (z .args .inbox .now)
-    (((16 + 8 * b .result) + 16 * c  .before .before .before .before .before .before .ops .result) + c  .before .before .before .before .before .offset .result) (c  .before .before .before .before .before .before .before .before .before .long .result) area end (p .5)
-    (λ h. omega (arith, c  .before .before .before .before .before .before .before .if1 .left, long-message z (b .result) (b .ensures .0), long-receive z (b .result) (b .ensures .0)))
-    (omega (arith, offset-message z (b .result) (b .ensures .0))) (c  .before .before .before .before .before .before .before .before .before .long .ensures .0 ∙ long-message z (b .result) (b .ensures .0))
-    (area-is z (b .result) (b .ensures .0) (c  .before .before .before .before .offset2 .result) (c  .before .before .before .before .offset2 .ensures .0))
-    (ap (λ (n : ℕ). area + n) (c  .before .before .before .before .before .before .before .before .long2 .ensures .0 ∙ long-receive z (b .result) (b .ensures .0)))
+    (((16 + 8 * b .result) + 16 * c .before .before .before .before .before .before .ops .result) + c .before .before .before .before .before .offset .result) (c .before .before .before .before .before .before .before .before .before .long .result) area end (p .5)
+    (λ h. omega (arith, c .before .before .before .before .before .before .before .if1 .left, long-message z (b .result) (b .ensures .0), long-receive z (b .result) (b .ensures .0)))
+    (omega (arith, offset-message z (b .result) (b .ensures .0))) (c .before .before .before .before .before .before .before .before .before .long .ensures .0 ∙ long-message z (b .result) (b .ensures .0))
+    (area-is z (b .result) (b .ensures .0) (c .before .before .before .before .offset2 .result) (c .before .before .before .before .offset2 .ensures .0))
+    (ap (λ (n : ℕ). area + n) (c .before .before .before .before .before .before .before .before .long2 .ensures .0 ∙ long-receive z (b .result) (b .ensures .0)))
 
 pub deliver-message-spec : {M : Type 1} → statement M
 deliver-message-spec =

@@ -16,28 +16,28 @@ abbrev μ-loop : tie.MeasureT-loop
 μ-loop s c r start inbox₀ i₀ end inbox i = end - i
 
 first-requires : tie.Need-first-requires Inv-loop μ-loop
-first-requires c κs = (c  .before .before .before .pre .0 .laid, c  .before .before .before .pre .1)
+first-requires c κs = (c .before .before .before .pre .0 .laid, c .before .before .before .pre .1)
 
 count-requires : tie.Need-count-requires Inv-loop μ-loop
-count-requires c κs = (c  .before .before .before .before .pre .0 .laid, c  .before .before .before .before .pre .1)
+count-requires c κs = (c .before .before .before .before .pre .0 .laid, c .before .before .before .before .pre .1)
 
 add-end : tie.Need-add-end Inv-loop μ-loop
 add-end c = omega arith
 
 loop-holds : tie.Need-loop-holds Inv-loop μ-loop
 loop-holds c =
-    let a = c  .before .before .before .before .before .args in
-    (scripting-none (sheet-in (a .s .now)) (a .c .now) (a .r) (a .inbox .now) (c  .before .first .result) (c  .before .first .ensures .0), omega arith)
+    let a = c .before .before .before .before .before .args in
+    (scripting-none (sheet-in (a .s .now)) (a .c .now) (a .r) (a .inbox .now) (c .before .first .result) (c .before .first .ensures .0), omega arith)
 
 deliver-one-requires : tie.Need-deliver-one-requires Inv-loop μ-loop
 deliver-one-requires c κs =
-    let z = c  .before .before .before .before .before .before .before .before in
+    let z = c .before .before .before .before .before .before .before .before in
     let a = z .args in
     let s = sheet-in (a .s .now) in
     let g = z .pre .0 .good in
-    let l = c  .before .before .loop in
+    let l = c .before .before .loop in
     let small : a .r < P-of s = omega (arith, z .pre .1, P-decoded (a .s .now)) in
-    let high : l .i < board s (a .r) .first + board s (a .r) .count = omega (arith, c  .before .before .before .before .first .ensures .0, c  .before .before .before .count .ensures .0) in (
+    let high : l .i < board s (a .r) .first + board s (a .r) .count = omega (arith, c .before .before .before .before .first .ensures .0, c .before .before .before .count .ensures .0) in (
       z .pre .0,
       omega (arith, g .script-inside (a .r) small, N-decoded (a .s .now)),
       z .pre .2 ∙ ap (λ (q : ℕ). inbox-start s q) (sym (g .script-ranked (a .r) (l .i) small (l .inv .0 .lower) high)),
@@ -52,18 +52,18 @@ loop-less c = omega arith
 
 loop-again : tie.Need-loop-again Inv-loop μ-loop
 loop-again c =
-    let a = c  .before .before .before .before .before .before .before .before .before .before .before .args in
-    let l = c  .before .before .before .before .before .loop in
-    (scripting-more (sheet-in (a .s .now)) (a .c .now) (a .r) (a .inbox .now) (l .i) (l .inbox) (c  .before .before .deliver-one .last .1 .1 .1 .1 .0) (l .inv .0) (c  .before .before .deliver-one .ensures) (omega arith), omega arith)
+    let a = c .before .before .before .before .before .before .before .before .before .before .before .args in
+    let l = c .before .before .before .before .before .loop in
+    (scripting-more (sheet-in (a .s .now)) (a .c .now) (a .r) (a .inbox .now) (l .i) (l .inbox) (c .before .before .deliver-one .last .1 .1 .1 .1 .0) (l .inv .0) (c .before .before .deliver-one .ensures) (omega arith), omega arith)
 
 same-length : tie.Need-same-length Inv-loop μ-loop
-same-length c = c  .before .loop .inv .0 .size
+same-length c = c .before .loop .inv .0 .size
 
 returns : tie.Need-returns Inv-loop μ-loop
 returns c =
-    let a = c  .before .before .before .before .before .before .before .args in
-    let l = c  .before .loop in
-    λ lent q. painting-at (omega (arith, c  .before .before .before .first .ensures .0, c  .before .before .count .ensures .0)) (l .inv .0 .goes lent q)
+    let a = c .before .before .before .before .before .before .before .args in
+    let l = c .before .loop in
+    λ lent q. painting-at (omega (arith, c .before .before .before .first .ensures .0, c .before .before .count .ensures .0)) (l .inv .0 .goes lent q)
 
 pub deliver-script-spec : {M : Type 1} → statement M
 deliver-script-spec =

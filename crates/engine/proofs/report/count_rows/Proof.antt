@@ -16,7 +16,7 @@ abbrev μ-loop : tie.MeasureT-loop
 μ-loop s c table n messages₀ receives₀ cut₀ i₀ messages receives cut i = n - i
 
 boards-requires : tie.Need-boards-requires Inv-loop μ-loop
-boards-requires c κs = omega (arith, c  .before .before .pre .0 .whole)
+boards-requires c κs = omega (arith, c .before .before .pre .0 .whole)
 
 mul-table : tie.Need-mul-table Inv-loop μ-loop
 mul-table c = omega arith
@@ -25,44 +25,44 @@ add-table : tie.Need-add-table Inv-loop μ-loop
 add-table c = omega arith
 
 ops-requires : tie.Need-ops-requires Inv-loop μ-loop
-ops-requires c κs = omega (arith, c  .before .before .before .pre .0 .whole)
+ops-requires c κs = omega (arith, c .before .before .before .pre .0 .whole)
 
 loop-holds : tie.Need-loop-holds Inv-loop μ-loop
 loop-holds c =
-    let a = c  .before .before .before .before .args in
+    let a = c .before .before .before .before .args in
     let n = N-in (a .s .now) in
     let s = sheet-in (a .s .now) in
     (counted-none n (message-row s (a .c .now)), counted-none n (receive-row s (a .c .now)), counted-none n (cut-row (a .c .now)))
 
 mul-at : tie.Need-mul-at Inv-loop μ-loop
-mul-at c = omega (arith, c  .before .before .before .before .before .before .pre .0 .few-ops)
+mul-at c = omega (arith, c .before .before .before .before .before .before .pre .0 .few-ops)
 
 add-at : tie.Need-add-at Inv-loop μ-loop
-add-at c = omega (arith, c  .before .before .before .before .before .before .pre .0 .few-ops)
+add-at c = omega (arith, c .before .before .before .before .before .before .pre .0 .few-ops)
 
 message-at-requires : tie.Need-message-at-requires Inv-loop μ-loop
 message-at-requires c κs =
-    let z = c  .before .before .before .before .before .before in
-    let i = c  .before .loop .i in
-    (z .pre .0, z .pre .1, omega arith, ap (λ (p : ℕ). ops-at p + 16 * i) (c  .before .before .before .boards .ensures .0))
+    let z = c .before .before .before .before .before .before in
+    let i = c .before .loop .i in
+    (z .pre .0, z .pre .1, omega arith, ap (λ (p : ℕ). ops-at p + 16 * i) (c .before .before .before .boards .ensures .0))
 
 add-messages : tie.Need-add-messages Inv-loop μ-loop
-add-messages c = omega (arith, c  .before .before .loop .inv .0 .few, c  .before .before .before .before .before .before .before .pre .0 .few-ops, bit-small (message-row (sheet-in (c  .before .before .before .before .before .before .before .args .s .now)) (c  .before .before .before .before .before .before .before .args .c .now) (c  .before .before .loop .i)))
+add-messages c = omega (arith, c .before .before .loop .inv .0 .few, c .before .before .before .before .before .before .before .pre .0 .few-ops, bit-small (message-row (sheet-in (c .before .before .before .before .before .before .before .args .s .now)) (c .before .before .before .before .before .before .before .args .c .now) (c .before .before .loop .i)))
 
 receive-at-requires : tie.Need-receive-at-requires Inv-loop μ-loop
 receive-at-requires c κs =
-    let z = c  .before .before .before .before .before .before .before in
-    let i = c  .before .before .loop .i in
-    (z .pre .0, z .pre .1, omega arith, ap (λ (p : ℕ). ops-at p + 16 * i) (c  .before .before .before .before .boards .ensures .0))
+    let z = c .before .before .before .before .before .before .before in
+    let i = c .before .before .loop .i in
+    (z .pre .0, z .pre .1, omega arith, ap (λ (p : ℕ). ops-at p + 16 * i) (c .before .before .before .before .boards .ensures .0))
 
 add-receives : tie.Need-add-receives Inv-loop μ-loop
-add-receives c = omega (arith, c  .before .before .before .loop .inv .1 .few, c  .before .before .before .before .before .before .before .before .pre .0 .few-ops, bit-small (receive-row (sheet-in (c  .before .before .before .before .before .before .before .before .args .s .now)) (c  .before .before .before .before .before .before .before .before .args .c .now) (c  .before .before .before .loop .i)))
+add-receives c = omega (arith, c .before .before .before .loop .inv .1 .few, c .before .before .before .before .before .before .before .before .pre .0 .few-ops, bit-small (receive-row (sheet-in (c .before .before .before .before .before .before .before .before .args .s .now)) (c .before .before .before .before .before .before .before .before .args .c .now) (c .before .before .before .loop .i)))
 
 cut-at-requires : tie.Need-cut-at-requires Inv-loop μ-loop
-cut-at-requires c κs = (omega (arith, c  .before .before .before .before .before .before .before .before .pre .0 .few-ops), c  .before .before .before .before .before .before .before .before .pre .1)
+cut-at-requires c κs = (omega (arith, c .before .before .before .before .before .before .before .before .pre .0 .few-ops), c .before .before .before .before .before .before .before .before .pre .1)
 
 add-cut : tie.Need-add-cut Inv-loop μ-loop
-add-cut c = omega (arith, c  .before .before .before .before .loop .inv .2 .few, c  .before .before .before .before .before .before .before .before .before .pre .0 .few-ops, bit-small (cut-row (c  .before .before .before .before .before .before .before .before .before .args .c .now) (c  .before .before .before .before .loop .i)))
+add-cut c = omega (arith, c .before .before .before .before .loop .inv .2 .few, c .before .before .before .before .before .before .before .before .before .pre .0 .few-ops, bit-small (cut-row (c .before .before .before .before .before .before .before .before .before .args .c .now) (c .before .before .before .before .loop .i)))
 
 add-i : tie.Need-add-i Inv-loop μ-loop
 add-i c = omega arith
@@ -72,22 +72,22 @@ loop-less c = omega arith
 
 loop-again : tie.Need-loop-again Inv-loop μ-loop
 loop-again c =
-    let a = c  .before .before .before .before .before .before .before .before .before .args in
+    let a = c .before .before .before .before .before .before .before .before .before .args in
     let n = N-in (a .s .now) in
     let s = sheet-in (a .s .now) in
-    let l = c  .before .before .before .before .loop in
+    let l = c .before .before .before .before .loop in
     let h : l .i < n = omega arith in (
-      counted-more n (message-row s (a .c .now)) (l .messages) (l .i) (c  .before .before .message-at .result) (l .inv .0) h (c  .before .before .message-at .ensures),
-      counted-more n (receive-row s (a .c .now)) (l .receives) (l .i) (c  .before .receive-at .result) (l .inv .1) h (c  .before .receive-at .ensures),
+      counted-more n (message-row s (a .c .now)) (l .messages) (l .i) (c .before .before .message-at .result) (l .inv .0) h (c .before .before .message-at .ensures),
+      counted-more n (receive-row s (a .c .now)) (l .receives) (l .i) (c .before .receive-at .result) (l .inv .1) h (c .before .receive-at .ensures),
       counted-more n (cut-row (a .c .now)) (l .cut) (l .i) (c .cut-at .result) (l .inv .2) h (c .cut-at .ensures),
     )
 
 returns : tie.Need-returns Inv-loop μ-loop
 returns c =
-    let a = c  .before .before .before .before .before .before .args in
+    let a = c .before .before .before .before .before .before .args in
     let n = N-in (a .s .now) in
     let s = sheet-in (a .s .now) in
-    let l = c  .before .loop in
+    let l = c .before .loop in
     let h : n ≤ l .i = omega arith in (
       counted-all n (message-row s (a .c .now)) (l .messages) (l .i) (l .inv .0) h,
       counted-all n (receive-row s (a .c .now)) (l .receives) (l .i) (l .inv .1) h,

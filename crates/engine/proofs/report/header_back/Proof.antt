@@ -32,17 +32,17 @@ same-length c = search needs
 returns : tie.Need-returns
 unfolding low-two back-bytes
 returns c =
-    let z = c  .before .before .before .before .before .before .before .before .before .before .before .before .before in
+    let z = c .before .before .before .before .before .before .before .before .before .before .before .before .before in
     let a = z .args in
     let s = sheet-in (a .s .now) in
-    let one = c  .before .before .before .before .before .before .put-pair in
-    let two = c  .before .before .put-pair2 in
-    let k = c  .before .before .before .before .before .before .before .before .before .count-rows in
-    let n : c  .before .before .before .before .before .before .before .before .ops .result ≡ N-of s = c  .before .before .before .before .before .before .before .before .ops .ensures .0 ∙ sym (N-decoded (a .s .now)) in
+    let one = c .before .before .before .before .before .before .put-pair in
+    let two = c .before .before .put-pair2 in
+    let k = c .before .before .before .before .before .before .before .before .before .count-rows in
+    let n : c .before .before .before .before .before .before .before .before .ops .result ≡ N-of s = c .before .before .before .before .before .before .before .before .ops .ensures .0 ∙ sym (N-decoded (a .s .now)) in
     let m : k .result .messages ≡ count-from (N-of s) 0 (message-row s (a .c .now)) = k .ensures .0 ∙ ap (λ (j : ℕ). count-from j 0 (message-row s (a .c .now))) (sym (N-decoded (a .s .now))) in
     let r : k .result .receives ≡ count-from (N-of s) 0 (receive-row s (a .c .now)) = k .ensures .1 ∙ ap (λ (j : ℕ). count-from j 0 (receive-row s (a .c .now))) (sym (N-decoded (a .s .now))) in
     let q : k .result .cut ≡ count-from (N-of s) 0 (cut-row (a .c .now)) = k .ensures .2 ∙ ap (λ (j : ℕ). count-from j 0 (cut-row (a .c .now))) (sym (N-decoded (a .s .now))) in
-    splice-then (a .out .now) (one .last .0) (two .last .0) 8 4 (low-two (c  .before .before .before .before .before .before .before .before .ops .result) ++ low-two (k .result .messages)) (low-two (k .result .receives) ++ low-two (k .result .cut)) (one .ensures) refl (two .ensures) (omega (arith, z .pre .2))
+    splice-then (a .out .now) (one .last .0) (two .last .0) 8 4 (low-two (c .before .before .before .before .before .before .before .before .ops .result) ++ low-two (k .result .messages)) (low-two (k .result .receives) ++ low-two (k .result .cut)) (one .ensures) refl (two .ensures) (omega (arith, z .pre .2))
     ∙ ap₂ (λ (u v : List ℕ). splice (a .out .now) 8 (u ++ v)) (ap₂ (λ (u v : ℕ). low-two u ++ low-two v) n m) (ap₂ (λ (u v : ℕ). low-two u ++ low-two v) r q)
 
 pub header-back-spec : {M : Type 1} → statement M

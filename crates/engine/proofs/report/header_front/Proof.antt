@@ -38,13 +38,13 @@ same-length c = search needs
 returns : tie.Need-returns
 unfolding low-two front-bytes
 returns c =
-    let z = c  .before .before .before .before .before .before .before .before .before .before .before .before .before in
+    let z = c .before .before .before .before .before .before .before .before .before .before .before .before .before in
     let a = z .args in
-    let one = c  .before .before .before .before .before .before .put-pair in
-    let two = c  .before .before .put-pair2 in
-    let rank = c  .before .before .before .before .before .before .before .before .before .before .stop-rank in
-    let at = c  .before .before .before .before .before .before .before .before .before .stop-op in
-    let p = c  .before .before .before .before .before .before .before .before .boards in
+    let one = c .before .before .before .before .before .before .put-pair in
+    let two = c .before .before .put-pair2 in
+    let rank = c .before .before .before .before .before .before .before .before .before .before .stop-rank in
+    let at = c .before .before .before .before .before .before .before .before .before .stop-op in
+    let p = c .before .before .before .before .before .before .before .before .boards in
     splice-then (a .out .now) (one .last .0) (two .last .0) 0 4 (low-two (a .v + 256 * rank .result) ++ low-two (at .result)) (low-two (a .t .steps) ++ low-two (p .result)) (one .ensures) refl (two .ensures) (omega (arith, z .pre .3))
     ∙ ap (λ (n : ℕ). splice (a .out .now) 0 ((low-two (a .v + 256 * n) ++ low-two (at .result)) ++ (low-two (a .t .steps) ++ low-two (p .result)))) (rank .ensures)
     ∙ ap (λ (n : ℕ). splice (a .out .now) 0 ((low-two (a .v + 256 * rank-told (a .t)) ++ low-two n) ++ (low-two (a .t .steps) ++ low-two (p .result)))) (at .ensures)

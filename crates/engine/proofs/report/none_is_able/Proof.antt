@@ -16,19 +16,19 @@ abbrev μ-loop : tie.MeasureT-loop
 μ-loop s c t p r₀ r = p - r
 
 boards-requires : tie.Need-boards-requires Inv-loop μ-loop
-boards-requires c κs = omega (arith, c  .before .before .pre .stands .laid .whole)
+boards-requires c κs = omega (arith, c .before .before .pre .stands .laid .whole)
 
 loop-holds : tie.Need-loop-holds Inv-loop μ-loop
-loop-holds c = (omega arith, λ lent x d. seeking-none (sheet-in (c  .before .before .before .args .s .now)) x)
+loop-holds c = (omega arith, λ lent x d. seeking-none (sheet-in (c .before .before .before .args .s .now)) x)
 
 is-able-requires : tie.Need-is-able-requires Inv-loop μ-loop
-is-able-requires c κs = c  .before .before .before .before .before .pre
+is-able-requires c κs = c .before .before .before .before .before .pre
 
 returns : tie.Need-returns Inv-loop μ-loop
 returns c =
-    let a = c  .before .before .before .before .before .before .before .args in
-    let r = c  .before .before .before .loop .r in
-    λ lent x d. seeking-found (sheet-in (a .s .now)) x r (omega (arith, P-decoded (a .s .now))) (c  .before .before .before .loop .inv .1 lent x d) (sym (c  .before .is-able .ensures lent x d) ∙ c .if1 .taken)
+    let a = c .before .before .before .before .before .before .before .args in
+    let r = c .before .before .before .loop .r in
+    λ lent x d. seeking-found (sheet-in (a .s .now)) x r (omega (arith, P-decoded (a .s .now))) (c .before .before .before .loop .inv .1 lent x d) (sym (c .before .is-able .ensures lent x d) ∙ c .if1 .taken)
 
 add-r : tie.Need-add-r Inv-loop μ-loop
 add-r c = omega arith
@@ -38,16 +38,16 @@ loop-less c = omega arith
 
 loop-again : tie.Need-loop-again Inv-loop μ-loop
 loop-again c =
-    let a = c  .before .before .before .before .before .before .before .args in
-    let r = c  .before .before .before .loop .r in (
+    let a = c .before .before .before .before .before .before .before .args in
+    let r = c .before .before .before .loop .r in (
       omega arith,
-      λ lent x d. seeking-more (sheet-in (a .s .now)) x r (omega (arith, P-decoded (a .s .now))) (c  .before .before .before .loop .inv .1 lent x d) (sym (c  .before .is-able .ensures lent x d) ∙ c .if1 .left),
+      λ lent x d. seeking-more (sheet-in (a .s .now)) x r (omega (arith, P-decoded (a .s .now))) (c .before .before .before .loop .inv .1 lent x d) (sym (c .before .is-able .ensures lent x d) ∙ c .if1 .left),
     )
 
 returns-2 : tie.Need-returns-2 Inv-loop μ-loop
 returns-2 c =
-    let a = c  .before .before .before .before .before .args in
-    λ lent x d. seeking-all (sheet-in (a .s .now)) x (c  .before .loop .r) (omega (arith, P-decoded (a .s .now))) (c  .before .loop .inv .1 lent x d)
+    let a = c .before .before .before .before .before .args in
+    λ lent x d. seeking-all (sheet-in (a .s .now)) x (c .before .loop .r) (omega (arith, P-decoded (a .s .now))) (c .before .loop .inv .1 lent x d)
 
 pub none-is-able-spec : {M : Type 1} → statement M
 none-is-able-spec =

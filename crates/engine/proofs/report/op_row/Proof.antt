@@ -31,9 +31,9 @@ same-length c = search needs
 returns : tie.Need-returns
 unfolding low-two
 returns c =
-    let a = c  .before .before .before .before .before .before .before .before .before .before .args in
-    let one = c  .before .before .before .before .before .before .copy in
-    let two = c  .before .before .put-two in
+    let a = c .before .before .before .before .before .before .before .before .before .before .args in
+    let one = c .before .before .before .before .before .before .copy in
+    let two = c .before .before .put-two in
     let long : length (take 10 (drop (12 * a .i) (a .c .now))) ≡ 10 = part-length (a .c .now) (12 * a .i) 10 (omega arith) in
     splice-then (a .out .now) (one .last .0) (two .last .0) (a .at) 10 (take 10 (drop (12 * a .i) (a .c .now))) (low-two 0) (one .ensures) long (two .ensures) (omega arith)
     ∙ ap (λ (vs : List ℕ). splice (a .out .now) (a .at) vs) (row-copied (a .c .now) (λ k. omega (arith, c .before .before .before .before .before .before .before .before .before .shared-slice-known .given k)) (a .i) (omega arith))

@@ -18,10 +18,10 @@ verdict-requires c κs = search needs
 
 header-front-requires : tie.Need-header-front-requires
 header-front-requires c κs =
-    let z = c  .before .before .before .before .before in
+    let z = c .before .before .before .before .before in
     let a = z .args in
     let w = z .pre .0 in
-    (omega (arith, w .stands .laid .whole), c  .before .verdict .ensures .1, rank-small (a .s .now) (w .lent) (a .c .now) (a .t) (w .job) (w .stands), omega (arith, z .pre .1))
+    (omega (arith, w .stands .laid .whole), c .before .verdict .ensures .1, rank-small (a .s .now) (w .lent) (a .c .now) (a .t) (w .job) (w .stands), omega (arith, z .pre .1))
 
 header-back-requires : tie.Need-header-back-requires
 header-back-requires c κs = search needs
@@ -32,16 +32,16 @@ same-length c = search needs
 returns : tie.Need-returns
 unfolding front-bytes back-bytes low-two
 returns c =
-    let z = c  .before .before .before .before .before .before .before .before .before .before .before .before in
+    let z = c .before .before .before .before .before .before .before .before .before .before .before .before in
     let a = z .args in
     let s = sheet-in (a .s .now) in
-    let one = c  .before .before .before .before .before .before .header-front in
-    let two = c  .before .before .header-back in
-    let v = c  .before .before .before .before .before .before .before .before .verdict in
+    let one = c .before .before .before .before .before .before .header-front in
+    let two = c .before .before .header-back in
+    let v = c .before .before .before .before .before .before .before .before .verdict in
     let both = splice-then (a .out .now) (one .last .1 .1 .1 .0) (two .last .1 .1 .0) 0 8 (front-bytes (v .result) (a .t) (P-in (a .s .now))) (back-bytes s (a .c .now)) (one .ensures) refl (two .ensures) (omega (arith, z .pre .1)) in
     λ lent x d. both
-        ∙ ap (λ (p : ℕ). splice (a .out .now) 0 (front-bytes (v .result) (a .t) p ++ back-bytes s (a .c .now))) (sym (P-decoded (a .s .now)))
-        ∙ ap (λ (vs : List ℕ). splice (a .out .now) 0 vs) (header-is (a .s .now) lent (a .c .now) (a .t) x d (v .result) (v .ensures .0 lent x d) (v .ensures .1))
+    ∙ ap (λ (p : ℕ). splice (a .out .now) 0 (front-bytes (v .result) (a .t) p ++ back-bytes s (a .c .now))) (sym (P-decoded (a .s .now)))
+    ∙ ap (λ (vs : List ℕ). splice (a .out .now) 0 vs) (header-is (a .s .now) lent (a .c .now) (a .t) x d (v .result) (v .ensures .0 lent x d) (v .ensures .1))
 
 pub put-header-spec : {M : Type 1} → statement M
 put-header-spec =

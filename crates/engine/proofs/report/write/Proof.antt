@@ -16,7 +16,7 @@ put-header-requires : tie.Need-put-header-requires
 put-header-requires c κs = search needs
 
 board-rows-requires : tie.Need-board-rows-requires
-board-rows-requires c κs = (c  .before .before .before .before .before .before .before .before .pre .0, omega (arith, c  .before .before .before .before .before .before .before .before .pre .1, P-decoded (c  .before .before .before .before .before .before .before .before .args .s .now)))
+board-rows-requires c κs = (c .before .before .before .before .before .before .before .before .pre .0, omega (arith, c .before .before .before .before .before .before .before .before .pre .1, P-decoded (c .before .before .before .before .before .before .before .before .args .s .now)))
 
 ops-requires : tie.Need-ops-requires
 ops-requires c κs = search needs
@@ -32,7 +32,7 @@ add-at c = search needs
 
 op-rows-requires : tie.Need-op-rows-requires
 op-rows-requires c κs =
-    let z = c  .before .before .before .before .before .before .before .before .before .before .before .before .before .before in
+    let z = c .before .before .before .before .before .before .before .before .before .before .before .before .before .before in
     let bs = z .args .s .now in
     (omega (arith, z .pre .0 .stands .laid .few-ops), z .pre .0 .stands .decodes .roomy, omega (arith, z .pre .1, P-decoded bs, N-decoded bs))
 
@@ -41,13 +41,13 @@ same-length c = search needs
 
 returns : tie.Need-returns
 returns c =
-    let z = c  .before .before .before .before .before .before .before .before .before .before .before .before .before .before .before .before .before in
+    let z = c .before .before .before .before .before .before .before .before .before .before .before .before .before .before .before .before .before in
     let a = z .args in
-    let one = c  .before .before .before .before .before .before .before .before .before .before .before .before .put-header in
-    let two = c  .before .before .before .before .before .before .before .before .board-rows in
-    let all = c  .before .before .op-rows in
-    let p : c  .before .before .before .before .boards .result ≡ P-of (sheet-in (a .s .now)) = c  .before .before .before .before .boards .ensures .0 ∙ sym (P-decoded (a .s .now)) in
-    let n : c  .before .before .before .before .before .ops .result ≡ N-of (sheet-in (a .s .now)) = c  .before .before .before .before .before .ops .ensures .0 ∙ sym (N-decoded (a .s .now)) in
+    let one = c .before .before .before .before .before .before .before .before .before .before .before .before .put-header in
+    let two = c .before .before .before .before .before .before .before .before .board-rows in
+    let all = c .before .before .op-rows in
+    let p : c .before .before .before .before .boards .result ≡ P-of (sheet-in (a .s .now)) = c .before .before .before .before .boards .ensures .0 ∙ sym (P-decoded (a .s .now)) in
+    let n : c .before .before .before .before .before .ops .result ≡ N-of (sheet-in (a .s .now)) = c .before .before .before .before .before .ops .ensures .0 ∙ sym (N-decoded (a .s .now)) in
     let last = all .ensures ∙ ap₂ (λ (j k : ℕ). splice (two .last .1 .1 .1 .0) (16 + 8 * j) (joined (row-in (a .c .now)) 0 k)) p n in
     λ lent x d. report-whole (a .s .now) lent (a .c .now) (a .t) x d (a .out .now) (one .last .1 .1 .1 .0) (two .last .1 .1 .1 .0) (all .last .1 .1 .1 .0) (z .pre .1) (one .ensures lent x d) (two .ensures lent x d) last
 
