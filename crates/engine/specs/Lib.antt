@@ -9,6 +9,10 @@
 --   Able     whether a board is able, test by test
 --   SetupTables   the tables of ranks and waits, filled script by script
 --   SetupWalk     the walk that fills them, and the start that then stands in scratch
+--   Deliveries    copies into parts of the inboxes, in script order, are the job's memory
+--   ReportRows    rows of a report, one after another
+--   ReportCounts  pending messages, pending receives and cut messages, counted over the rows
+--   Report        board states, the verdict, and the stretches of a report side by side
 pub mod Stands
 pub mod Able
 pub mod Search
@@ -18,3 +22,7 @@ pub mod Unmatched
 pub mod Turn
 pub mod SetupTables
 pub mod SetupWalk
+pub mod Deliveries
+pub mod ReportRows
+pub mod ReportCounts
+pub mod Report
