@@ -5,7 +5,6 @@
 --   Initiate what initiating steps ask, and what the invariant gives
 --   Unmatched a send that nothing fits, by its mode
 --   Turn     a whole step
---   Initiate initiating steps in scratch are those of rules
 --   Able     whether a board is able, test by test
 --   SetupTables   the tables of ranks and waits, filled script by script
 --   SetupWalk     the walk that fills them, and the start that then stands in scratch

@@ -1,0 +1,1 @@
+-- A run in scratch. Assumes nothing.

@@ -1,0 +1,46 @@
+// Following a given order: the first index whose rank isn't able, or the whole order.
+ghost use mathlib.Core.List.{List};
+ghost use Prim.Native.Nat.{ℕ, _≤_};
+ghost use lib.ListN.{length};
+ghost use Rattle.rules.specs.Limits.{scratch-size};
+ghost use Rattle.rules.specs.Sheet.{sheet-in, inbox-total};
+ghost use Rattle.laws.specs.Laid.{Laid};
+ghost use Rattle.promises.specs.Good.{Good};
+ghost use Rattle.orders.specs.Follows.{Follows};
+
+use engine::able;
+use engine::setup;
+use engine::turn;
+use state::Tally;
+
+// Where an order was refused, if it was, and the tally of the job that scratch then holds.
+pub struct Walk {
+    pub refused: bool,
+    pub at: usize,
+    pub tally: Tally,
+}
+
+pub fn follow(s: &[u8], order: &[u8], c: &mut [u8]) -> Walk
+    requires { ⌜ Laid (now s) × Good (sheet-in (now s)) × (scratch-size ≤ length (now c)) ⌝ }
+    ensures { λ w. ⌜ ((lent : List ℕ) → inbox-total (sheet-in (now (s .entry))) ≤ length lent → Follows (now (s .entry)) (now (order .entry)) lent (now (c .exit)) w) ⌝ }
+{
+    let mut t = setup::start(s, c);
+    let mut k = 0;
+    while k < order.len() {
+        let r = words::wide(order[k]);
+        if !able::is_able(s, c, t, r) {
+            return Walk {
+                refused: true,
+                at: k,
+                tally: t,
+            };
+        }
+        t = turn::take(s, c, t, r);
+        k += 1;
+    }
+    Walk {
+        refused: false,
+        at: 0,
+        tally: t,
+    }
+}
