@@ -1,10 +1,11 @@
 -- The report of the job that stands in scratch: board states, the verdict, and the stretches side by side. Assumes nothing.
---   Every             what holds of every job that stands in scratch
---   state-finished, state-able, state-neither   a board's state
---   Finishing, Seeking   all boards before r are finished; none before r is able
---   verdict-stopped, ..  the verdict
---   front-bytes, stop-..  the header's first eight bytes
---   report-whole      header, board rows and operation rows side by side are the report, in front of what stays
+--   Every                         what holds of every job that stands in scratch
+--   state-finished, state-other   a board's state; row-is: its row, with the figures as they were read
+--   Finishing                     all boards before r are finished; Seeking: none before r is able
+--   verdict-stopped, ..           the verdict, by what was found
+--   rank-told, op-told            the stop, as the tally has it
+--   front-bytes, back-bytes       the header's two halves; header-is: side by side they are the header
+--   report-whole                  header, board rows and operation rows side by side are the report, in front of what stays
 use mathlib.Core.Path.{_≡_, sym, ap, ap₂, _∙_}
 use mathlib.Core.Logic.{_⊎_, inl, inr}
 use mathlib.Core.Bool.{Bool, true, false, _&&_, cond}
