@@ -66,12 +66,12 @@ module _ (bs order c : List ℕ) (t : Tally) (k r : ℕ) (h : Reaches-all bs ord
 
   -- the rank isn't able: the order is refused here
   pub reaches-refused : (b : Bool) → ((lent : List ℕ) (x : Job) → Stands bs lent c t x → b ≡ able s x r) → b ≡ false → (lent : List ℕ) → inbox-total s ≤ length lent → Follows bs order lent c (record { refused = true; at = k; tally = t })
-  reaches-refused b ask no lent room =
+  reaches-refused b ask fails lent room =
       let q = h lent room in
       record {
         job = q .job;
         stands = q .stands;
-        said = q .left ∙ (next (q .job) ∙ cond-false (able s (q .job) r) (follow-from (suc k) s (drop (suc k) order) (step s r (q .job))) (followed (some k) (q .job)) (sym (ask lent (q .job) (q .stands)) ∙ no));
+        said = q .left ∙ (next (q .job) ∙ cond-false (able s (q .job) r) (follow-from (suc k) s (drop (suc k) order) (step s r (q .job))) (followed (some k) (q .job)) (sym (ask lent (q .job) (q .stands)) ∙ fails));
       }
 
   -- it is able: one step more
