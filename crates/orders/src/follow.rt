@@ -7,7 +7,6 @@ ghost use Rattle.rules.specs.Sheet.{sheet-in, inbox-total};
 ghost use Rattle.laws.specs.Laid.{Laid};
 ghost use Rattle.promises.specs.Good.{Good};
 ghost use Rattle.orders.specs.Follows.{Follows};
-
 use engine::able;
 use engine::setup;
 use engine::turn;

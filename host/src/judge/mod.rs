@@ -8,22 +8,32 @@
 //! - `requests`: refusal 7.
 //! - `check`: the service made of these; also the timing baseline.
 //! - `naive`: the same service once more, after the text, for cross-checks.
+//! - `rooms`: the lent rooms and refusal 8.
 //! - `script`: an accepted sheet, decoded for following it.
 //! - `job`: the state of a job and its steps.
 //! - `report`: the report's bytes.
-//! - `services`: *follow* and *run* with refusals 8 and 9.
+//! - `services`: *follow* and *run* with refusals 8 and 9, made of these;
+//!   plain lists, for comparing answers.
+//! - `orders`: makes orders of able ranks.
+//! - `engine`: *follow* and *run* once more, in the lent scratch alone; also
+//!   the timing baseline.
 
 mod boards;
 mod check;
 pub mod crc;
+pub mod engine;
 mod header;
 mod job;
 pub mod naive;
 mod operations;
+mod orders;
 mod report;
 mod requests;
+mod rooms;
 mod script;
 mod services;
 
 pub use check::check;
-pub use services::{follow, run, Rooms, SCRATCH_ROOM};
+pub use orders::{able_after, order_by};
+pub use rooms::{Needs, Rooms, SCRATCH_ROOM};
+pub use services::{follow, needs, run};

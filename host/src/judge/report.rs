@@ -2,15 +2,7 @@
 
 use super::job::{Job, State, Stop};
 
-const HEADER_BYTES: usize = 16;
-const BOARD_ROW: usize = 8;
-const OPERATION_ROW: usize = 12;
 const NONE: u16 = 65_535;
-
-/// The room of a report.
-pub fn room(boards: usize, operations: usize) -> usize {
-    HEADER_BYTES + BOARD_ROW * boards + OPERATION_ROW * operations
-}
 
 pub fn bytes(job: &Job) -> Vec<u8> {
     let mut out = Vec::new();

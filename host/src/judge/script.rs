@@ -3,6 +3,7 @@
 use super::boards::{Board, Boards};
 use super::header::Header;
 use super::operations::{self, Operation};
+use super::rooms::Needs;
 use crate::layout::{kind, ANY};
 
 pub struct Script<'a> {
@@ -57,5 +58,13 @@ impl<'a> Script<'a> {
 
     pub fn inbox_total(&self) -> usize {
         self.inbox_start(self.boards.len())
+    }
+
+    pub fn needs(&self) -> Needs {
+        Needs {
+            boards: self.boards.len(),
+            operations: self.operations.len(),
+            inbox: self.inbox_total(),
+        }
     }
 }

@@ -5,43 +5,15 @@
 use super::check::check;
 use super::job::Job;
 use super::report;
+use super::rooms::{Needs, Rooms};
 use super::script::Script;
 use crate::answer::Answer;
 
-pub const SCRATCH_ROOM: usize = 32_768;
-
-/// What is lent to both services.
-pub struct Rooms<'a> {
-    pub inbox: &'a mut [u8],
-    pub report: &'a mut [u8],
-    pub scratch: &'a mut [u8],
-}
-
-impl Rooms<'_> {
-    /// The place of refusal 8 if it applies: the first short one. Follow has
-    /// no order out.
-    fn short(&self, script: &Script, order_out: Option<usize>) -> Option<u64> {
-        let operations = script.operations.len();
-        let report = report::room(script.boards.len(), operations);
-        if self.inbox.len() < script.inbox_total() {
-            Some(1)
-        } else if self.report.len() < report {
-            Some(2)
-        } else if order_out.is_some_and(|room| room < 2 * operations) {
-            Some(3)
-        } else if self.scratch.len() < SCRATCH_ROOM {
-            Some(4)
-        } else {
-            None
-        }
-    }
-
-    /// Longer room is accepted and its excess untouched.
-    fn write(&mut self, job: &Job) {
-        self.inbox[..job.inbox.len()].copy_from_slice(&job.inbox);
-        let bytes = report::bytes(job);
-        self.report[..bytes.len()].copy_from_slice(&bytes);
-    }
+/// Longer room is accepted and its excess untouched.
+fn write(rooms: &mut Rooms, job: &Job) {
+    rooms.inbox[..job.inbox.len()].copy_from_slice(&job.inbox);
+    let bytes = report::bytes(job);
+    rooms.report[..bytes.len()].copy_from_slice(&bytes);
 }
 
 pub fn follow(sheet: &[u8], order: &[u8], mut rooms: Rooms) -> Answer {
@@ -50,7 +22,7 @@ pub fn follow(sheet: &[u8], order: &[u8], mut rooms: Rooms) -> Answer {
         return checked;
     }
     let script = Script::read(sheet);
-    if let Some(place) = rooms.short(&script, None) {
+    if let Some(place) = rooms.short(&script.needs(), None) {
         return Answer::refusal(8, place);
     }
     rooms.scratch.fill(0);
@@ -62,7 +34,7 @@ pub fn follow(sheet: &[u8], order: &[u8], mut rooms: Rooms) -> Answer {
         }
         job.step(rank);
     }
-    rooms.write(&job);
+    write(&mut rooms, &job);
     Answer::SUCCESS
 }
 
@@ -73,7 +45,7 @@ pub fn run(sheet: &[u8], mut rooms: Rooms, order_out: &mut [u8]) -> Answer {
         return checked;
     }
     let script = Script::read(sheet);
-    if let Some(place) = rooms.short(&script, Some(order_out.len())) {
+    if let Some(place) = rooms.short(&script.needs(), Some(order_out.len())) {
         return Answer::refusal(8, place);
     }
     rooms.scratch.fill(0);
@@ -82,6 +54,11 @@ pub fn run(sheet: &[u8], mut rooms: Rooms, order_out: &mut [u8]) -> Answer {
         order_out[job.steps] = rank as u8;
         job.step(rank);
     }
-    rooms.write(&job);
+    write(&mut rooms, &job);
     Answer::SUCCESS
+}
+
+/// What an accepted sheet needs; none if *check* refuses it.
+pub fn needs(sheet: &[u8]) -> Option<Needs> {
+    (check(sheet) == Answer::SUCCESS).then(|| Script::read(sheet).needs())
 }

@@ -57,7 +57,7 @@ returns c =
     let a = c .before .before .before .before .before .before .before .before .before .before .before .before .before .before .args in
     let l = c .before .before .before .before .before .before .loop in
     reaches-refused (a .s .now) (a .order .now) (l .c) (l .t) (l .k) (c .before .before .before .wide .result) (l .inv .2) (c .before .before .before .before .before .loop-test .taken) (c .before .before .before .wide .ensures .0) (c .before .is-able .result)
-      (c .before .is-able .ensures) (not-true _ (c .if1 .taken))
+    (c .before .is-able .ensures) (not-true _ (c .if1 .taken))
 
 -- src/follow.rt:38:9
 take-requires : tie.Need-take-requires Inv-loop μ-loop
@@ -65,7 +65,7 @@ take-requires c κs =
     let a = c .before .before .before .before .before .before .before .before .before .before .before .before .before .before .before .args in
     let l = c .before .before .before .before .before .before .before .loop in
     able-there (a .s .now) (a .order .now) (l .c) (l .t) (l .k) (c .before .before .before .before .wide .result) (l .inv .2) (c .before .before .before .before .before .before .loop-test .taken) (c .before .before .before .before .wide .ensures .0) (c .before .before .is-able .result)
-      (c .before .before .is-able .ensures) (not-false _ (c .before .if1 .left))
+    (c .before .before .is-able .ensures) (not-false _ (c .before .if1 .left))
 
 -- src/follow.rt:39:9
 add-k : tie.Need-add-k Inv-loop μ-loop
@@ -79,9 +79,12 @@ loop-less c = omega arith
 loop-again : tie.Need-loop-again Inv-loop μ-loop
 loop-again c =
     let a = c .before .before .before .before .before .before .before .before .before .before .before .before .before .before .before .before .before .before .args in
-    let l = c .before .before .before .before .before .before .before .before .before .before .loop in
-    (search needs, omega arith, reaches-more (a .s .now) (a .order .now) (l .c) (l .t) (l .k) (c .before .before .before .before .before .before .before .wide .result) (l .inv .2) (c .before .before .before .before .before .before .before .before .before .loop-test .taken) (c .before .before .before .before .before .before .before .wide .ensures .0)
-      (c .before .before .before .before .before .is-able .result) (c .before .before .before .before .before .is-able .ensures) (not-false _ (c .before .before .before .before .if1 .left)) (c .before .before .take .last .1 .0) (c .before .before .take .result) (c .before .before .take .ensures))
+    let l = c .before .before .before .before .before .before .before .before .before .before .loop in (
+      search needs,
+      omega arith,
+      reaches-more (a .s .now) (a .order .now) (l .c) (l .t) (l .k) (c .before .before .before .before .before .before .before .wide .result) (l .inv .2) (c .before .before .before .before .before .before .before .before .before .loop-test .taken) (c .before .before .before .before .before .before .before .wide .ensures .0)
+          (c .before .before .before .before .before .is-able .result) (c .before .before .before .before .before .is-able .ensures) (not-false _ (c .before .before .before .before .if1 .left)) (c .before .before .take .last .1 .0) (c .before .before .take .result) (c .before .before .take .ensures),
+    )
 
 -- src/follow.rt:23:1
 same-length-2 : tie.Need-same-length-2 Inv-loop μ-loop

@@ -1,0 +1,221 @@
+//! A job in lent scratch, and its steps (document 01, How a board steps).
+
+use super::list::List;
+use super::scratch::{Place, Row, Scratch, BARE};
+use super::view::{fits, View};
+use crate::layout::{kind, operation as at, word, SLOTS};
+
+pub mod state {
+    pub const PENDING: u8 = 1;
+    pub const BUFFERED: u8 = 2;
+    pub const MATCHED: u8 = 3;
+    pub const WAIT_FINISHED: u8 = 5;
+}
+
+/// Places in a board's place.
+pub const FINISHED: usize = 0;
+pub const IN_USE: usize = 2;
+pub const PEAK: usize = 4;
+const WAITING: usize = 6;
+
+/// Why, at which rank and at which operation a job stopped.
+#[derive(Clone, Copy)]
+pub struct Stop {
+    pub verdict: u8,
+    pub rank: u8,
+    pub operation: u16,
+}
+
+pub struct Job<'a> {
+    pub view: &'a View<'a>,
+    pub rows: &'a mut [Row],
+    pub places: &'a mut [Place],
+    pub messages: List<'a>,
+    pub receives: List<'a>,
+    ranks: &'a mut [u8],
+    awaited: &'a mut [[u8; 2]],
+    pub steps: usize,
+    pub cut: u16,
+    pub stop: Option<Stop>,
+}
+
+pub fn set_word(bytes: &mut [u8], place: usize, value: u16) {
+    bytes[place..place + 2].copy_from_slice(&value.to_le_bytes());
+}
+
+impl<'a> Job<'a> {
+    /// Nothing entered and no buffer in use, whatever scratch held.
+    pub fn start(view: &'a View, scratch: &'a mut [u8]) -> Job<'a> {
+        let scratch = Scratch::over(scratch);
+        let mut job = Job {
+            view,
+            rows: &mut scratch.rows[..view.operations.len()],
+            places: &mut scratch.places[..view.boards.len()],
+            messages: List::empty(scratch.messages),
+            receives: List::empty(scratch.receives),
+            ranks: &mut scratch.ranks[..view.operations.len()],
+            awaited: &mut scratch.awaited[..view.operations.len()],
+            steps: 0,
+            cut: 0,
+            stop: None,
+        };
+        job.rows.fill(BARE);
+        job.places.fill([0; 8]);
+        for rank in 0..view.boards.len() {
+            job.note_script(rank);
+        }
+        job
+    }
+
+    /// The rank of each operation of a board, and what its waits wait for:
+    /// the operation that took the slot last.
+    fn note_script(&mut self, rank: usize) {
+        let mut holders = [[0; 2]; SLOTS];
+        let first = self.view.first(rank);
+        for index in first..first + self.view.count(rank) {
+            self.ranks[index] = rank as u8;
+            let operation = &self.view.operations[index];
+            let slot = usize::from(word(operation, at::SLOT));
+            if operation[at::KIND] == kind::WAIT {
+                self.awaited[index] = holders[slot];
+            } else if operation[at::FLAG] == 1 {
+                holders[slot] = (index as u16).to_le_bytes();
+            }
+        }
+    }
+
+    /// False also for a rank above P-1.
+    pub fn able(&self, rank: usize) -> bool {
+        if self.stop.is_some() || rank >= self.places.len() {
+            return false;
+        }
+        let place = &self.places[rank];
+        let finished = usize::from(word(place, FINISHED));
+        if finished == self.view.count(rank) {
+            return false;
+        }
+        let index = self.view.first(rank) + finished;
+        if self.view.operations[index][at::KIND] == kind::WAIT {
+            return self.complete(usize::from(u16::from_le_bytes(self.awaited[index])));
+        }
+        place[WAITING] == 0 || self.complete(index)
+    }
+
+    fn complete(&self, index: usize) -> bool {
+        self.rows[index][0] >= state::BUFFERED
+    }
+
+    /// One step of an able rank.
+    pub fn step(&mut self, rank: usize) {
+        self.steps += 1;
+        let place = &mut self.places[rank];
+        let finished = word(place, FINISHED);
+        let index = self.view.first(rank) + usize::from(finished);
+        let operation = &self.view.operations[index];
+        if operation[at::KIND] == kind::WAIT {
+            self.rows[index][0] = state::WAIT_FINISHED;
+            set_word(place, FINISHED, finished + 1);
+        } else if place[WAITING] == 1 {
+            place[WAITING] = 0;
+            set_word(place, FINISHED, finished + 1);
+        } else if self.initiate(rank, index) {
+            let place = &mut self.places[rank];
+            match operation[at::FLAG] {
+                1 => set_word(place, FINISHED, finished + 1),
+                _ => place[WAITING] = 1,
+            }
+        }
+    }
+
+    /// False if the job stops.
+    fn initiate(&mut self, rank: usize, index: usize) -> bool {
+        if self.view.operations[index][at::KIND] != kind::RECEIVE {
+            return self.send(rank, index);
+        }
+        let (view, ranks) = (self.view, &*self.ranks);
+        let asked = &view.operations[index];
+        let earliest = self
+            .messages
+            .take(|m| fits(&view.operations[m], ranks[m], asked, rank as u8));
+        match earliest {
+            Some(message) => self.match_up(message, index),
+            None => {
+                self.rows[index][0] = state::PENDING;
+                self.receives.push(index);
+            }
+        }
+        true
+    }
+
+    fn send(&mut self, rank: usize, index: usize) -> bool {
+        let (view, ranks) = (self.view, &*self.ranks);
+        let sent = &view.operations[index];
+        let earliest = self
+            .receives
+            .take(|r| fits(sent, rank as u8, &view.operations[r], ranks[r]));
+        if let Some(receive) = earliest {
+            self.match_up(index, receive);
+            return true;
+        }
+        match sent[at::KIND] {
+            kind::READY => return self.stop(4, rank, index),
+            kind::BUFFERED => {
+                if !self.charge(rank, word(sent, at::LENGTH)) {
+                    return self.stop(3, rank, index);
+                }
+                self.rows[index][0] = state::BUFFERED;
+            }
+            _ => self.rows[index][0] = state::PENDING,
+        }
+        self.messages.push(index);
+        true
+    }
+
+    fn stop(&mut self, verdict: u8, rank: usize, index: usize) -> bool {
+        self.stop = Some(Stop {
+            verdict,
+            rank: rank as u8,
+            operation: index as u16,
+        });
+        false
+    }
+
+    /// False if the attached buffer has no room. A step that charges a board
+    /// releases nothing of it, so its peak is met here or not at all.
+    fn charge(&mut self, rank: usize, length: u16) -> bool {
+        let place = &mut self.places[rank];
+        let in_use = word(place, IN_USE) + length;
+        if in_use > self.view.attached(rank) {
+            return false;
+        }
+        set_word(place, IN_USE, in_use);
+        if in_use > word(place, PEAK) {
+            set_word(place, PEAK, in_use);
+        }
+        true
+    }
+
+    /// Both are complete; a charged message is no longer charged. A sender's
+    /// row has no status.
+    fn match_up(&mut self, message: usize, receive: usize) {
+        let sent = &self.view.operations[message];
+        let length = word(sent, at::LENGTH);
+        let source = self.ranks[message];
+        if self.rows[message][0] == state::BUFFERED {
+            let place = &mut self.places[usize::from(source)];
+            set_word(place, IN_USE, word(place, IN_USE) - length);
+        }
+        let cut = length > word(&self.view.operations[receive], at::LENGTH);
+        self.cut += u16::from(cut);
+        let row = &mut self.rows[message];
+        row[0] = state::MATCHED;
+        set_word(row, 2, receive as u16);
+        let row = &mut self.rows[receive];
+        row[0] = state::MATCHED;
+        row[1] = u8::from(cut);
+        set_word(row, 2, message as u16);
+        set_word(row, 4, u16::from(source));
+        set_word(row, 6, word(sent, at::TAG));
+        set_word(row, 8, length);
+    }
+}
