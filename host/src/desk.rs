@@ -1,5 +1,4 @@
-//! Lends rooms to our judge's *follow* and *run* and reads the report, for
-//! tests.
+//! The rooms lent to *follow* and *run*, and reading the report, for tests.
 
 use crate::answer::Answer;
 use crate::judge::{self, Rooms, SCRATCH_ROOM};
@@ -8,7 +7,7 @@ use crate::layout::word;
 /// What every byte of a lent room holds before the call.
 pub const FILL: u8 = 0xEE;
 
-/// The rooms after a call.
+/// The rooms before or after a call.
 #[derive(Clone, Debug, PartialEq, Eq)]
 pub struct Desk {
     pub inbox: Vec<u8>,
@@ -18,7 +17,8 @@ pub struct Desk {
 }
 
 impl Desk {
-    /// Rooms of exactly the size that an accepted sheet needs.
+    /// Rooms of exactly the size that a sheet needs; its header and board
+    /// table have to be right.
     pub fn for_sheet(sheet: &[u8]) -> Desk {
         let boards = usize::from(word(sheet, 0));
         let operations = usize::from(word(sheet, 4));
@@ -31,26 +31,55 @@ impl Desk {
         }
     }
 
-    pub fn run(&mut self, sheet: &[u8]) -> Answer {
+    /// The rooms as both services take them, and order out.
+    pub fn rooms(&mut self) -> (Rooms<'_>, &mut [u8]) {
         let rooms = Rooms {
             inbox: &mut self.inbox,
             report: &mut self.report,
             scratch: &mut self.scratch,
         };
-        judge::run(sheet, rooms, &mut self.order_out)
+        (rooms, &mut self.order_out)
     }
 
+    /// The rooms with their names, in the order of refusal 8.
+    pub fn by_name(&self) -> [(&'static str, &[u8]); 4] {
+        [
+            ("inbox", &self.inbox),
+            ("report", &self.report),
+            ("order out", &self.order_out),
+            ("scratch", &self.scratch),
+        ]
+    }
+
+    /// The naive judge's *run*.
+    pub fn run(&mut self, sheet: &[u8]) -> Answer {
+        let (rooms, order_out) = self.rooms();
+        judge::run(sheet, rooms, order_out)
+    }
+
+    /// The naive judge's *follow*.
     pub fn follow(&mut self, sheet: &[u8], order: &[u8]) -> Answer {
-        let rooms = Rooms {
-            inbox: &mut self.inbox,
-            report: &mut self.report,
-            scratch: &mut self.scratch,
-        };
-        judge::follow(sheet, order, rooms)
+        judge::follow(sheet, order, self.rooms().0)
+    }
+
+    pub fn verdict(&self) -> u8 {
+        self.report[0]
     }
 
     pub fn steps(&self) -> usize {
         usize::from(word(&self.report, 4))
+    }
+
+    pub fn cut_messages(&self) -> usize {
+        usize::from(word(&self.report, 14))
+    }
+
+    /// How many operation rows say matched.
+    pub fn matched_rows(&self) -> usize {
+        let rows = 16 + 8 * usize::from(word(&self.report, 6));
+        let end = rows + 12 * usize::from(word(&self.report, 8));
+        let states = self.report[rows..end].iter().step_by(12);
+        states.filter(|&&state| state == 3).count()
     }
 
     /// The order that run wrote down.

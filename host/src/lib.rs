@@ -3,17 +3,23 @@
 //!
 //! - `answer`: number and place of an answer.
 //! - `layout`: where the fields of a sheet stand, and their limits.
-//! - `ffi`: the library behind a safe function.
+//! - `ffi`: the library behind safe functions.
 //! - `judge`: our own judge, in an ordinary and in a naive form.
 //! - `sheet`: builds job sheets, right ones and damaged ones.
 //! - `bench_jobs`: the bench jobs of document 01 as sheets.
 //! - `random`: a seeded generator of numbers.
 //! - `generate`: generators of sheets for the differential tests.
-//! - `guarded`: lends a sheet between guard bytes.
-//! - `desk`: lends rooms to *follow* and *run* and reads the report.
+//! - `guarded`: lends buffers to the library between guard bytes.
+//! - `desk`: the rooms lent to *follow* and *run*, and the report read.
+//! - `compare`: one call put to both judges and the library.
+//! - `trial`: a generated sheet with rooms and orders, tried on all three.
+//! - `command`: what the two differential programs share.
+//! - `traffic`: the jobs that are timed.
 
 pub mod answer;
 pub mod bench_jobs;
+pub mod command;
+pub mod compare;
 pub mod desk;
 pub mod ffi;
 pub mod generate;
@@ -22,3 +28,5 @@ pub mod judge;
 pub mod layout;
 pub mod random;
 pub mod sheet;
+pub mod traffic;
+pub mod trial;

@@ -5,6 +5,7 @@
 //! - `size`: how large a sheet becomes.
 //! - `script`: right scripts for a board.
 //! - `valid`: whole right sheets.
+//! - `jobs`: right sheets whose messages mostly have a receive.
 //! - `damage`: one wrong field, or one at the edge of its range.
 //! - `garbage`: random bytes, truncations, extensions, random fields.
 //! - `requests`: slots and areas just right and just wrong.
@@ -12,6 +13,7 @@
 
 mod damage;
 mod garbage;
+pub mod jobs;
 mod limits;
 mod requests;
 mod script;

@@ -40,19 +40,51 @@ impl<'a> Writer<'a> {
         self.script
     }
 
+    fn holding(&self) -> bool {
+        self.held.iter().any(Option::is_some)
+    }
+
     /// Adds one operation that breaks no rule.
     pub fn add(&mut self, random: &mut Random) {
-        let holding = self.held.iter().any(Option::is_some);
-        if holding && random.chance(self.around.waits) {
-            let slot = self.some_slot(random, true);
-            self.last_freed = self.held[usize::from(slot)].take();
-            self.script.push(Operation::wait(slot));
-            return;
+        if self.holding() && random.chance(self.around.waits) {
+            return self.wait(random);
         }
-        let mut operation = match random.chance(50) {
+        let operation = match random.chance(50) {
             true => self.receive(random),
             false => self.send(random),
         };
+        self.take_up(operation, random);
+    }
+
+    /// Adds this blocking transfer, at times as a nonblocking one and at
+    /// times behind a wait. A receive gets a free area of its length.
+    pub fn put(&mut self, mut operation: Operation, random: &mut Random) {
+        if self.holding() && random.chance(self.around.waits) {
+            self.wait(random);
+        }
+        if operation.kind == kind::RECEIVE {
+            let (offset, length) = self.area_of(usize::from(operation.length), random);
+            operation.offset = offset;
+            operation.length = length;
+        }
+        self.take_up(operation, random);
+    }
+
+    /// Waits for all slots that are held.
+    pub fn wait_for_all(&mut self, random: &mut Random) {
+        while self.holding() {
+            self.wait(random);
+        }
+    }
+
+    /// Waits for a held slot; there is one.
+    fn wait(&mut self, random: &mut Random) {
+        let slot = self.some_slot(random, true);
+        self.last_freed = self.held[usize::from(slot)].take();
+        self.script.push(Operation::wait(slot));
+    }
+
+    fn take_up(&mut self, mut operation: Operation, random: &mut Random) {
         let full = self.held.iter().all(Option::is_some);
         if !full && random.chance(self.around.nonblocking) {
             let slot = self.free_slot(random);
@@ -117,6 +149,22 @@ impl<'a> Writer<'a> {
             if inside && !self.shares(offset, length) {
                 return (offset, length);
             }
+        }
+        (random.between(0, self.inbox) as u16, 0)
+    }
+
+    /// A free area of this length anywhere; a shorter one if a few tries find
+    /// none.
+    fn area_of(&self, wanted: usize, random: &mut Random) -> (u16, u16) {
+        let mut length = wanted.min(self.inbox);
+        while length > 0 {
+            for _ in 0..3 {
+                let offset = random.between(0, self.inbox - length);
+                if !self.shares(offset as u16, length as u16) {
+                    return (offset as u16, length as u16);
+                }
+            }
+            length /= 2;
         }
         (random.between(0, self.inbox) as u16, 0)
     }

@@ -1,0 +1,5 @@
+-- What the contracts of this crate's inner functions cite beside rules, and the laws that join them to the services.
+--   Rooms      refusal 8
+--   Outcomes   what follow and run do once sheet and rooms are accepted, and the whole outcome from that
+pub mod Rooms
+pub mod Outcomes

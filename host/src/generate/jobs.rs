@@ -1,0 +1,243 @@
+//! Sheets whose messages mostly have a receive: boards that talk to each
+//! other, so that steps, matches, buffers and deliveries are tried. Few
+//! ranks, tags and communicators, so that several messages fit one receive.
+
+use super::script::{Surroundings, Writer};
+use crate::layout::kind::{BUFFERED, READY, RECEIVE, STANDARD, SYNCHRONOUS};
+use crate::layout::{ANY, MOST_ATTACHED, MOST_BOARDS, MOST_INBOX_TOTAL, MOST_PAYLOAD};
+use crate::random::Random;
+use crate::sheet::{Board, Operation, Sheet};
+
+/// How large a job is and what its boards do. Shares are out of a hundred.
+pub struct Manner {
+    boards: usize,
+    messages: usize,
+    payload: usize,
+    inboxes: usize,
+    communicators: usize,
+    tags: usize,
+    longest: usize,
+    /// Nothing whose outcome depends on the order (document 01, demand 3).
+    calm: bool,
+    nonblocking: usize,
+    waits: usize,
+    /// Neighbours of a script that change places.
+    displaced: usize,
+    /// Transfers without a partner.
+    stray: usize,
+    /// The kinds that sends are drawn from.
+    kinds: &'static [u8],
+}
+
+const ALL_KINDS: &[u8] = &[
+    STANDARD,
+    BUFFERED,
+    BUFFERED,
+    BUFFERED,
+    SYNCHRONOUS,
+    STANDARD,
+    READY,
+];
+const WITHOUT_READY: &[u8] = &[STANDARD, BUFFERED, BUFFERED, SYNCHRONOUS];
+
+fn manner(random: &mut Random, calm: bool) -> Manner {
+    let seldom_ready = calm || random.chance(50);
+    Manner {
+        boards: random.between(2, 4),
+        messages: random.between(1, 14),
+        payload: random.between(0, 48),
+        inboxes: random.between(16, 160),
+        communicators: random.pick(&[1, 1, 2, 3]),
+        tags: random.between(1, 3),
+        longest: 12,
+        calm,
+        nonblocking: random.pick(&[0, 20, 50, 80, 100]),
+        waits: random.pick(&[0, 10, 30, 60]),
+        displaced: random.pick(&[0, 0, 0, 10, 40]),
+        stray: random.pick(&[0, 0, 0, 5, 20]),
+        kinds: match seldom_ready {
+            true => random.pick(&[WITHOUT_READY, &[BUFFERED], &[STANDARD, SYNCHRONOUS]]),
+            false => random.pick(&[ALL_KINDS, &[READY], &[BUFFERED, READY]]),
+        },
+    }
+}
+
+pub fn small(random: &mut Random, calm: bool) -> Vec<u8> {
+    let mut manner = manner(random, calm);
+    if random.chance(10) {
+        manner.boards = random.pick(&[1, 5, 9, MOST_BOARDS]);
+    }
+    sheet(random, &manner).bytes()
+}
+
+pub fn medium(random: &mut Random, calm: bool) -> Vec<u8> {
+    let manner = Manner {
+        boards: random.between(2, MOST_BOARDS),
+        messages: random.between(20, 120),
+        payload: random.between(0, 2000),
+        inboxes: random.between(200, 4000),
+        longest: random.pick(&[0, 12, 200, 600]),
+        ..manner(random, calm)
+    };
+    sheet(random, &manner).bytes()
+}
+
+/// Up to 1,024 operations, messages of up to 4,096 bytes.
+pub fn large(random: &mut Random, calm: bool) -> Vec<u8> {
+    let nonblocking = random.pick(&[0, 30]);
+    let manner = Manner {
+        boards: random.pick(&[1, 4, 15, MOST_BOARDS]),
+        messages: match nonblocking {
+            0 => random.pick(&[300, 512]),
+            // Each transfer may bring a wait.
+            _ => random.between(100, 250),
+        },
+        payload: MOST_PAYLOAD,
+        inboxes: MOST_INBOX_TOTAL,
+        communicators: random.between(1, 8),
+        longest: random.pick(&[12, 1000, 4096]),
+        nonblocking,
+        waits: nonblocking,
+        ..manner(random, calm)
+    };
+    sheet(random, &manner).bytes()
+}
+
+fn sheet(random: &mut Random, manner: &Manner) -> Sheet {
+    let mut wishes = wishes(random, manner);
+    if manner.calm {
+        wishes.iter_mut().for_each(|script| cover(script));
+    }
+    let around = Surroundings {
+        boards: manner.boards,
+        communicators: manner.communicators as u16,
+        payload: manner.payload,
+        nonblocking: manner.nonblocking,
+        waits: manner.waits,
+    };
+    let all_waited = random.chance(70);
+    let inbox = manner.inboxes / manner.boards;
+    let boards = wishes.iter().map(|wishes| {
+        let mut writer = Writer::new(&around, inbox);
+        for &wish in wishes {
+            writer.put(wish, random);
+        }
+        if all_waited {
+            writer.wait_for_all(random);
+        }
+        let script = writer.finish();
+        Board {
+            attached: attached(random, manner, charges(&script)),
+            inbox: inbox as u16,
+            script,
+        }
+    });
+    Sheet {
+        communicators: manner.communicators as u16,
+        boards: boards.collect(),
+        payload: random.bytes(manner.payload),
+    }
+}
+
+/// The scripts without slots and areas. Sends and receives stand in one
+/// order on all boards, so that a job without displaced ones can finish.
+fn wishes(random: &mut Random, manner: &Manner) -> Vec<Vec<Operation>> {
+    let mut scripts = vec![Vec::new(); manner.boards];
+    for _ in 0..manner.messages {
+        let source = random.below(manner.boards);
+        let destination = match random.chance(95) {
+            true => (source + random.below(manner.boards)) % manner.boards,
+            false => source,
+        };
+        let (send, receive) = pair(random, manner, source, destination);
+        match random.chance(manner.stray) {
+            true if random.chance(50) => scripts[source].push(send),
+            true => scripts[destination].push(receive),
+            false if source == destination => {
+                // Only a posted or a buffered one can meet on one board.
+                scripts[source].extend([receive, send]);
+            }
+            false => {
+                scripts[source].push(send);
+                scripts[destination].push(receive);
+            }
+        }
+    }
+    for script in &mut scripts {
+        for at in 1..script.len() {
+            if random.chance(manner.displaced) {
+                script.swap(at - 1, at);
+            }
+        }
+    }
+    scripts
+}
+
+fn pair(
+    random: &mut Random,
+    manner: &Manner,
+    source: usize,
+    destination: usize,
+) -> (Operation, Operation) {
+    let length = random.between(0, manner.longest.min(manner.payload));
+    let offset = random.between(0, manner.payload - length);
+    let send = Operation {
+        peer: destination as u16,
+        communicator: random.below(manner.communicators) as u16,
+        tag: random.below(manner.tags) as u16,
+        ..Operation::send(random.pick(manner.kinds), 0, 0, offset as u16, length as u16)
+    };
+    let capacity = match random.below(8) {
+        0 => length.saturating_sub(1),
+        1 => length / 2,
+        2 | 3 => length,
+        _ => (length + random.below(4)).min(4096),
+    };
+    let mut receive = Operation {
+        kind: RECEIVE,
+        peer: source as u16,
+        length: capacity as u16,
+        offset: 0,
+        ..send
+    };
+    if random.chance(30) {
+        receive.tag = ANY;
+    }
+    if !manner.calm && random.chance(40) {
+        receive.peer = ANY;
+    }
+    (send, receive)
+}
+
+/// All buffered sends of a script together, were none matched.
+fn charges(script: &[Operation]) -> usize {
+    let buffered = script.iter().filter(|operation| operation.kind == BUFFERED);
+    buffered.map(|operation| usize::from(operation.length)).sum()
+}
+
+/// Makes those buffered sends standard that no attached buffer covers.
+fn cover(script: &mut [Operation]) {
+    let mut total = 0;
+    for operation in script {
+        if operation.kind == BUFFERED {
+            total += usize::from(operation.length);
+            if total > MOST_ATTACHED {
+                operation.kind = STANDARD;
+            }
+        }
+    }
+}
+
+/// Covering all charges on a calm sheet; else often just enough, one byte
+/// short, or little.
+fn attached(random: &mut Random, manner: &Manner, charges: usize) -> u16 {
+    let charges = charges.min(MOST_ATTACHED);
+    let size = match random.below(6) {
+        0 | 1 => charges,
+        2 => MOST_ATTACHED,
+        _ if manner.calm => random.between(charges, MOST_ATTACHED),
+        3 => charges.saturating_sub(1),
+        _ => random.between(0, charges),
+    };
+    size as u16
+}
