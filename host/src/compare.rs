@@ -76,12 +76,12 @@ pub fn all(
     random: &mut Random,
 ) -> Result<Outcome, String> {
     let expected = naive(sheet, call, before);
-    kept_as_promised(sheet, call, before, &expected).map_err(|text| format!("naive judge: {text}"))?;
+    kept_as_promised(sheet, call, before, &expected)
+        .map_err(|text| format!("naive judge: {text}"))?;
     expected
         .same(&efficient(sheet, call, before))
         .map_err(|text| format!("naive and efficient judge: {text}"))?;
-    let theirs =
-        library(sheet, call, before, random).map_err(|text| format!("library: {text}"))?;
+    let theirs = library(sheet, call, before, random).map_err(|text| format!("library: {text}"))?;
     expected
         .same(&theirs)
         .map_err(|text| format!("judge and library: {text}"))?;
@@ -96,7 +96,10 @@ impl Outcome {
         }
         for ((name, ours), (_, theirs)) in self.desk.by_name().iter().zip(other.desk.by_name()) {
             if let Some(at) = (0..ours.len()).find(|&at| ours[at] != theirs[at]) {
-                return Err(format!("byte {at} of {name}: {} and {}", ours[at], theirs[at]));
+                return Err(format!(
+                    "byte {at} of {name}: {} and {}",
+                    ours[at], theirs[at]
+                ));
             }
         }
         Ok(())
@@ -132,6 +135,8 @@ fn kept_as_promised(
         && desk.order_out[order_out..] == before.order_out[order_out..];
     match kept {
         true => Ok(()),
-        false => Err(String::from("a byte was written that has to keep its value")),
+        false => Err(String::from(
+            "a byte was written that has to keep its value",
+        )),
     }
 }

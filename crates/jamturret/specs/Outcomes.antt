@@ -160,3 +160,16 @@ module _ (bs i r o c : List ℕ) where
 
       scratch-new : (k : ℕ) → k ≡ 0 → replicate (length c) 0 ≡ scratch-left k c
       scratch-new k q = unfold scratch-left in (let u = eq-eqb k 0 q in rw u)
+
+-- FROM WHAT WAS DONE
+pub does-refused : (bs o i r c c-now : List ℕ) (k : ℕ) (x : Job) → follow (sheet-in bs) o i ≡ followed (some k) x → c-now ≡ replicate (length c) 0 → Follow-does bs o 9 k i i r r c c-now
+unfolding Follow-does followed order-refusal refusal told kept-or
+does-refused bs o i r c c-now k x e z = rw e ((refl, refl), refl, refl, z)
+
+pub does-followed : (bs o i i-now r r-now c c-now : List ℕ) (x : Job) → follow (sheet-in bs) o i ≡ followed none x → i-now ≡ x .memory → r-now ≡ in-front (report (sheet-in bs) x) r → c-now ≡ replicate (length c) 0 → Follow-does bs o 0 0 i i-now r r-now c c-now
+unfolding Follow-does followed order-refusal refusal told kept-or
+does-followed bs o i i-now r r-now c c-now x e a b z = rw e ((refl, refl), a, b, z)
+
+pub does-run : (bs i i-now r r-now o o-now c c-now taken : List ℕ) (x : Job) → run (sheet-in bs) i ≡ ran taken x → i-now ≡ x .memory → r-now ≡ in-front (report (sheet-in bs) x) r → o-now ≡ in-front taken o → c-now ≡ replicate (length c) 0 → Run-does bs 0 0 i i-now r r-now o o-now c c-now
+unfolding Run-does ran
+does-run bs i i-now r r-now o o-now c c-now taken x e a b d z = rw e (refl, refl, a, b, d, z)

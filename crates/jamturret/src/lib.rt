@@ -1,8 +1,13 @@
 // The public services, exported to C and Rust. A slice passes as a pointer and a length. Each service states its whole outcome
 // for every input, with no `requires`.
-ghost use Rattle.rules.specs.Service.{Check-says};
+ghost use Rattle.rules.specs.Service.{Check-says, Follow-says, Run-says};
+
+mod jobs;
+mod rooms;
+
 use sheet::Answer;
 use sheet::check;
+use sheet::header;
 
 // CHECK a sheet: refusals 1 to 7, or number 0 and place 0. Shut out, among others: a check that refuses everything, and one
 // that accepts everything.
@@ -11,4 +16,39 @@ pub extern "C" fn jamturret_check(sheet: &[u8]) -> Answer
     ensures { λ a. ⌜ Check-says (now (sheet .entry)) (a .number) (a .place) ⌝ }
 {
     check::check(sheet)
+}
+
+// FOLLOW a sheet with a given order of ranks: refusals 1 to 9; on success inbox and report hold the outcome. Scratch is all zero
+// after success or 9. Shut out, among others: one that delivers before the order is known good, and one that leaves scratch as
+// its work left it.
+#[no_mangle]
+pub extern "C" fn jamturret_follow(sheet: &[u8], order: &[u8], inbox: &mut [u8], report: &mut [u8], scratch: &mut [u8]) -> Answer
+    ensures { λ a. ⌜ Follow-says (now (sheet .entry)) (now (order .entry)) (a .number) (a .place) (now (inbox .entry)) (now (inbox .exit)) (now (report .entry)) (now (report .exit)) (now (scratch .entry)) (now (scratch .exit)) ⌝ }
+{
+    let checked = check::check(sheet);
+    if checked.number != 0 {
+        return checked;
+    }
+    let short = rooms::refusal(sheet, inbox.len(), report.len(), 2 * header::ops(sheet), scratch.len());
+    if short.number != 0 {
+        return short;
+    }
+    jobs::follow(sheet, order, inbox, report, scratch)
+}
+
+// RUN a sheet, choosing at each step the lowest rank that is able, and write down that order: refusals 1 to 8. Shut out, among
+// others: one that writes behind the last step of the order, and one that takes the highest rank.
+#[no_mangle]
+pub extern "C" fn jamturret_run(sheet: &[u8], inbox: &mut [u8], report: &mut [u8], order: &mut [u8], scratch: &mut [u8]) -> Answer
+    ensures { λ a. ⌜ Run-says (now (sheet .entry)) (a .number) (a .place) (now (inbox .entry)) (now (inbox .exit)) (now (report .entry)) (now (report .exit)) (now (order .entry)) (now (order .exit)) (now (scratch .entry)) (now (scratch .exit)) ⌝ }
+{
+    let checked = check::check(sheet);
+    if checked.number != 0 {
+        return checked;
+    }
+    let short = rooms::refusal(sheet, inbox.len(), report.len(), order.len(), scratch.len());
+    if short.number != 0 {
+        return short;
+    }
+    jobs::run(sheet, inbox, report, order, scratch)
 }

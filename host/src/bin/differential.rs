@@ -4,10 +4,10 @@
 //! the first difference prints what is needed to see it and exits with 1.
 
 use jamturret_host::answer::Answer;
+use jamturret_host::command::{argument, difference};
 use jamturret_host::generate::{self, KINDS};
 use jamturret_host::{guarded, judge};
 use std::time::Instant;
-use std::{env, fs, process};
 
 const SEED: u64 = 20_240_601;
 const CASES: u64 = 400_000;
@@ -16,15 +16,12 @@ const CASES: u64 = 400_000;
 const NAIVE_BYTES: usize = 1000;
 const NAIVE_EVERY: u64 = 4;
 
-/// Sheets up to this size are printed, longer ones go into a file.
-const PRINTED_BYTES: usize = 2000;
-
 /// Answers counted for each kind: numbers 0 to 7.
 type Counts = [[u64; 8]; KINDS.len()];
 
 fn main() {
-    let seed = argument(1, SEED);
-    let cases = argument(2, CASES);
+    let seed = argument("differential", 1, SEED);
+    let cases = argument("differential", 2, CASES);
     let start = Instant::now();
     let mut counts: Counts = [[0; 8]; KINDS.len()];
     let mut naive = 0;
@@ -34,13 +31,8 @@ fn main() {
         let theirs = guarded::check(&sheet, &mut random);
         if theirs != Ok(ours) {
             let theirs = theirs.map_or_else(|text| text, |answer| answer.to_string());
-            report(
-                seed,
-                number,
-                kind,
-                &sheet,
-                &[("library", theirs), ("judge", ours.to_string())],
-            );
+            let answers = [("library", theirs), ("judge", ours.to_string())];
+            difference(seed, number, KINDS[kind].0, &sheet, &answers);
         }
         if sheet.len() <= NAIVE_BYTES && number % NAIVE_EVERY == 0 {
             naive += 1;
@@ -55,16 +47,6 @@ fn main() {
     );
 }
 
-fn argument(place: usize, default: u64) -> u64 {
-    match env::args().nth(place) {
-        None => default,
-        Some(text) => text.parse().unwrap_or_else(|_| {
-            eprintln!("usage: differential [SEED] [CASES]");
-            process::exit(2)
-        }),
-    }
-}
-
 fn compare_naive(seed: u64, number: u64, kind: usize, sheet: &[u8], ours: Answer) {
     let naive = judge::naive::check(sheet);
     if naive != ours {
@@ -72,34 +54,8 @@ fn compare_naive(seed: u64, number: u64, kind: usize, sheet: &[u8], ours: Answer
             ("naive judge", naive.to_string()),
             ("judge", ours.to_string()),
         ];
-        report(seed, number, kind, sheet, &answers);
+        difference(seed, number, KINDS[kind].0, sheet, &answers);
     }
-}
-
-/// Says where the first difference is and ends the program.
-fn report(seed: u64, number: u64, kind: usize, sheet: &[u8], answers: &[(&str, String)]) -> ! {
-    eprintln!(
-        "difference: seed {seed}, case {number}, kind \"{}\"",
-        KINDS[kind].0
-    );
-    for (who, answer) in answers {
-        eprintln!("  {who}: {answer}");
-    }
-    if sheet.len() <= PRINTED_BYTES {
-        let hex: Vec<String> = sheet.iter().map(|byte| format!("{byte:02X}")).collect();
-        eprintln!("  sheet, {} bytes: {}", sheet.len(), hex.join(" "));
-    } else {
-        let path = env::temp_dir().join(format!("jamturret-{seed}-{number}.sheet"));
-        match fs::write(&path, sheet) {
-            Ok(()) => eprintln!(
-                "  sheet, {} bytes, written to {}",
-                sheet.len(),
-                path.display()
-            ),
-            Err(error) => eprintln!("  sheet could not be written: {error}"),
-        }
-    }
-    process::exit(1)
 }
 
 fn print(counts: &Counts) {

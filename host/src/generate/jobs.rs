@@ -25,6 +25,10 @@ pub struct Manner {
     displaced: usize,
     /// Transfers without a partner.
     stray: usize,
+    /// Messages of a board to itself.
+    to_oneself: usize,
+    /// Receives from any source.
+    any_source: usize,
     /// The kinds that sends are drawn from.
     kinds: &'static [u8],
 }
@@ -38,24 +42,31 @@ const ALL_KINDS: &[u8] = &[
     STANDARD,
     READY,
 ];
+/// Two of them differ only in the high byte.
+const TAGS: [u16; 4] = [0, 256, 1, 32_767];
 const WITHOUT_READY: &[u8] = &[STANDARD, BUFFERED, BUFFERED, SYNCHRONOUS];
 
 fn manner(random: &mut Random, calm: bool) -> Manner {
-    let seldom_ready = calm || random.chance(50);
+    let without_ready = calm || random.chance(50);
     Manner {
         boards: random.between(2, 4),
         messages: random.between(1, 14),
         payload: random.between(0, 48),
         inboxes: random.between(16, 160),
         communicators: random.pick(&[1, 1, 2, 3]),
-        tags: random.between(1, 3),
+        tags: random.between(1, TAGS.len()),
         longest: 12,
         calm,
         nonblocking: random.pick(&[0, 20, 50, 80, 100]),
         waits: random.pick(&[0, 10, 30, 60]),
         displaced: random.pick(&[0, 0, 0, 10, 40]),
         stray: random.pick(&[0, 0, 0, 5, 20]),
-        kinds: match seldom_ready {
+        to_oneself: random.pick(&[0, 0, 5, 20]),
+        any_source: match calm {
+            true => 0,
+            false => random.pick(&[0, 10, 40, 100]),
+        },
+        kinds: match without_ready {
             true => random.pick(&[WITHOUT_READY, &[BUFFERED], &[STANDARD, SYNCHRONOUS]]),
             false => random.pick(&[ALL_KINDS, &[READY], &[BUFFERED, READY]]),
         },
@@ -75,7 +86,7 @@ pub fn medium(random: &mut Random, calm: bool) -> Vec<u8> {
         boards: random.between(2, MOST_BOARDS),
         messages: random.between(20, 120),
         payload: random.between(0, 2000),
-        inboxes: random.between(200, 4000),
+        inboxes: random.between(500, 8000),
         longest: random.pick(&[0, 12, 200, 600]),
         ..manner(random, calm)
     };
@@ -145,8 +156,8 @@ fn wishes(random: &mut Random, manner: &Manner) -> Vec<Vec<Operation>> {
     let mut scripts = vec![Vec::new(); manner.boards];
     for _ in 0..manner.messages {
         let source = random.below(manner.boards);
-        let destination = match random.chance(95) {
-            true => (source + random.below(manner.boards)) % manner.boards,
+        let destination = match manner.boards > 1 && !random.chance(manner.to_oneself) {
+            true => (source + random.between(1, manner.boards - 1)) % manner.boards,
             false => source,
         };
         let (send, receive) = pair(random, manner, source, destination);
@@ -184,8 +195,14 @@ fn pair(
     let send = Operation {
         peer: destination as u16,
         communicator: random.below(manner.communicators) as u16,
-        tag: random.below(manner.tags) as u16,
-        ..Operation::send(random.pick(manner.kinds), 0, 0, offset as u16, length as u16)
+        tag: TAGS[random.below(manner.tags)],
+        ..Operation::send(
+            random.pick(manner.kinds),
+            0,
+            0,
+            offset as u16,
+            length as u16,
+        )
     };
     let capacity = match random.below(8) {
         0 => length.saturating_sub(1),
@@ -203,7 +220,7 @@ fn pair(
     if random.chance(30) {
         receive.tag = ANY;
     }
-    if !manner.calm && random.chance(40) {
+    if random.chance(manner.any_source) {
         receive.peer = ANY;
     }
     (send, receive)
@@ -212,7 +229,9 @@ fn pair(
 /// All buffered sends of a script together, were none matched.
 fn charges(script: &[Operation]) -> usize {
     let buffered = script.iter().filter(|operation| operation.kind == BUFFERED);
-    buffered.map(|operation| usize::from(operation.length)).sum()
+    buffered
+        .map(|operation| usize::from(operation.length))
+        .sum()
 }
 
 /// Makes those buffered sends standard that no attached buffer covers.

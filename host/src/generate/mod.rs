@@ -52,18 +52,29 @@ pub const KINDS: [(&str, usize, Generator); 14] = [
 ];
 
 /// Case number `case` of a seed: its kind (an index into `KINDS`) and sheet.
-/// Each case has a generator of its own, so that it can be made alone.
 pub fn case(seed: u64, case: u64) -> (usize, Vec<u8>, Random) {
-    let mut random =
-        Random::new(Random::new(seed).next() ^ case.wrapping_mul(0xD134_2543_DE82_EF95));
-    let mut left = random.below(100);
-    let mut kind = 0;
-    while left >= KINDS[kind].1 {
-        left -= KINDS[kind].1;
-        kind += 1;
-    }
+    let mut random = of_case(seed, case);
+    let shares = KINDS.map(|(_, share, _)| share);
+    let kind = by_share(&shares, &mut random);
     let sheet = KINDS[kind].2(&mut random);
     (kind, sheet, random)
+}
+
+/// Each case has a generator of numbers of its own, so that it can be made
+/// alone.
+pub fn of_case(seed: u64, case: u64) -> Random {
+    Random::new(Random::new(seed).next() ^ case.wrapping_mul(0xD134_2543_DE82_EF95))
+}
+
+/// An index, as often as its share of a hundred says.
+pub fn by_share(shares: &[usize], random: &mut Random) -> usize {
+    let mut left = random.below(100);
+    let mut index = 0;
+    while left >= shares[index] {
+        left -= shares[index];
+        index += 1;
+    }
+    index
 }
 
 fn right(random: &mut Random, size: fn(&mut Random) -> size::Size) -> Vec<u8> {

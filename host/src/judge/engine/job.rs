@@ -203,7 +203,8 @@ impl<'a> Job<'a> {
         let source = self.ranks[message];
         if self.rows[message][0] == state::BUFFERED {
             let place = &mut self.places[usize::from(source)];
-            set_word(place, IN_USE, word(place, IN_USE) - length);
+            let in_use = word(place, IN_USE) - length;
+            set_word(place, IN_USE, in_use);
         }
         let cut = length > word(&self.view.operations[receive], at::LENGTH);
         self.cut += u16::from(cut);

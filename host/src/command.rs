@@ -1,0 +1,47 @@
+//! What the two differential programs share: arguments, and saying where the
+//! first difference is.
+
+use std::{env, fs, process};
+
+/// Sheets up to this size are printed, longer ones go into a file.
+const PRINTED_BYTES: usize = 2000;
+
+/// A number from the command line, or its default.
+pub fn argument(program: &str, place: usize, default: u64) -> u64 {
+    match env::args().nth(place) {
+        None => default,
+        Some(text) => text.parse().unwrap_or_else(|_| {
+            eprintln!("usage: {program} [SEED] [CASES]");
+            process::exit(2)
+        }),
+    }
+}
+
+/// Says what is needed to see a difference again and ends the program.
+pub fn difference(
+    seed: u64,
+    number: u64,
+    kind: &str,
+    sheet: &[u8],
+    answers: &[(&str, String)],
+) -> ! {
+    eprintln!("difference: seed {seed}, case {number}, kind \"{kind}\"");
+    for (who, answer) in answers {
+        eprintln!("  {who}: {answer}");
+    }
+    if sheet.len() <= PRINTED_BYTES {
+        let hex: Vec<String> = sheet.iter().map(|byte| format!("{byte:02X}")).collect();
+        eprintln!("  sheet, {} bytes: {}", sheet.len(), hex.join(" "));
+    } else {
+        let path = env::temp_dir().join(format!("jamturret-{seed}-{number}.sheet"));
+        match fs::write(&path, sheet) {
+            Ok(()) => eprintln!(
+                "  sheet, {} bytes, written to {}",
+                sheet.len(),
+                path.display()
+            ),
+            Err(error) => eprintln!("  sheet could not be written: {error}"),
+        }
+    }
+    process::exit(1)
+}

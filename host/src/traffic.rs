@@ -1,0 +1,97 @@
+//! The jobs that are timed, and that the tests use as large jobs: ring and
+//! all-to-one traffic of empty blocking buffered sends and their receives on
+//! sixteen boards, and messages of 4,096 bytes.
+
+use crate::layout::kind::{BUFFERED, STANDARD};
+use crate::layout::{MOST_BOARDS, MOST_LENGTH, MOST_PAYLOAD};
+use crate::sheet::{Board, Operation, Sheet};
+
+/// An empty message is covered by any attached buffer.
+fn empty_send(to: usize) -> Operation {
+    Operation::send(BUFFERED, to as u16, 0, 0, 0)
+}
+
+fn empty_receive(from: usize) -> Operation {
+    Operation::receive(from as u16, 0, 0, 0)
+}
+
+fn of_scripts(scripts: Vec<Vec<Operation>>) -> Sheet {
+    let scripts: Vec<&[Operation]> = scripts.iter().map(Vec::as_slice).collect();
+    Sheet::of_scripts(&scripts, 0)
+}
+
+/// Each board sends to the next and receives from the one before, in turn.
+/// `operations` is a multiple of 32.
+pub fn ring(operations: usize) -> Sheet {
+    of_scripts(ring_scripts(operations, |send, receive, rounds| {
+        [send, receive].repeat(rounds)
+    }))
+}
+
+/// The same with all sends of a board before its receives, so that half of
+/// the operations are pending at once.
+pub fn ring_sends_first(operations: usize) -> Sheet {
+    of_scripts(ring_scripts(operations, |send, receive, rounds| {
+        [vec![send; rounds], vec![receive; rounds]].concat()
+    }))
+}
+
+fn ring_scripts(
+    operations: usize,
+    script: impl Fn(Operation, Operation, usize) -> Vec<Operation>,
+) -> Vec<Vec<Operation>> {
+    let rounds = operations / (2 * MOST_BOARDS);
+    let board = |rank: usize| {
+        let next = (rank + 1) % MOST_BOARDS;
+        let before = (rank + MOST_BOARDS - 1) % MOST_BOARDS;
+        script(empty_send(next), empty_receive(before), rounds)
+    };
+    (0..MOST_BOARDS).map(board).collect()
+}
+
+/// The others send to rank 15, as evenly as it goes; it receives the highest
+/// sender's first.
+pub fn all_to_one(operations: usize) -> Sheet {
+    let senders = MOST_BOARDS - 1;
+    let messages = operations / 2;
+    let share = |rank: usize| messages / senders + usize::from(rank < messages % senders);
+    let mut scripts: Vec<Vec<Operation>> = (0..senders)
+        .map(|rank| vec![empty_send(senders); share(rank)])
+        .collect();
+    let receives = (0..senders)
+        .rev()
+        .flat_map(|rank| vec![empty_receive(rank); share(rank)]);
+    scripts.push(receives.collect());
+    of_scripts(scripts)
+}
+
+/// Four boards send 128 messages each of 4,096 bytes to four others.
+pub fn heavy() -> Sheet {
+    const PAIRS: usize = 4;
+    const MESSAGES: usize = 128;
+    let mut boards = Vec::new();
+    for rank in 0..PAIRS {
+        let stretch = |message: usize| ((message % 4) * usize::from(MOST_LENGTH)) as u16;
+        let to = (rank + PAIRS) as u16;
+        let send = |message| Operation::send(STANDARD, to, 0, stretch(message), MOST_LENGTH);
+        boards.push(Board {
+            attached: 0,
+            inbox: 0,
+            script: (0..MESSAGES).map(send).collect(),
+        });
+    }
+    for rank in 0..PAIRS {
+        boards.push(Board {
+            attached: 0,
+            inbox: MOST_LENGTH,
+            script: vec![Operation::receive(rank as u16, 0, 0, MOST_LENGTH); MESSAGES],
+        });
+    }
+    Sheet {
+        communicators: 1,
+        boards,
+        payload: (0..MOST_PAYLOAD)
+            .map(|at| (at * 7 + at / 256) as u8)
+            .collect(),
+    }
+}

@@ -1,0 +1,117 @@
+//! What the trials reached, so that a reader sees that nothing is left out.
+
+use super::{KINDS, ORDERS};
+use crate::answer::Answer;
+use crate::compare::Outcome;
+use crate::layout::word;
+use std::fmt;
+
+/// Verdicts 0 to 4, then refusals 1 to 9.
+const COLUMNS: usize = 5 + 9;
+
+#[derive(Default)]
+pub struct Counts {
+    kinds: [[u64; COLUMNS]; KINDS.len()],
+    /// Refusal 8 by place, 1 to 4.
+    short: [u64; 4],
+    /// Accepted, refused 9 at index 0, later, refused otherwise.
+    orders: [[u64; 4]; ORDERS.len()],
+    steps: u64,
+    matches: u64,
+    cut: u64,
+    pending_messages: u64,
+    pending_receives: u64,
+    pub whole_orders: u64,
+    /// Exchanged steps of orders that were accepted, and that were not.
+    pub exchanged: [u64; 2],
+}
+
+impl Counts {
+    pub fn call(&mut self, kind: usize, outcome: &Outcome) {
+        let Answer { number, place } = outcome.answer;
+        if number == 0 {
+            self.success(kind, &outcome.desk.report);
+            self.matches += outcome.desk.matched_rows() as u64 / 2;
+            return;
+        }
+        self.kinds[kind][4 + number as usize] += 1;
+        if number == 8 {
+            self.short[place as usize - 1] += 1;
+        }
+    }
+
+    fn success(&mut self, kind: usize, report: &[u8]) {
+        self.kinds[kind][usize::from(report[0])] += 1;
+        let at = |place| u64::from(word(report, place));
+        self.steps += at(4);
+        self.pending_messages += at(10);
+        self.pending_receives += at(12);
+        self.cut += at(14);
+    }
+
+    pub fn order(&mut self, which: usize, answer: Answer) {
+        let column = match (answer.number, answer.place) {
+            (0, _) => 0,
+            (9, 0) => 1,
+            (9, _) => 2,
+            _ => 3,
+        };
+        self.orders[which][column] += 1;
+    }
+
+    /// Calls of all kinds.
+    pub fn calls(&self) -> u64 {
+        self.kinds.iter().flatten().sum()
+    }
+
+    /// The smallest count of a verdict, a refusal, a place of 8 and an order
+    /// that 9 refuses: 0 if something was not reached.
+    pub fn least(&self) -> u64 {
+        let columns = (0..COLUMNS).map(|column| self.column(column));
+        let refused = self.orders.iter().map(|row| row[1] + row[2]);
+        let wrong = refused.skip(3).take(3);
+        let others = self.short.into_iter().chain(self.exchanged);
+        columns.chain(wrong).chain(others).min().unwrap_or(0)
+    }
+
+    fn column(&self, column: usize) -> u64 {
+        self.kinds.iter().map(|row| row[column]).sum()
+    }
+}
+
+fn cells(out: &mut fmt::Formatter, name: &str, counts: &[u64]) -> fmt::Result {
+    write!(out, "{name:<28}")?;
+    for count in counts {
+        write!(out, "{count:>8}")?;
+    }
+    writeln!(out)
+}
+
+impl fmt::Display for Counts {
+    fn fmt(&self, out: &mut fmt::Formatter) -> fmt::Result {
+        writeln!(out, "calls by verdict 0 to 4, then by refusal 1 to 9")?;
+        for (row, (name, ..)) in self.kinds.iter().zip(KINDS) {
+            cells(out, name, row)?;
+        }
+        let all: Vec<u64> = (0..COLUMNS).map(|column| self.column(column)).collect();
+        cells(out, "all", &all)?;
+        writeln!(
+            out,
+            "orders: accepted, refused 9 at index 0, later, other refusals"
+        )?;
+        for (row, (name, _)) in self.orders.iter().zip(ORDERS) {
+            cells(out, name, row)?;
+        }
+        cells(out, "refusal 8 at place 1 to 4", &self.short)?;
+        writeln!(
+            out,
+            "{} steps, {} matches, {} of them cut; {} pending messages and {} pending receives left",
+            self.steps, self.matches, self.cut, self.pending_messages, self.pending_receives
+        )?;
+        writeln!(
+            out,
+            "{} whole orders end alike with run; {} exchanges of two steps in accepted orders, {} in refused ones",
+            self.whole_orders, self.exchanged[0], self.exchanged[1]
+        )
+    }
+}

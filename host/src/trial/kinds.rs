@@ -1,0 +1,53 @@
+//! Where the sheets of the trials come from.
+
+use crate::bench_jobs;
+use crate::generate::{self, jobs};
+use crate::random::Random;
+use crate::traffic;
+
+type Generator = fn(&mut Random) -> Vec<u8>;
+
+/// Name, how many of a hundred cases, generator.
+pub const KINDS: [(&str, usize, Generator); 9] = [
+    ("calm, small", 22, |random| jobs::small(random, true)),
+    ("calm, medium", 4, |random| jobs::medium(random, true)),
+    ("calm, large", 1, |random| jobs::large(random, true)),
+    ("wild, small", 32, |random| jobs::small(random, false)),
+    ("wild, medium", 6, |random| jobs::medium(random, false)),
+    ("wild, large", 1, |random| jobs::large(random, false)),
+    ("traffic", 1, any_traffic),
+    ("bench job", 7, bench_job),
+    // Right ones of every size, damaged ones and garbage.
+    ("as for check", 26, as_for_check),
+];
+
+/// The kind (an index into `KINDS`) and sheet of a case.
+pub fn sheet(seed: u64, case: u64) -> (usize, Vec<u8>, Random) {
+    let mut random = generate::of_case(seed, case);
+    let shares = KINDS.map(|(_, share, _)| share);
+    let kind = generate::by_share(&shares, &mut random);
+    let sheet = KINDS[kind].2(&mut random);
+    (kind, sheet, random)
+}
+
+fn bench_job(random: &mut Random) -> Vec<u8> {
+    let mut jobs = bench_jobs::accepted();
+    let (_, sheet) = jobs.swap_remove(random.below(jobs.len()));
+    sheet.bytes()
+}
+
+/// The jobs that are timed: up to 512 messages pending at once.
+fn any_traffic(random: &mut Random) -> Vec<u8> {
+    let operations = random.pick(&[32, 128, 1024, 1024]);
+    let sheet = match random.below(4) {
+        0 => traffic::ring(operations),
+        1 => traffic::ring_sends_first(operations),
+        2 => traffic::all_to_one(operations),
+        _ => traffic::heavy(),
+    };
+    sheet.bytes()
+}
+
+fn as_for_check(random: &mut Random) -> Vec<u8> {
+    generate::case(random.next(), 0).1
+}

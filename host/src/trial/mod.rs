@@ -1,0 +1,105 @@
+//! A generated sheet, lent rooms and orders, tried on both judges and the
+//! library.
+//!
+//! - `kinds`: where the sheets come from.
+//! - `rooms`: rooms that are just right, longer or short.
+//! - `orders`: orders that are right, wrong somewhere, or go on too long.
+//! - `alike`: document 01's claim about orders (demand 3).
+//! - `counts`: what was reached.
+
+pub mod alike;
+mod counts;
+mod kinds;
+mod orders;
+mod rooms;
+
+use crate::compare::{self, Call, Outcome};
+use crate::desk::Desk;
+use crate::judge::{self, Needs};
+use crate::random::Random;
+
+pub use counts::Counts;
+pub use kinds::{sheet, KINDS};
+pub use orders::ORDERS;
+pub use rooms::Filler;
+
+/// What is needed to see a difference again.
+pub struct Failure {
+    pub kind: usize,
+    pub sheet: Vec<u8>,
+    pub text: String,
+}
+
+/// One sheet that is being tried.
+pub struct Trial<'a> {
+    pub sheet: &'a [u8],
+    pub kind: usize,
+    pub filler: &'a Filler,
+    pub random: Random,
+    pub counts: &'a mut Counts,
+}
+
+/// Case number `number` of a seed.
+pub fn case(seed: u64, number: u64, filler: &Filler, counts: &mut Counts) -> Result<(), Failure> {
+    let (kind, sheet, random) = kinds::sheet(seed, number);
+    let mut trial = Trial {
+        sheet: &sheet,
+        kind,
+        filler,
+        random,
+        counts,
+    };
+    trial.any_calls().map_err(|text| Failure {
+        kind,
+        text,
+        sheet: sheet.clone(),
+    })
+}
+
+impl Trial<'_> {
+    fn any_calls(&mut self) -> Result<(), String> {
+        let Some(needs) = judge::needs(self.sheet) else {
+            return self.refused_sheet();
+        };
+        if alike::applies(self.sheet) && self.random.chance(40) {
+            return self.orders_end_alike();
+        }
+        match self.random.chance(30) {
+            true => self.run(&needs),
+            false => self.follow(&needs),
+        }
+    }
+
+    /// Refusals 1 to 7 come before those of rooms and orders.
+    fn refused_sheet(&mut self) -> Result<(), String> {
+        let desk = self.filler.any_rooms(&mut self.random);
+        let call = match self.random.chance(50) {
+            true => Call::Run,
+            false => Call::Follow(orders::any_bytes(&mut self.random)),
+        };
+        self.ask(&call, &desk).map(|_| ())
+    }
+
+    fn run(&mut self, needs: &Needs) -> Result<(), String> {
+        let desk = self.filler.rooms(needs, &mut self.random);
+        self.ask(&Call::Run, &desk).map(|_| ())
+    }
+
+    fn follow(&mut self, needs: &Needs) -> Result<(), String> {
+        let desk = self.filler.rooms(needs, &mut self.random);
+        let which = self.random.below(ORDERS.len());
+        let order = (ORDERS[which].1)(self.sheet, &mut self.random);
+        let call = Call::Follow(order);
+        let outcome = self.ask(&call, &desk)?;
+        self.counts.order(which, outcome.answer);
+        Ok(())
+    }
+
+    /// Puts a call to all three and counts the outcome.
+    fn ask(&mut self, call: &Call, before: &Desk) -> Result<Outcome, String> {
+        let outcome = compare::all(self.sheet, call, before, &mut self.random)
+            .map_err(|text| format!("{call}: {text}"))?;
+        self.counts.call(self.kind, &outcome);
+        Ok(outcome)
+    }
+}
