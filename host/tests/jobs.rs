@@ -1,11 +1,14 @@
-//! Bench jobs 1 to 13 of document 01 under our judge's *run* and *follow*:
-//! verdicts, orders, matches, cut messages and inbox bytes.
+//! Bench jobs 1 to 13 of document 01 under *run* and *follow* of the library
+//! and of both judges: verdicts, orders, matches, cut messages and inbox
+//! bytes.
 
 use jamturret_host::answer::Answer;
 use jamturret_host::bench_jobs;
+use jamturret_host::compare::{self, Call};
 use jamturret_host::desk::{Desk, FILL};
 use jamturret_host::layout::kind::BUFFERED;
 use jamturret_host::layout::word;
+use jamturret_host::random::Random;
 use jamturret_host::sheet::{Operation, Sheet};
 
 const FINISHED: u8 = 1;
@@ -19,21 +22,23 @@ struct Outcome {
 }
 
 fn run(sheet: &Sheet) -> Outcome {
-    let bytes = sheet.bytes();
-    let mut desk = Desk::for_sheet(&bytes);
-    assert_eq!(desk.run(&bytes), Answer::SUCCESS);
-    Outcome {
-        desk,
-        boards: sheet.boards.len(),
-    }
+    ask(sheet, Call::Run)
 }
 
 fn follow(sheet: &Sheet, order: &[u8]) -> Outcome {
+    ask(sheet, Call::Follow(order.to_vec()))
+}
+
+/// The library and both judges agree; the answer is success.
+fn ask(sheet: &Sheet, call: Call) -> Outcome {
     let bytes = sheet.bytes();
-    let mut desk = Desk::for_sheet(&bytes);
-    assert_eq!(desk.follow(&bytes, order), Answer::SUCCESS);
+    let before = Desk::for_sheet(&bytes);
+    let mut random = Random::new(bytes.len() as u64);
+    let agreed = compare::all(&bytes, &call, &before, &mut random);
+    let agreed = agreed.unwrap_or_else(|text| panic!("{call}: {text}"));
+    assert_eq!(agreed.answer, Answer::SUCCESS);
     Outcome {
-        desk,
+        desk: agreed.desk,
         boards: sheet.boards.len(),
     }
 }

@@ -4,19 +4,23 @@ use mathlib.Core.Path.{_≡_, refl, sym, _∙_, ap, subst}
 use mathlib.Core.Bool.{Bool, true, false, _||_, cond}
 use mathlib.Core.List.{List, _++_}
 use mathlib.Core.Option.{Option, none, some}
-use Prim.Native.Nat.{ℕ, _+_, _<_, _≤_}
+use Prim.Native.Nat.{ℕ, _+_, _*_, _<_, _≤_}
 use native.Mathlib.Omega.{arith}
 use lib.Dec.{eqb}
 use lib.ListN.{length, drop, replicate}
 use borrow.Author.Tests.{eq-eqb, ne-eqb}
 use Rattle.rules.specs.Limits.{order-room}
-use Rattle.rules.specs.Sheet.{Sheet, sheet-in, N-of}
+use Rattle.rules.specs.Sheet.{Sheet, sheet-in, N-of, N-in}
 use Rattle.rules.specs.Job.{Job}
 use Rattle.rules.specs.Refusal.{Refusal, refusal, accepted, or-else, sheet-refusal}
 use Rattle.rules.specs.Order.{Followed, followed, follow, Ran, ran, run}
 use Rattle.rules.specs.Report.{report}
-use Rattle.rules.specs.Service.{told, room-refusal, order-refusal, in-front, kept-or, scratch-left, follow-refusal, Follow-says, run-refusal, Run-says}
+use Rattle.rules.specs.Service.{told, room-refusal, order-refusal, in-front, kept-or, scratch-left, Check-says, follow-refusal, Follow-says, run-refusal, Run-says}
 use Rattle.laws.specs.Tests.{cond-true, cond-false}
+use Rattle.laws.specs.Laid.{Laid}
+use Rattle.laws.specs.Decoded.{N-decoded}
+use Rattle.promises.specs.Good.{Good}
+use Rattle.promises.specs.FromBytes.{unrefused-accepted, accepted-laid, good-from-accepted}
 use Rattle.jamturret.specs.Rooms.{sheet-most, room-most}
 
 -- FOLLOW, past sheet and rooms
@@ -60,7 +64,7 @@ or-else-behind a b h = cond-true (eqb (a .number) 0) b a (eq-eqb (a .number) 0 h
 told-of : (f g : Refusal) (n p : ℕ) → g ≡ f → told f n p → told g n p
 told-of f g n p e t = subst (λ (h : Refusal). told h n p) (sym e) t
 
-number-of : (f : Refusal) (n p : ℕ) → told f n p → n ≡ f .number
+pub number-of : (f : Refusal) (n p : ℕ) → told f n p → n ≡ f .number
 unfolding told
 number-of f n p t = t .0
 
@@ -75,28 +79,29 @@ module _ (bs o i r c : List ℕ) where
   unfolding Follow-says
   refused-as f n p e l t h =
       let same = number-of f n p t in
-      let no-0 : whole .number ≡ 0 → ⊥ = λ z. h (same ∙ (ap (λ (g : Refusal). g .number) (sym e) ∙ z)) in
-      (told-of f whole n p e t,
+      let no-0 : whole .number ≡ 0 → ⊥ = λ z. h (same ∙ (ap (λ (g : Refusal). g .number) (sym e) ∙ z)) in (
+        told-of f whole n p e t,
         kept-old (whole .number) (follow (sheet-in bs) o i .left .memory) i no-0,
         kept-old (whole .number) (in-front (report (sheet-in bs) (follow (sheet-in bs) o i .left)) r) r no-0,
-        scratch-old (whole .number) c no-0 (subst (λ (g : Refusal). g .number ≤ 8) (sym e) l))
+        scratch-old (whole .number) c no-0 (subst (λ (g : Refusal). g .number ≤ 8) (sym e) l),
+      )
 
   -- the sheet is refused
   pub follow-sheet : (n p : ℕ) → told (sheet-refusal bs) n p → (n ≡ 0 → ⊥) → Follow-says bs o n p i i r r c c
   unfolding follow-refusal
   follow-sheet n p t h =
       refused-as (sheet-refusal bs) n p
-        (or-else-here (sheet-refusal bs) (or-else rooms (order-refusal (follow (sheet-in bs) o i .refused-at))) (λ z. h (number-of (sheet-refusal bs) n p t ∙ z)))
-        (omega (arith, sheet-most bs)) t h
+      (or-else-here (sheet-refusal bs) (or-else rooms (order-refusal (follow (sheet-in bs) o i .refused-at))) (λ z. h (number-of (sheet-refusal bs) n p t ∙ z)))
+      (omega (arith, sheet-most bs)) t h
 
   -- a room is short
   pub follow-rooms : sheet-refusal bs .number ≡ 0 → (n p : ℕ) → told rooms n p → (n ≡ 0 → ⊥) → Follow-says bs o n p i i r r c c
   unfolding follow-refusal
   follow-rooms s n p t h =
       refused-as rooms n p
-        (or-else-behind (sheet-refusal bs) (or-else rooms (order-refusal (follow (sheet-in bs) o i .refused-at))) s
-          ∙ or-else-here rooms (order-refusal (follow (sheet-in bs) o i .refused-at)) (λ z. h (number-of rooms n p t ∙ z)))
-        (room-most (sheet-in bs) (length i) (length r) (order-room (N-of (sheet-in bs))) (length c)) t h
+      (or-else-behind (sheet-refusal bs) (or-else rooms (order-refusal (follow (sheet-in bs) o i .refused-at))) s
+      ∙ or-else-here rooms (order-refusal (follow (sheet-in bs) o i .refused-at)) (λ z. h (number-of rooms n p t ∙ z)))
+      (room-most (sheet-in bs) (length i) (length r) (order-room (N-of (sheet-in bs))) (length c)) t h
 
   -- both are accepted
   zeroed : (k : Option ℕ) → replicate (length c) 0 ≡ scratch-left (order-refusal k .number) c
@@ -109,11 +114,12 @@ module _ (bs o i r c : List ℕ) where
   follow-done s z n p i-now r-now c-now h =
       let y : Followed = follow (sheet-in bs) o i in
       let f : Refusal = order-refusal (y .refused-at) in
-      let e : whole ≡ f = or-else-behind (sheet-refusal bs) (or-else rooms f) s ∙ or-else-behind rooms f z in
-      (told-of f whole n p e (h .0),
+      let e : whole ≡ f = or-else-behind (sheet-refusal bs) (or-else rooms f) s ∙ or-else-behind rooms f z in (
+        told-of f whole n p e (h .0),
         h .1 ∙ ap (λ (g : Refusal). kept-or (g .number) (y .left .memory) i) (sym e),
         h .2 ∙ ap (λ (g : Refusal). kept-or (g .number) (in-front (report (sheet-in bs) (y .left)) r) r) (sym e),
-        h .3 ∙ (zeroed (y .refused-at) ∙ ap (λ (g : Refusal). scratch-left (g .number) c) (sym e)))
+        h .3 ∙ (zeroed (y .refused-at) ∙ ap (λ (g : Refusal). scratch-left (g .number) c) (sym e)),
+      )
 
 module _ (bs i r o c : List ℕ) where
   abbrev run-rooms : Refusal
@@ -126,12 +132,13 @@ module _ (bs i r o c : List ℕ) where
   unfolding Run-says
   run-refused-as f n p e l t h =
       let same = number-of f n p t in
-      let no-0 : run-whole .number ≡ 0 → ⊥ = λ z. h (same ∙ (ap (λ (g : Refusal). g .number) (sym e) ∙ z)) in
-      (told-of f run-whole n p e t,
+      let no-0 : run-whole .number ≡ 0 → ⊥ = λ z. h (same ∙ (ap (λ (g : Refusal). g .number) (sym e) ∙ z)) in (
+        told-of f run-whole n p e t,
         kept-old (run-whole .number) (run (sheet-in bs) i .end .memory) i no-0,
         kept-old (run-whole .number) (in-front (report (sheet-in bs) (run (sheet-in bs) i .end)) r) r no-0,
         kept-old (run-whole .number) (in-front (run (sheet-in bs) i .order) o) o no-0,
-        scratch-old (run-whole .number) c no-0 (subst (λ (g : Refusal). g .number ≤ 8) (sym e) l))
+        scratch-old (run-whole .number) c no-0 (subst (λ (g : Refusal). g .number ≤ 8) (sym e) l),
+      )
 
   pub run-sheet : (n p : ℕ) → told (sheet-refusal bs) n p → (n ≡ 0 → ⊥) → Run-says bs n p i i r r o o c c
   unfolding run-refusal
@@ -148,12 +155,13 @@ module _ (bs i r o c : List ℕ) where
   run-done s z n p t i-now r-now o-now c-now h =
       let e : run-whole ≡ run-rooms = or-else-behind (sheet-refusal bs) run-rooms s in
       let number : run-whole .number ≡ 0 = ap (λ (g : Refusal). g .number) e ∙ z in
-      let place : run-whole .place ≡ 0 = ap (λ (g : Refusal). g .place) e ∙ sym (t .1) in
-      ((h .0 ∙ sym number, h .1 ∙ sym place),
+      let place : run-whole .place ≡ 0 = ap (λ (g : Refusal). g .place) e ∙ sym (t .1) in (
+        (h .0 ∙ sym number, h .1 ∙ sym place),
         h .2 ∙ kept-new (run-whole .number) (run (sheet-in bs) i .end .memory) i number,
         h .3 ∙ kept-new (run-whole .number) (in-front (report (sheet-in bs) (run (sheet-in bs) i .end)) r) r number,
         h .4 ∙ kept-new (run-whole .number) (in-front (run (sheet-in bs) i .order) o) o number,
-        h .5 ∙ scratch-new (run-whole .number) number)
+        h .5 ∙ scratch-new (run-whole .number) number,
+      )
     where
       kept-new : (k : ℕ) (new old : List ℕ) → k ≡ 0 → new ≡ kept-or k new old
       kept-new k new old q = unfold kept-or in (let u = eq-eqb k 0 q in rw u)
@@ -173,3 +181,27 @@ does-followed bs o i i-now r r-now c c-now x e a b z = rw e ((refl, refl), a, b,
 pub does-run : (bs i i-now r r-now o o-now c c-now taken : List ℕ) (x : Job) → run (sheet-in bs) i ≡ ran taken x → i-now ≡ x .memory → r-now ≡ in-front (report (sheet-in bs) x) r → o-now ≡ in-front taken o → c-now ≡ replicate (length c) 0 → Run-does bs 0 0 i i-now r r-now o o-now c c-now
 unfolding Run-does ran
 does-run bs i i-now r r-now o o-now c c-now taken x e a b d z = rw e (refl, refl, a, b, d, z)
+
+-- check's answer, and what an accepting one has settled
+pub check-told : (bs : List ℕ) (n p : ℕ) → Check-says bs n p → told (sheet-refusal bs) n p
+unfolding Check-says
+check-told bs n p h = h
+
+pub record Settled (bs : List ℕ) : Type 0 where
+  pub unrefused : sheet-refusal bs .number ≡ 0
+  pub laid : Laid bs
+  pub good : Good (sheet-in bs)
+
+pub settled : (bs : List ℕ) (n p : ℕ) → Check-says bs n p → n ≡ 0 → Settled bs
+settled bs n p h z =
+    let e : sheet-refusal bs .number ≡ 0 = sym (number-of (sheet-refusal bs) n p (check-told bs n p h)) ∙ z in
+    let a = unrefused-accepted bs e in
+    record {
+      unrefused = e;
+      laid = accepted-laid bs a;
+      good = good-from-accepted bs a;
+    }
+
+-- follow's order has its room
+pub rooms-as : (bs : List ℕ) (i r k c n p : ℕ) → k ≡ N-in bs → told (room-refusal (sheet-in bs) i r (2 * k) c) n p → told (room-refusal (sheet-in bs) i r (order-room (N-of (sheet-in bs))) c) n p
+rooms-as bs i r k c n p e t = subst (λ (m : ℕ). told (room-refusal (sheet-in bs) i r (2 * m) c) n p) (e ∙ sym (N-decoded bs)) t

@@ -45,9 +45,9 @@ sheet-most bs =
     (cond-most 7 (not (layout-good bs)) (refusal 3 0) _ (omega arith)
     (cond-most 7 (not (crc-good bs)) (refusal 4 0) _ (omega arith)
     (or-else-most 7 (boards-refusal s) (or-else (ops-refusal s) (requests-refusal s))
-      (or-else-most 7 (first-broken 5 (board-good s) (P-of s) 0) (cond (eqb (counts-before s (P-of s)) (N-of s)) accepted (refusal 5 (P-of s)))
-        (broken-most 5 7 (board-good s) (P-of s) 0 (omega arith)) (cond-most 7 (eqb (counts-before s (P-of s)) (N-of s)) accepted (refusal 5 (P-of s)) (omega arith) (omega arith)))
-      (or-else-most 7 (ops-refusal s) (requests-refusal s) (broken-most 6 7 _ (N-of s) 0 (omega arith)) (broken-most 7 7 _ (N-of s) 0 (omega arith)))))))
+    (or-else-most 7 (first-broken 5 (board-good s) (P-of s) 0) (cond (eqb (counts-before s (P-of s)) (N-of s)) accepted (refusal 5 (P-of s)))
+    (broken-most 5 7 (board-good s) (P-of s) 0 (omega arith)) (cond-most 7 (eqb (counts-before s (P-of s)) (N-of s)) accepted (refusal 5 (P-of s)) (omega arith) (omega arith)))
+    (or-else-most 7 (ops-refusal s) (requests-refusal s) (broken-most 6 7 _ (N-of s) 0 (omega arith)) (broken-most 7 7 _ (N-of s) 0 (omega arith)))))))
 
 -- ROOMS, the first short one
 module _ (s : Sheet) (i r o c : ℕ) where

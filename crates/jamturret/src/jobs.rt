@@ -8,14 +8,19 @@ ghost use Rattle.laws.specs.Laid.{Laid};
 ghost use Rattle.promises.specs.Good.{Good};
 ghost use Rattle.jamturret.specs.Rooms.{Roomy};
 ghost use Rattle.jamturret.specs.Outcomes.{Follow-does, Run-does};
-
 use engine::deliveries;
 use engine::report;
 use orders::follow;
 use orders::run;
 use sheet::Answer;
 
-pub fn follow(sheet: &[u8], order: &[u8], inbox: &mut [u8], out: &mut [u8], scratch: &mut [u8]) -> Answer
+pub fn follow(
+    sheet: &[u8],
+    order: &[u8],
+    inbox: &mut [u8],
+    out: &mut [u8],
+    scratch: &mut [u8],
+) -> Answer
     requires { ⌜ Laid (now sheet) × Good (sheet-in (now sheet)) × Roomy (sheet-in (now sheet)) (length (now inbox)) (length (now out)) (order-room (N-of (sheet-in (now sheet)))) (length (now scratch)) ⌝ }
     ensures { λ a. ⌜ Follow-does (now (sheet .entry)) (now (order .entry)) (a .number) (a .place) (now (inbox .entry)) (now (inbox .exit)) (now (out .entry)) (now (out .exit)) (now (scratch .entry)) (now (scratch .exit)) ⌝ }
 {
@@ -37,7 +42,13 @@ pub fn follow(sheet: &[u8], order: &[u8], inbox: &mut [u8], out: &mut [u8], scra
     }
 }
 
-pub fn run(sheet: &[u8], inbox: &mut [u8], out: &mut [u8], order: &mut [u8], scratch: &mut [u8]) -> Answer
+pub fn run(
+    sheet: &[u8],
+    inbox: &mut [u8],
+    out: &mut [u8],
+    order: &mut [u8],
+    scratch: &mut [u8],
+) -> Answer
     requires { ⌜ Laid (now sheet) × Good (sheet-in (now sheet)) × Roomy (sheet-in (now sheet)) (length (now inbox)) (length (now out)) (length (now order)) (length (now scratch)) ⌝ }
     ensures { λ a. ⌜ Run-does (now (sheet .entry)) (a .number) (a .place) (now (inbox .entry)) (now (inbox .exit)) (now (out .entry)) (now (out .exit)) (now (order .entry)) (now (order .exit)) (now (scratch .entry)) (now (scratch .exit)) ⌝ }
 {

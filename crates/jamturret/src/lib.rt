@@ -22,14 +22,26 @@ pub extern "C" fn jamturret_check(sheet: &[u8]) -> Answer
 // after success or 9. Shut out, among others: one that delivers before the order is known good, and one that leaves scratch as
 // its work left it.
 #[no_mangle]
-pub extern "C" fn jamturret_follow(sheet: &[u8], order: &[u8], inbox: &mut [u8], report: &mut [u8], scratch: &mut [u8]) -> Answer
+pub extern "C" fn jamturret_follow(
+    sheet: &[u8],
+    order: &[u8],
+    inbox: &mut [u8],
+    report: &mut [u8],
+    scratch: &mut [u8],
+) -> Answer
     ensures { λ a. ⌜ Follow-says (now (sheet .entry)) (now (order .entry)) (a .number) (a .place) (now (inbox .entry)) (now (inbox .exit)) (now (report .entry)) (now (report .exit)) (now (scratch .entry)) (now (scratch .exit)) ⌝ }
 {
     let checked = check::check(sheet);
     if checked.number != 0 {
         return checked;
     }
-    let short = rooms::refusal(sheet, inbox.len(), report.len(), 2 * header::ops(sheet), scratch.len());
+    let short = rooms::refusal(
+        sheet,
+        inbox.len(),
+        report.len(),
+        2 * header::ops(sheet),
+        scratch.len(),
+    );
     if short.number != 0 {
         return short;
     }
@@ -39,7 +51,13 @@ pub extern "C" fn jamturret_follow(sheet: &[u8], order: &[u8], inbox: &mut [u8],
 // RUN a sheet, choosing at each step the lowest rank that is able, and write down that order: refusals 1 to 8. Shut out, among
 // others: one that writes behind the last step of the order, and one that takes the highest rank.
 #[no_mangle]
-pub extern "C" fn jamturret_run(sheet: &[u8], inbox: &mut [u8], report: &mut [u8], order: &mut [u8], scratch: &mut [u8]) -> Answer
+pub extern "C" fn jamturret_run(
+    sheet: &[u8],
+    inbox: &mut [u8],
+    report: &mut [u8],
+    order: &mut [u8],
+    scratch: &mut [u8],
+) -> Answer
     ensures { λ a. ⌜ Run-says (now (sheet .entry)) (a .number) (a .place) (now (inbox .entry)) (now (inbox .exit)) (now (report .entry)) (now (report .exit)) (now (order .entry)) (now (order .exit)) (now (scratch .entry)) (now (scratch .exit)) ⌝ }
 {
     let checked = check::check(sheet);

@@ -3,7 +3,6 @@ ghost use mathlib.Core.Path.{_≡_};
 ghost use Rattle.rules.specs.Sheet.{sheet-in, inbox-total};
 ghost use Rattle.rules.specs.Service.{told, room-refusal};
 ghost use Rattle.laws.specs.Laid.{Laid};
-
 use sheet::Answer;
 use sheet::boards;
 use sheet::header;

@@ -41,9 +41,9 @@ returns c =
     let a = c .before .before .before .before .before .before .before .before .before .before .before .before .before .before .args in
     let w = c .before .before .before .before .before .before .before .follow .ensures (a .inbox .now) (c .before .before .before .before .before .before .before .before .before .before .before .before .before .before .pre .2 .inbox) in
     let refused : follow (sheet-in (a .sheet .now)) (a .order .now) (a .inbox .now) ≡ followed (some (c .before .before .before .before .before .before .before .follow .result .at)) (w .job) =
-          w .said ∙ ap (λ (b : Bool). followed (cond b (some (c .before .before .before .before .before .before .before .follow .result .at)) none) (w .job)) (c .before .before .before .before .if1 .taken) in
+    w .said ∙ ap (λ (b : Bool). followed (cond b (some (c .before .before .before .before .before .before .before .follow .result .at)) none) (w .job)) (c .before .before .before .before .if1 .taken) in
     does-refused (a .sheet .now) (a .order .now) (a .inbox .now) (a .out .now) (a .scratch .now) (c .before .before .zero .last .0) (c .before .before .before .before .before .before .before .follow .result .at) (w .job) refused
-      (c .before .before .zero .ensures ∙ ap (λ (n : ℕ). replicate n 0) (c .before .before .before .before .before .before .before .follow .kept .1 .1 .0))
+    (c .before .before .zero .ensures ∙ ap (λ (n : ℕ). replicate n 0) (c .before .before .before .before .before .before .before .follow .kept .1 .1 .0))
 
 -- the followed job stands in scratch
 stood : (c : tie.After-follow) → Standing (c .before .before .before .before .before .before .before .args .sheet .now) (c .follow .last .1 .1 .0) (c .follow .result .tally)
@@ -89,10 +89,10 @@ returns-2 c =
     let a = c .before .before .before .before .before .before .before .before .before .before .before .before .before .before .before .before .before .before .before .before .before .before .before .before .before .args in
     let w = c .before .before .before .before .before .before .before .before .before .before .before .before .before .before .before .before .before .before .follow .ensures (a .inbox .now) (c .before .before .before .before .before .before .before .before .before .before .before .before .before .before .before .before .before .before .before .before .before .before .before .before .before .pre .2 .inbox) in
     let accepted : follow (sheet-in (a .sheet .now)) (a .order .now) (a .inbox .now) ≡ followed none (w .job) =
-          w .said ∙ ap (λ (b : Bool). followed (cond b (some (c .before .before .before .before .before .before .before .before .before .before .before .before .before .before .before .before .before .before .follow .result .at)) none) (w .job)) (c .before .before .before .before .before .before .before .before .before .before .before .before .before .before .before .if1 .left) in
+    w .said ∙ ap (λ (b : Bool). followed (cond b (some (c .before .before .before .before .before .before .before .before .before .before .before .before .before .before .before .before .before .before .follow .result .at)) none) (w .job)) (c .before .before .before .before .before .before .before .before .before .before .before .before .before .before .before .if1 .left) in
     does-followed (a .sheet .now) (a .order .now) (a .inbox .now) (c .before .before .before .before .before .before .before .before .before .before .before .deliver .last .1 .1 .0) (a .out .now) (c .before .before .before .before .before .before .write .last .1 .1 .1 .0) (a .scratch .now) (c .before .before .zero2 .last .0) (w .job) accepted
-      (c .before .before .before .before .before .before .before .before .before .before .before .deliver .ensures (c .before .before .before .before .before .before .before .before .before .before .before .before .before .before .before .before .before .before .follow .result .tally) (w .job) (w .stands)) (c .before .before .before .before .before .before .write .ensures (a .inbox .now) (w .job) (w .stands))
-      (c .before .before .zero2 .ensures ∙ ap (λ (n : ℕ). replicate n 0) (c .before .before .before .before .before .before .before .before .before .before .before .before .before .before .before .before .before .before .follow .kept .1 .1 .0))
+    (c .before .before .before .before .before .before .before .before .before .before .before .deliver .ensures (c .before .before .before .before .before .before .before .before .before .before .before .before .before .before .before .before .before .before .follow .result .tally) (w .job) (w .stands)) (c .before .before .before .before .before .before .write .ensures (a .inbox .now) (w .job) (w .stands))
+    (c .before .before .zero2 .ensures ∙ ap (λ (n : ℕ). replicate n 0) (c .before .before .before .before .before .before .before .before .before .before .before .before .before .before .before .before .before .before .follow .kept .1 .1 .0))
 
 pub follow-spec : {M : Type 1} → statement M
 follow-spec =

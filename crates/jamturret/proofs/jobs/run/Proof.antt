@@ -70,8 +70,8 @@ returns c =
     let a = c .before .before .before .before .before .before .before .before .before .before .before .before .before .before .before .before .before .before .before .before .before .before .before .before .before .before .args in
     let w = c .before .before .before .before .before .before .before .before .before .before .before .before .before .before .before .before .before .before .run .ensures (a .inbox .now) (c .before .before .before .before .before .before .before .before .before .before .before .before .before .before .before .before .before .before .before .before .before .before .before .before .before .before .pre .2 .inbox) in
     does-run (a .sheet .now) (a .inbox .now) (c .before .before .before .before .before .before .before .before .before .before .before .deliver .last .1 .1 .0) (a .out .now) (c .before .before .before .before .before .before .write .last .1 .1 .1 .0) (a .order .now) (c .before .before .before .before .before .before .before .before .before .before .before .before .before .before .before .before .before .before .run .last .1 .1 .0) (a .scratch .now) (c .before .before .zero .last .0) (w .taken) (w .job)
-      (w .said) (c .before .before .before .before .before .before .before .before .before .before .before .deliver .ensures (c .before .before .before .before .before .before .before .before .before .before .before .before .before .before .before .before .before .before .run .result) (w .job) (w .stands)) (c .before .before .before .before .before .before .write .ensures (a .inbox .now) (w .job) (w .stands)) (w .out-is)
-      (c .before .before .zero .ensures ∙ ap (λ (n : ℕ). replicate n 0) (c .before .before .before .before .before .before .before .before .before .before .before .before .before .before .before .before .before .before .run .kept .1 .0))
+    (w .said) (c .before .before .before .before .before .before .before .before .before .before .before .deliver .ensures (c .before .before .before .before .before .before .before .before .before .before .before .before .before .before .before .before .before .before .run .result) (w .job) (w .stands)) (c .before .before .before .before .before .before .write .ensures (a .inbox .now) (w .job) (w .stands)) (w .out-is)
+    (c .before .before .zero .ensures ∙ ap (λ (n : ℕ). replicate n 0) (c .before .before .before .before .before .before .before .before .before .before .before .before .before .before .before .before .before .before .run .kept .1 .0))
 
 pub run-spec : {M : Type 1} → statement M
 run-spec =

@@ -1,3 +1,9 @@
+-- `jamturret::rooms::refusal` meets its contract: room by room, the first short one. Assumes nothing.
+use mathlib.Core.Path.{_≡_, _∙_, sym, ap, subst}
+use native.Mathlib.Omega.{arith}
+use Rattle.rules.specs.Sheet.{sheet-in}
+use Rattle.laws.specs.Decoded.{P-decoded, N-decoded}
+use Rattle.jamturret.specs.Rooms.{short-inbox, short-report, short-order, short-scratch, rooms-enough}
 use borrow.Author.Needs.{needs}
 use Rattle.jamturret.proofs.rooms.refusal.Statement.{statement}
 use Rattle.jamturret.proofs.rooms.refusal.Tie as tie
@@ -17,7 +23,9 @@ inbox-total-requires c κs = search needs
 
 -- src/rooms.rt:33:9
 returns : tie.Need-returns
-returns c = ?
+returns c =
+    let a = c .before .before .before .before .args in
+    short-inbox (sheet-in (a .s .now)) (a .inbox) (a .report) (a .order) (a .scratch) (omega (arith, c .before .inbox-total .ensures, c .if1 .taken))
 
 -- src/rooms.rt:38:26
 boards-requires : tie.Need-boards-requires
@@ -41,7 +49,10 @@ add-if2-2 c = search needs
 
 -- src/rooms.rt:39:9
 returns-2 : tie.Need-returns-2
-returns-2 c = ?
+returns-2 c =
+    let a = c .before .before .before .before .before .before .args in
+    short-report (sheet-in (a .s .now)) (a .inbox) (a .report) (a .order) (a .scratch) (omega (arith, c .before .before .before .inbox-total .ensures, c .before .before .if1 .left))
+    (omega (arith, P-decoded (a .s .now), N-decoded (a .s .now), c .before .boards .ensures .0, c .before .before .before .before .ops .ensures .0, c .if2 .taken))
 
 -- src/rooms.rt:44:16
 mul-if3 : tie.Need-mul-if3
@@ -49,15 +60,27 @@ mul-if3 c = search needs
 
 -- src/rooms.rt:45:9
 returns-3 : tie.Need-returns-3
-returns-3 c = ?
+returns-3 c =
+    let a = c .before .before .before .before .before .before .before .args in
+    short-order (sheet-in (a .s .now)) (a .inbox) (a .report) (a .order) (a .scratch) (omega (arith, c .before .before .before .before .inbox-total .ensures, c .before .before .before .if1 .left))
+    (omega (arith, P-decoded (a .s .now), N-decoded (a .s .now), c .before .before .boards .ensures .0, c .before .before .before .before .before .ops .ensures .0, c .before .if2 .left))
+    (omega (arith, N-decoded (a .s .now), c .before .before .before .before .before .ops .ensures .0, c .if3 .taken))
 
 -- src/rooms.rt:51:9
 returns-4 : tie.Need-returns-4
-returns-4 c = ?
+returns-4 c =
+    let a = c .before .before .before .before .before .before .before .before .args in
+    short-scratch (sheet-in (a .s .now)) (a .inbox) (a .report) (a .order) (a .scratch) (omega (arith, c .before .before .before .before .before .inbox-total .ensures, c .before .before .before .before .if1 .left))
+    (omega (arith, P-decoded (a .s .now), N-decoded (a .s .now), c .before .before .before .boards .ensures .0, c .before .before .before .before .before .before .ops .ensures .0, c .before .before .if2 .left))
+    (omega (arith, N-decoded (a .s .now), c .before .before .before .before .before .before .ops .ensures .0, c .before .if3 .left)) (c .if4 .taken)
 
 -- src/rooms.rt:27:1
 returns-5 : tie.Need-returns-5
-returns-5 c = ?
+returns-5 c =
+    let a = c .before .before .before .before .before .before .before .before .args in
+    rooms-enough (sheet-in (a .s .now)) (a .inbox) (a .report) (a .order) (a .scratch) (omega (arith, c .before .before .before .before .before .inbox-total .ensures, c .before .before .before .before .if1 .left))
+    (omega (arith, P-decoded (a .s .now), N-decoded (a .s .now), c .before .before .before .boards .ensures .0, c .before .before .before .before .before .before .ops .ensures .0, c .before .before .if2 .left))
+    (omega (arith, N-decoded (a .s .now), c .before .before .before .before .before .before .ops .ensures .0, c .before .if3 .left)) (c .if4 .left)
 
 pub refusal-spec : {M : Type 1} → statement M
 refusal-spec =

@@ -1,0 +1,118 @@
+//! *Run* and *follow* on large jobs and on a small one, beside the efficient
+//! judge, which keeps its entries the same way; and how the times grow.
+
+use crate::timing::{heading, line, medians};
+use jamturret_host::answer::Answer;
+use jamturret_host::desk::Desk;
+use jamturret_host::judge::engine;
+use jamturret_host::sheet::Sheet;
+use jamturret_host::{bench_jobs, ffi, traffic};
+use std::hint::black_box;
+
+/// A job, the order that run chooses, and rooms.
+struct Timed {
+    sheet: Vec<u8>,
+    order: Vec<u8>,
+    desk: Desk,
+}
+
+impl Timed {
+    /// The job has to finish, so that every step is taken.
+    fn new(sheet: &Sheet) -> Timed {
+        let sheet = sheet.bytes();
+        let mut desk = Desk::for_sheet(&sheet);
+        assert_eq!(desk.run(&sheet), Answer::SUCCESS, "judge");
+        assert_eq!(desk.verdict(), 1, "finished");
+        Timed {
+            order: desk.order().to_vec(),
+            sheet,
+            desk,
+        }
+    }
+
+    fn run(&self, rounds: usize, calls: usize) -> (f64, f64) {
+        let mut theirs = self.desk.clone();
+        let mut ours = self.desk.clone();
+        let times = medians(
+            rounds,
+            calls,
+            || {
+                black_box(ffi::run(
+                    black_box(&self.sheet),
+                    &mut theirs.inbox,
+                    &mut theirs.report,
+                    &mut theirs.order_out,
+                    &mut theirs.scratch,
+                ));
+            },
+            || {
+                let (rooms, order_out) = ours.rooms();
+                black_box(engine::run(black_box(&self.sheet), rooms, order_out));
+            },
+        );
+        assert_eq!(theirs, ours, "run");
+        times
+    }
+
+    fn follow(&self, rounds: usize, calls: usize) -> (f64, f64) {
+        let mut theirs = self.desk.clone();
+        let mut ours = self.desk.clone();
+        let times = medians(
+            rounds,
+            calls,
+            || {
+                black_box(ffi::follow(
+                    black_box(&self.sheet),
+                    &self.order,
+                    &mut theirs.inbox,
+                    &mut theirs.report,
+                    &mut theirs.scratch,
+                ));
+            },
+            || {
+                let rooms = ours.rooms().0;
+                black_box(engine::follow(black_box(&self.sheet), &self.order, rooms));
+            },
+        );
+        assert_eq!(theirs, ours, "follow");
+        times
+    }
+}
+
+/// 1,024 operations on sixteen boards, save the last two.
+pub fn table(rounds: usize) {
+    let jobs = [
+        ("ring", 1, traffic::ring(1024)),
+        ("ring, sends first", 1, traffic::ring_sends_first(1024)),
+        ("all to one", 1, traffic::all_to_one(1024)),
+        ("512 messages of 4,096 bytes", 1, traffic::heavy()),
+        ("case 1", 100, bench_jobs::case_1()),
+    ];
+    let jobs = jobs.map(|(name, calls, sheet)| (name, calls, Timed::new(&sheet)));
+    heading("run");
+    for (name, calls, job) in &jobs {
+        line(name, job.sheet.len(), job.run(rounds, *calls));
+    }
+    heading("follow, run's order");
+    for (name, calls, job) in &jobs {
+        line(name, job.sheet.len(), job.follow(rounds, *calls));
+    }
+}
+
+const OPERATIONS: [usize; 4] = [128, 256, 512, 1024];
+
+/// A search passes over what is pending, so all-to-one grows faster than the
+/// number of operations.
+pub fn growth(rounds: usize) {
+    let jobs: [(&str, fn(usize) -> Sheet); 2] =
+        [("ring", traffic::ring), ("all to one", traffic::all_to_one)];
+    heading("growth of run");
+    for (name, sheet) in jobs {
+        for operations in OPERATIONS {
+            let job = Timed::new(&sheet(operations));
+            let calls = 1024 / operations;
+            let name = format!("{name}, {operations} operations");
+            line(&name, job.sheet.len(), job.run(rounds, calls));
+        }
+    }
+}
