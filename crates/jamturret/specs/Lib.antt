@@ -1,5 +1,7 @@
 -- What the contracts of this crate's inner functions cite beside rules, and the laws that join them to the services.
 --   Rooms      refusal 8
 --   Outcomes   what follow and run do once sheet and rooms are accepted, and the whole outcome from that
+--   Alike      demand 3 of follow and run themselves
 pub mod Rooms
 pub mod Outcomes
+pub mod Alike
