@@ -10,7 +10,7 @@ use std::process;
 use std::time::Instant;
 
 const SEED: u64 = 20_240_602;
-const CASES: u64 = 150_000;
+const CASES: u64 = 120_000;
 /// From so many cases on everything has to be reached.
 const ENOUGH: u64 = 50_000;
 

@@ -4,12 +4,12 @@
 
 use super::script::{Surroundings, Writer};
 use crate::layout::kind::{BUFFERED, READY, RECEIVE, STANDARD, SYNCHRONOUS};
-use crate::layout::{ANY, MOST_ATTACHED, MOST_BOARDS, MOST_INBOX_TOTAL, MOST_PAYLOAD};
+use crate::layout::{ANY, MOST_ATTACHED, MOST_BOARDS, MOST_INBOX_TOTAL, MOST_LENGTH, MOST_PAYLOAD};
 use crate::random::Random;
 use crate::sheet::{Board, Operation, Sheet};
 
 /// How large a job is and what its boards do. Shares are out of a hundred.
-pub struct Manner {
+struct Manner {
     boards: usize,
     messages: usize,
     payload: usize,
@@ -42,9 +42,10 @@ const ALL_KINDS: &[u8] = &[
     STANDARD,
     READY,
 ];
+const WITHOUT_READY: &[u8] = &[STANDARD, BUFFERED, BUFFERED, SYNCHRONOUS];
+
 /// Two of them differ only in the high byte.
 const TAGS: [u16; 4] = [0, 256, 1, 32_767];
-const WITHOUT_READY: &[u8] = &[STANDARD, BUFFERED, BUFFERED, SYNCHRONOUS];
 
 fn manner(random: &mut Random, calm: bool) -> Manner {
     let without_ready = calm || random.chance(50);
@@ -106,7 +107,7 @@ pub fn large(random: &mut Random, calm: bool) -> Vec<u8> {
         payload: MOST_PAYLOAD,
         inboxes: MOST_INBOX_TOTAL,
         communicators: random.between(1, 8),
-        longest: random.pick(&[12, 1000, 4096]),
+        longest: random.pick(&[12, 1000, usize::from(MOST_LENGTH)]),
         nonblocking,
         waits: nonblocking,
         ..manner(random, calm)
@@ -204,16 +205,10 @@ fn pair(
             length as u16,
         )
     };
-    let capacity = match random.below(8) {
-        0 => length.saturating_sub(1),
-        1 => length / 2,
-        2 | 3 => length,
-        _ => (length + random.below(4)).min(4096),
-    };
     let mut receive = Operation {
         kind: RECEIVE,
         peer: source as u16,
-        length: capacity as u16,
+        length: capacity(random, length) as u16,
         offset: 0,
         ..send
     };
@@ -224,6 +219,16 @@ fn pair(
         receive.peer = ANY;
     }
     (send, receive)
+}
+
+/// Mostly enough for a message, at times just enough or too little.
+fn capacity(random: &mut Random, length: usize) -> usize {
+    match random.below(8) {
+        0 => length.saturating_sub(1),
+        1 => length / 2,
+        2 | 3 => length,
+        _ => (length + random.below(4)).min(usize::from(MOST_LENGTH)),
+    }
 }
 
 /// All buffered sends of a script together, were none matched.
