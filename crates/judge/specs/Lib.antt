@@ -1,0 +1,2 @@
+-- What the judge prints. Assumes nothing.
+pub mod Text
