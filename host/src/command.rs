@@ -33,7 +33,8 @@ pub fn difference(
         let hex: Vec<String> = sheet.iter().map(|byte| format!("{byte:02X}")).collect();
         eprintln!("  sheet, {} bytes: {}", sheet.len(), hex.join(" "));
     } else {
-        let path = env::temp_dir().join(format!("jamturret-{seed}-{number}.sheet"));
+        let name = format!("jamturret-{seed}-{number}-{}.sheet", process::id());
+        let path = env::temp_dir().join(name);
         match fs::write(&path, sheet) {
             Ok(()) => eprintln!(
                 "  sheet, {} bytes, written to {}",

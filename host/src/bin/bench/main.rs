@@ -2,8 +2,8 @@
 //! Both are asked in turn, in one run; medians are printed.
 //!
 //! The judge beside itself gives 1.00. The judge beside a second build of its
-//! own source gave 0.89 to 1.02 for *check*, so a ratio from 0.85 to 1.15 does
-//! not tell the two apart.
+//! own source gave 0.86 to 1.02, so a ratio from 0.85 to 1.15 does not tell
+//! the two apart.
 
 mod check;
 mod jobs;
