@@ -1,12 +1,17 @@
 // Runs outside vectors through the library and prints what it found, to be held to the file `stdout`.
-// CRC-16/IBM-3740 of the catalogue's check text, and of texts whose CRC another program has given (Python's binascii.crc_hqx).
+// CRC-16/IBM-3740 of the catalogue's check text, and of texts whose CRC another program has given (Python's binascii.crc_hqx);
+// then the sheets in `data/`: bench jobs 13 and 14 of document 01, large sheets, and a sheet for each refusal that check can give.
+// What each must give was worked out by another program, which steps through document 01's rules.
+mod jobs;
+
+use jobs::job;
 
 fn crc_line(text: &[u8]) {
     io::print_hex(1, sheet::crc::crc_of_bytes(text) as u64, 4);
     io::write_all(1, b"\n");
 }
 
-fn main() {
+fn crc_lines() {
     crc_line(b"123456789");
     crc_line(b"");
     crc_line(b"\x00");
@@ -15,4 +20,53 @@ fn main() {
     crc_line(b"The quick brown fox jumps over the lazy dog");
     let many = [b'A'; 256];
     crc_line(&many);
+}
+
+// Document 01, "Bench jobs", 13.
+fn thirteen() {
+    job(b"13-communicators-apart.sheet");
+    job(b"13-no-operations.sheet");
+    job(b"13-empty-buffered.sheet");
+}
+
+// Document 01, "Bench jobs", 14.
+fn fourteen() {
+    job(b"14-operations-1024.sheet");
+    job(b"14-operations-1025.sheet");
+    job(b"14-tag-32767.sheet");
+    job(b"14-tag-32768.sheet");
+    job(b"14-slot-31.sheet");
+    job(b"14-slot-32.sheet");
+}
+
+// Sixteen boards and 1,024 operations, or 4,096-byte messages; each way to end.
+fn large() {
+    job(b"large-ring.sheet");
+    job(b"large-all-to-one.sheet");
+    job(b"large-messages.sheet");
+    job(b"large-overflow.sheet");
+    job(b"large-not-ready.sheet");
+    job(b"large-deadlock.sheet");
+    job(b"large-mixed-1.sheet");
+    job(b"large-mixed-2.sheet");
+    job(b"large-mixed-3.sheet");
+}
+
+// Document 01, "When the desk says no": 1, 3, 4, 5 twice, 7 twice.
+fn refused() {
+    job(b"no-short.sheet");
+    job(b"no-length.sheet");
+    job(b"no-crc.sheet");
+    job(b"no-entry.sheet");
+    job(b"no-total.sheet");
+    job(b"no-slot.sheet");
+    job(b"no-area.sheet");
+}
+
+fn main() {
+    crc_lines();
+    thirteen();
+    fourteen();
+    large();
+    refused();
 }
