@@ -29,7 +29,7 @@ use Rattle.promises.specs.Statements.{Ends}
 use Rattle.promises.specs.Run.{run-ended}
 use Rattle.promises.specs.Reporting.{report-length}
 use Rattle.promises.specs.Calls.{front-report}
-use Rattle.jamturret.specs.Rooms.{Roomy, roomy}
+use Rattle.jamturret.specs.Rooms.{Roomy, roomy, rooms-enough}
 use Rattle.judge.specs.Text.{hex-line, hex-line-length}
 
 -- a zeroed room
@@ -40,9 +40,40 @@ zeros n = replicate n 0
 unfoldable pub line-for : (sheet : List ℕ) → List ℕ
 line-for bs = hex-line (report (sheet-in bs) (run (sheet-in bs) (zeros 16384) .end))
 
--- WHAT IS PRINTED: number and place are those of run's refusal with rooms of these sizes, and behind number 0 the text is the line
+-- WHAT IS PRINTED: a refusal is check's, since no room is short; behind number 0 the text is the line
 unfoldable pub Printed : (sheet : List ℕ) → (number place : ℕ) → (text : List ℕ) → Type 0
-Printed bs n p text = told (run-refusal bs 16384 12432 2048 32768) n p × (n ≡ 0 → text ≡ line-for bs)
+Printed bs n p text =
+    (n ≡ sheet-refusal bs .number) × ((n ≡ 0 → ⊥) → p ≡ sheet-refusal bs .place) × (n ≡ 0 → text ≡ line-for bs)
+
+-- rooms of these sizes are never short
+never-short : (bs : List ℕ) → sheet-refusal bs .number ≡ 0 → told (room-refusal (sheet-in bs) 16384 12432 2048 32768) 0 0
+never-short bs e =
+    let a = unrefused-accepted bs e in
+    let q = accepted-laid bs a in
+    let P-is = P-decoded bs in
+    let N-is = N-decoded bs in
+    rooms-enough (sheet-in bs) 16384 12432 2048 32768 (good-from-accepted bs a .inbox-small) (omega (arith, P-is, N-is, q .few-boards, q .few-ops)) (omega (arith, N-is, q .few-ops)) (omega arith)
+
+-- so that run's refusal is check's
+checks : (bs : List ℕ) (n p : ℕ) → told (run-refusal bs 16384 12432 2048 32768) n p → (n ≡ sheet-refusal bs .number) × ((n ≡ 0 → ⊥) → p ≡ sheet-refusal bs .place)
+unfolding told run-refusal or-else
+checks bs n p t = go (eqb f 0) refl
+  where
+    f : ℕ
+    f = sheet-refusal bs .number
+
+    rooms : Refusal
+    rooms = room-refusal (sheet-in bs) 16384 12432 2048 32768
+
+    go : (b : Bool) → eqb f 0 ≡ b → (n ≡ sheet-refusal bs .number) × ((n ≡ 0 → ⊥) → p ≡ sheet-refusal bs .place)
+    go false e =
+        let same = cond-false (eqb f 0) rooms (sheet-refusal bs) e in
+        (t .0 ∙ ap (λ (g : Refusal). g .number) same, λ _. t .1 ∙ ap (λ (g : Refusal). g .place) same)
+    go true e =
+        let zero-sheet = eqb-true f 0 e in
+        let same = cond-true (eqb f 0) rooms (sheet-refusal bs) e in
+        let zero-here : n ≡ 0 = t .0 ∙ (ap (λ (g : Refusal). g .number) same ∙ sym (never-short bs zero-sheet .0)) in
+        (zero-here ∙ sym zero-sheet, λ h. absurd (h zero-here))
 
 module _ (bs i i' r r' o o' c c' : List ℕ) (n p : ℕ) (said : Run-says bs n p i i' r r' o o' c c') (z : n ≡ 0) where
   s : Sheet
@@ -113,7 +144,7 @@ module _ (bs i' r' o' c' : List ℕ) (n p : ℕ) (said : Run-says bs n p (zeros 
 
   pub printed-refusal : (text : List ℕ) → (n ≡ 0 → ⊥) → Printed bs n p text
   unfolding Printed
-  printed-refusal text h = (answered, λ z. absurd (h z))
+  printed-refusal text h = (checks bs n p answered .0, checks bs n p answered .1, λ z. absurd (h z))
 
   pub call-laid : n ≡ 0 → Laid bs
   call-laid z = sheet-laid bs (zeros 16384) i' (zeros 12432) r' (zeros 2048) o' (zeros 32768) c' n p said z
@@ -123,7 +154,8 @@ module _ (bs i' r' o' c' : List ℕ) (n p : ℕ) (said : Run-says bs n p (zeros 
   unfolding Printed line-for
   printed-line z own e room old new h =
       let size : length (hex-line (take own r')) ≡ 3 * own = hex-line-length (take own r') ∙ ap (λ (k : ℕ). 3 * k) (length-take-le own r' room) in (
-        answered,
+        checks bs n p answered .0,
+        checks bs n p answered .1,
         λ _. ap (λ (w : List ℕ). take (3 * own) w) h
             ∙ (line-front old (hex-line (take own r')) (3 * own) size
             ∙ ap hex-line
