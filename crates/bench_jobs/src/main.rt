@@ -39,7 +39,7 @@ fn fourteen() {
     job(b"14-slot-32.sheet");
 }
 
-// Sixteen boards and 1,024 operations, or 4,096-byte messages; each way to end.
+// Up to sixteen boards, 1,024 operations and 4,096-byte messages; each way to end.
 fn large() {
     job(b"large-ring.sheet");
     job(b"large-all-to-one.sheet");

@@ -47,3 +47,9 @@ hex-line-ends (b ∷ []) zero l = refl
 hex-line-ends (b ∷ []) (suc i) l = absurd (omega arith)
 hex-line-ends (b ∷ c ∷ bs) zero l = absurd (omega arith)
 hex-line-ends (b ∷ c ∷ bs) (suc i) l = ap (λ (z : List ℕ). pair b 32 ++ z) (hex-line-ends (c ∷ bs) i (omega arith))
+
+pub hex-line-length : (bs : List ℕ) → length (hex-line bs) ≡ 3 * length bs
+unfolding pair hex-line
+hex-line-length [] = refl
+hex-line-length (b ∷ []) = refl
+hex-line-length (b ∷ c ∷ bs) = let e = hex-line-length (c ∷ bs) in omega (arith, e)

@@ -3,18 +3,18 @@ ghost use mathlib.Core.Path.{_≡_};
 ghost use Prim.Native.Nat.{_+_, _*_, _<_, _≤_};
 ghost use lib.ListN.{length, getD};
 ghost use Rattle.rules.specs.Step.{splice};
+ghost use Rattle.rules.specs.Limits.{report-size};
+ghost use Rattle.rules.specs.Sheet.{P-in, N-in};
+ghost use Rattle.laws.specs.Laid.{Laid};
 ghost use Rattle.judge.specs.Text.{digit-of, pair as Text·pair, hex-line as Text·hex-line};
+use sheet::header;
 
-// How many bytes of the room are the report's own: 16 + 8P + 12N, from P and N in the report's header. Run refuses a larger
-// report than the room holds, so the second bound is there for the proof of safety alone.
-pub fn report_size(room: &[u8]) -> usize
-    requires { ⌜ 12432 ≡ length (now room) ⌝ }
-    ensures { λ r. ⌜ (0 < r) × (r ≤ 12432) ⌝ }
+// How many bytes the report has: 16 + 8P + 12N.
+pub fn report_size(s: &[u8]) -> usize
+    requires { ⌜ Laid (now s) ⌝ }
+    ensures { λ r. ⌜ (r ≡ report-size (P-in (now (s .entry))) (N-in (now (s .entry)))) × (r ≤ 12432) ⌝ }
 {
-    let p = words::two_at(room, 6);
-    let n = words::two_at(room, 8);
-    let own = 16 + 8 * p + 12 * n;
-    if own < 12432 { own } else { 12432 }
+    16 + 8 * header::boards(s) + 12 * header::ops(s)
 }
 
 // Upper-case hex pairs with one blank between, ended by a newline, put at the start of `line`: three places a byte. A report
