@@ -51,3 +51,29 @@ pub fn give_back(a: Account, n: usize) -> Account
     let left = if n <= a.in_use { a.in_use - n } else { 0 };
     Account { size: a.size, in_use: left, peak: a.peak }
 }
+
+// The account is charged n bytes where it stands, if it has room; the answer says whether.
+pub fn charge(account: &mut Account, n: usize) -> bool
+    ensures { λ b. ⌜ (now (account .exit) ≡ taken (now (account .entry)) n) × (b ≡ has-room (now (account .entry)) n) ⌝ }
+{
+    let c = take(*account, n);
+    *account = c.account;
+    c.ok
+}
+
+// A charge of n bytes goes from the account where it stands.
+pub fn release(account: &mut Account, n: usize)
+    ensures { λ _. ⌜ now (account .exit) ≡ given-back (now (account .entry)) n ⌝ }
+{
+    *account = give_back(*account, n);
+}
+
+// Of an account in plain numbers `back` bytes are released, and n are then charged.
+pub fn settle(size: usize, in_use: usize, peak: usize, back: usize, n: usize) -> Outcome
+    ensures { λ r. ⌜ (r .account ≡ taken (given-back (account size in_use peak) back) n) × (r .ok ≡ has-room (given-back (account size in_use peak) back) n) ⌝ }
+{
+    let mut own = Account { size: size, in_use: in_use, peak: peak };
+    release(&mut own, back);
+    let ok = charge(&mut own, n);
+    Outcome { account: own, ok: ok }
+}
