@@ -5,14 +5,16 @@ use mathlib.Core.Path.{_≡_, refl, sym, _∙_, ap}
 use mathlib.Core.Bool.{Bool, true, false, cond}
 use mathlib.Core.Logic.{_⊎_, inl, inr, ⊎-elim}
 use Prim.Native.Nat.{ℕ, _<_}
-use lib.ListN.{length}
+use lib.ListN.{length, length-set}
+use lib.Dec.{eqb}
+use borrow.Author.Tests.{ne-eqb}
 use lib.Seq.{getD-set-same}
 use Rattle.rules.specs.Sheet.{Sheet, board, op, rank-of, is-ready, is-buffered, is-nonblocking}
 use Rattle.rules.specs.Job.{Job, Place, place, job, place-at, entry-at, with-entries, with-places, with-messages, with-receives, with-memory, with-stop}
 use Rattle.rules.specs.Step.{charge-of, charged, released, with-place, charge, release, matched-rows, matched, with-state, pend-message, stopped, one-finished, now-waiting, initiated, fits-buffer, unmatched}
 use Rattle.laws.specs.Tests.{decided}
 use Rattle.account.specs.declared.Account.{Account}
-use Rattle.account.specs.Accounts.{account-of, place-of, has-room, taken, given-back}
+use Rattle.account.specs.Accounts.{account-of, place-of, has-room, taken, given-back, taken-not}
 
 unfoldable pub board-account : Sheet → Job → (r : ℕ) → Account
 board-account s x r = account-of (board s r .attached) (place-at x r)
@@ -53,6 +55,15 @@ unfolding account-of one-finished now-waiting place
 account-settled size q true = refl
 account-settled size q false = refl
 
+-- none of these steps adds or removes a place
+pended-in : (x : Job) (r i v : ℕ) → r < length (x .places) → r < length (pend-message i v x .places)
+unfolding pend-message with-messages with-state with-entries job
+pended-in x r i v l = l
+
+charged-in : (s : Sheet) (x : Job) (r i v : ℕ) → r < length (x .places) → r < length (charge s r i (pend-message i v x) .places)
+unfolding charge with-place with-places pend-message with-messages with-state with-entries job
+charged-in s x r i v l = rw (length-set (x .places) r (charged (charge-of (op s i)) (place-at (pend-message i v x) r))) l
+
 module _ (s : Sheet) (x : Job) (r i : ℕ) (l : r < length (x .places)) where
   initiated-account : board-account s (initiated s r i x) r ≡ board-account s x r
   unfolding board-account initiated
@@ -69,3 +80,33 @@ module _ (s : Sheet) (x : Job) (r i : ℕ) (l : r < length (x .places)) where
   stopped-account : (v : ℕ) → board-account s (stopped v r i x) r ≡ board-account s x r
   unfolding board-account stopped with-stop job place-at
   stopped-account v = refl
+
+module _ (s : Sheet) (x : Job) (r i : ℕ) (l : r < length (x .places)) where
+  -- a buffered send that no posted receive fits: the account is charged where it has room, and else stays as it was
+  pub unmatched-moves : is-ready (op s i) ≡ false → is-buffered (op s i) ≡ true → board-account s (unmatched s r i x) r ≡ taken (board-account s x r) (charge-of (op s i))
+  unfolding unmatched
+  unmatched-moves n k = rw (n, k) (⊎-elim fits full (decided (fits-buffer s r i x)))
+    where
+      fits : fits-buffer s r i x ≡ true → board-account s (cond (fits-buffer s r i x) (initiated s r i (charge s r i (pend-message i 2 x))) (stopped 3 r i x)) r ≡ taken (board-account s x r) (charge-of (op s i))
+      fits t =
+          rw t (initiated-account s (charge s r i (pend-message i 2 x)) r i (charged-in s x r i 2 l)
+          ∙ (charge-moves s (pend-message i 2 x) r i (pended-in x r i 2 l) (pended-fits s x r i l 2 ∙ t) ∙ ap (λ (a : Account). taken a (charge-of (op s i))) (pended-account s x r i l 2)))
+
+      full : fits-buffer s r i x ≡ false → board-account s (cond (fits-buffer s r i x) (initiated s r i (charge s r i (pend-message i 2 x))) (stopped 3 r i x)) r ≡ taken (board-account s x r) (charge-of (op s i))
+      full t = rw t (stopped-account s x r i l 3 ∙ taken-not (board-account s x r) (charge-of (op s i)) (sym (room-is-board's s r i x) ∙ t))
+
+-- a match of message m: the account of its board gets the charge back if the message was buffered, and else stays as it was
+module _ (s : Sheet) (x : Job) (m r : ℕ) where
+  matched-account : (b : ℕ) → board-account s (matched s m r x) b ≡ board-account s (release s m x) b
+  unfolding board-account matched matched-rows with-memory with-receives with-messages with-entries job place-at
+  matched-account b = refl
+
+  pub matched-moves : rank-of s m < length (x .places) → entry-at x m .state ≡ 2 → board-account s (matched s m r x) (rank-of s m) ≡ given-back (board-account s x (rank-of s m)) (charge-of (op s m))
+  matched-moves l e = matched-account (rank-of s m) ∙ release-moves s x m l e
+
+  unbuffered : eqb (entry-at x m .state) 2 ≡ false → release s m x ≡ x
+  unfolding release
+  unbuffered e = rw e refl
+
+  pub matched-stays : (b : ℕ) → (entry-at x m .state ≡ 2 → ⊥) → board-account s (matched s m r x) b ≡ board-account s x b
+  matched-stays b n = matched-account b ∙ ap (λ (y : Job). board-account s y b) (unbuffered (ne-eqb (entry-at x m .state) 2 n))
