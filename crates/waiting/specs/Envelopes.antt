@@ -68,6 +68,16 @@ first-nowhere f [] b = refl
 first-nowhere f (e ∷ es) b =
     ap one-on (first-nowhere f es (λ j h. b (suc j) (omega arith))) ∙ sym (cond-false (f e) (At 0) (one-on (first-place f es)) (b 0 (omega arith)))
 
+-- so a search through a list finds the definition's place
+module _ (es : List Envelope) (s c t k : ℕ) where
+  pub found-here : k < length es → Passed (λ e. envelope-fits e s c t) es k → envelope-fits (getD es k (envelope 0 0 0 0)) s c t ≡ true → At k ≡ earliest-fit es s c t
+  unfolding earliest-fit
+  found-here l b h = first-here (λ e. envelope-fits e s c t) es k l b h
+
+  pub found-nowhere : length es ≤ k → Passed (λ e. envelope-fits e s c t) es k → Nothing ≡ earliest-fit es s c t
+  unfolding earliest-fit
+  found-nowhere l b = first-nowhere (λ e. envelope-fits e s c t) es (λ j h. b j (omega arith))
+
 -- the list of three slices of one length, place by place
 pub listed-length : (ss cs ts : List ℕ) → length cs ≡ length ss → length ts ≡ length ss → length (listed ss cs ts) ≡ length ss
 unfolding listed
@@ -84,17 +94,15 @@ listed-at (s ∷ ss) (c ∷ cs) [] k p q l = absurd (omega arith)
 listed-at (s ∷ ss) (c ∷ cs) (t ∷ ts) zero p q l = refl
 listed-at (s ∷ ss) (c ∷ cs) (t ∷ ts) (suc k) p q l = listed-at ss cs ts k (omega arith) (omega arith) (omega arith)
 
--- so a search through the slices finds the definition's place
-module _ (ss cs ts : List ℕ) (p : length cs ≡ length ss) (q : length ts ≡ length ss) (s c t : ℕ) where
-  pub searched-here : (k : ℕ) → k < length ss → Passed (λ e. envelope-fits e s c t) (listed ss cs ts) k → envelope-fits (envelope (getD ss k 0) (getD cs k 0) (getD ts k 0) 0) s c t ≡ true → At k ≡ earliest-fit (listed ss cs ts) s c t
-  unfolding earliest-fit
-  searched-here k l b h =
-      first-here (λ e. envelope-fits e s c t) (listed ss cs ts) k (subst (λ (n : ℕ). k < n) (sym (listed-length ss cs ts p q)) l) b
+-- so does a search through the slices
+module _ (ss cs ts : List ℕ) (p : length cs ≡ length ss) (q : length ts ≡ length ss) (s c t k : ℕ) where
+  pub searched-here : k < length ss → Passed (λ e. envelope-fits e s c t) (listed ss cs ts) k → envelope-fits (envelope (getD ss k 0) (getD cs k 0) (getD ts k 0) 0) s c t ≡ true → At k ≡ earliest-fit (listed ss cs ts) s c t
+  searched-here l b h =
+      found-here (listed ss cs ts) s c t k (subst (λ (n : ℕ). k < n) (sym (listed-length ss cs ts p q)) l) b
       (ap (λ (e : Envelope). envelope-fits e s c t) (sym (listed-at ss cs ts k p q l)) ∙ h)
 
-  pub searched-on : (k : ℕ) → k < length ss → Passed (λ e. envelope-fits e s c t) (listed ss cs ts) k → envelope-fits (envelope (getD ss k 0) (getD cs k 0) (getD ts k 0) 0) s c t ≡ false → Passed (λ e. envelope-fits e s c t) (listed ss cs ts) (k + 1)
-  searched-on k l b h = passed-on (λ e. envelope-fits e s c t) (listed ss cs ts) k b (ap (λ (e : Envelope). envelope-fits e s c t) (sym (listed-at ss cs ts k p q l)) ∙ h)
+  pub searched-on : k < length ss → Passed (λ e. envelope-fits e s c t) (listed ss cs ts) k → envelope-fits (envelope (getD ss k 0) (getD cs k 0) (getD ts k 0) 0) s c t ≡ false → Passed (λ e. envelope-fits e s c t) (listed ss cs ts) (k + 1)
+  searched-on l b h = passed-on (λ e. envelope-fits e s c t) (listed ss cs ts) k b (ap (λ (e : Envelope). envelope-fits e s c t) (sym (listed-at ss cs ts k p q l)) ∙ h)
 
-  pub searched-nowhere : (k : ℕ) → length ss ≤ k → Passed (λ e. envelope-fits e s c t) (listed ss cs ts) k → Nothing ≡ earliest-fit (listed ss cs ts) s c t
-  unfolding earliest-fit
-  searched-nowhere k l b = first-nowhere (λ e. envelope-fits e s c t) (listed ss cs ts) (λ j h. b j (omega (arith, listed-length ss cs ts p q)))
+  pub searched-nowhere : length ss ≤ k → Passed (λ e. envelope-fits e s c t) (listed ss cs ts) k → Nothing ≡ earliest-fit (listed ss cs ts) s c t
+  searched-nowhere l b = found-nowhere (listed ss cs ts) s c t k (subst (λ (n : ℕ). n ≤ k) (sym (listed-length ss cs ts p q)) l) b
