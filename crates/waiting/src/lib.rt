@@ -34,13 +34,13 @@ pub fn search(sources: &[usize], communicators: &[usize], tags: &[usize], source
     requires { ⌜ (length (now communicators) ≡ length (now sources)) × (length (now tags) ≡ length (now sources)) ⌝ }
     ensures { λ r. ⌜ r ≡ earliest-fit (listed (now (sources .entry)) (now (communicators .entry)) (now (tags .entry))) source communicator tag ⌝ }
 {
-    let mut k = 0;
-    while k < sources.len() {
-        let e = Envelope { source: sources[k], communicator: communicators[k], tag: tags[k], operation: 0 };
+    let mut i = 0;
+    while i < sources.len() {
+        let e = Envelope { source: sources[i], communicator: communicators[i], tag: tags[i], operation: 0 };
         if fits(e, source, communicator, tag) {
-            return Found::At(k);
+            return Found::At(i);
         }
-        k += 1;
+        i += 1;
     }
     Found::Nothing
 }

@@ -1,4 +1,4 @@
--- `waiting::search` meets its contract. The loop's invariant: none of the k passed fits. The measure is how many are left.
+-- `waiting::search` meets its contract. The loop's invariant: none of the i passed fits. The measure is how many are left.
 -- Assumes nothing.
 use mathlib.Core.Path.{_∙_, sym}
 use Prim.Native.Nat.{_≤_, _-_}
@@ -10,10 +10,10 @@ use Rattle.waiting.proofs.search.Statement.{statement}
 use Rattle.waiting.proofs.search.Tie as tie
 
 abbrev Inv-loop : tie.InvT-loop
-Inv-loop ss cs ts s c t k₀ k = (k ≤ length ss) × Passed (λ e. envelope-fits e s c t) (listed ss cs ts) k
+Inv-loop ss cs ts s c t i₀ i = (i ≤ length ss) × Passed (λ e. envelope-fits e s c t) (listed ss cs ts) i
 
 abbrev μ-loop : tie.MeasureT-loop
-μ-loop ss cs ts s c t k₀ k = length ss - k
+μ-loop ss cs ts s c t i₀ i = length ss - i
 
 loop-holds : tie.Need-loop-holds Inv-loop μ-loop
 loop-holds c = (omega arith, λ j l. absurd (omega arith))
@@ -44,10 +44,10 @@ returns c =
     let a = c .before .before .before .before .before .before .before .before .before .before .args in
     let p = c .before .before .before .before .before .before .before .before .before .before .pre in
     let l = c .before .before .before .before .before .before .loop in
-    searched-here (a .sources .now) (a .communicators .now) (a .tags .now) (p .0) (p .1) (a .source) (a .communicator) (a .tag) (l .k) (c .before .before .before .before .before .loop-test .taken) (l .inv .1) (sym (c .before .fits2 .ensures) ∙ c .if1 .taken)
+    searched-here (a .sources .now) (a .communicators .now) (a .tags .now) (p .0) (p .1) (a .source) (a .communicator) (a .tag) (l .i) (c .before .before .before .before .before .loop-test .taken) (l .inv .1) (sym (c .before .fits2 .ensures) ∙ c .if1 .taken)
 
-add-k : tie.Need-add-k Inv-loop μ-loop
-add-k c = search needs
+add-i : tie.Need-add-i Inv-loop μ-loop
+add-i c = search needs
 
 loop-less : tie.Need-loop-less Inv-loop μ-loop
 loop-less c = omega arith
@@ -57,14 +57,14 @@ loop-again c =
     let a = c .before .before .before .before .before .before .before .before .before .before .args in
     let p = c .before .before .before .before .before .before .before .before .before .before .pre in
     let l = c .before .before .before .before .before .before .loop in
-    (omega arith, searched-on (a .sources .now) (a .communicators .now) (a .tags .now) (p .0) (p .1) (a .source) (a .communicator) (a .tag) (l .k) (c .before .before .before .before .before .loop-test .taken) (l .inv .1) (sym (c .before .fits2 .ensures) ∙ c .if1 .left))
+    (omega arith, searched-on (a .sources .now) (a .communicators .now) (a .tags .now) (p .0) (p .1) (a .source) (a .communicator) (a .tag) (l .i) (c .before .before .before .before .before .loop-test .taken) (l .inv .1) (sym (c .before .fits2 .ensures) ∙ c .if1 .left))
 
 returns-2 : tie.Need-returns-2 Inv-loop μ-loop
 returns-2 c =
     let a = c .before .before .before .before .before .args in
     let p = c .before .before .before .before .before .pre in
     let l = c .before .loop in
-    searched-nowhere (a .sources .now) (a .communicators .now) (a .tags .now) (p .0) (p .1) (a .source) (a .communicator) (a .tag) (l .k) (c .loop-test .left) (l .inv .1)
+    searched-nowhere (a .sources .now) (a .communicators .now) (a .tags .now) (p .0) (p .1) (a .source) (a .communicator) (a .tag) (l .i) (c .loop-test .left) (l .inv .1)
 
 pub search-spec : {M : Type 1} → statement M
 search-spec =
@@ -81,7 +81,7 @@ search-spec =
     shared-slice-read-t18
     fits-requires
     returns
-    add-k
+    add-i
     loop-less
     loop-again
     returns-2)
