@@ -1,6 +1,8 @@
 // Runs the buffer account and the waiting list, and prints what they answer, to be held to the file `stdout`.
 // Account lines: size, in use and peak after a release and a charge, and 1 where the charge was taken, else 0.
 // Waiting lines: the place of the earliest that fits, counted from 0, or `none`.
+ghost use Prim.Native.Nat.{_≤_};
+use waiting::Envelope;
 use waiting::Found;
 
 fn number(n: usize) {
@@ -42,6 +44,19 @@ fn search_line(source: usize, communicator: usize, tag: usize) {
     found_line(waiting::search(&sources, &communicators, &tags, source, communicator, tag));
 }
 
+// The same four in an array, and after them messages from 1 in communicator 2 with tag 9; the first `count` are searched.
+fn array_line(count: usize, source: usize, communicator: usize, tag: usize)
+    requires { ⌜ count ≤ 16 ⌝ }
+{
+    let rest = Envelope { source: 1, communicator: 2, tag: 9, operation: 4 };
+    let mut list = [rest; 16];
+    list[0] = Envelope { source: 0, communicator: 0, tag: 5, operation: 0 };
+    list[1] = Envelope { source: 1, communicator: 1, tag: 5, operation: 1 };
+    list[2] = Envelope { source: 1, communicator: 0, tag: 6, operation: 2 };
+    list[3] = Envelope { source: 0, communicator: 0, tag: 6, operation: 3 };
+    found_line(waiting::earliest_of(list, count, source, communicator, tag));
+}
+
 fn main() {
     account_line(10, 0, 0, 0, 10);
     account_line(10, 0, 0, 0, 11);
@@ -57,4 +72,11 @@ fn main() {
     search_line(0, 0, 6);
     search_line(1, 0, 5);
     search_line(65535, 2, 65535);
+    array_line(4, 0, 0, 5);
+    array_line(4, 65535, 1, 65535);
+    array_line(4, 0, 0, 6);
+    array_line(4, 1, 2, 9);
+    array_line(5, 1, 2, 9);
+    array_line(0, 65535, 0, 65535);
+    array_line(16, 65535, 3, 65535);
 }

@@ -58,3 +58,11 @@ pub fn earliest(list: &[Envelope], source: usize, communicator: usize, tag: usiz
     }
     Found::Nothing
 }
+
+// The earliest of the first `count` envelopes of an array.
+pub fn earliest_of(list: [Envelope; 16], count: usize, source: usize, communicator: usize, tag: usize) -> Found
+    requires { ⌜ count ≤ 16 ⌝ }
+    ensures { λ r. ⌜ r ≡ earliest-fit (take count list) source communicator tag ⌝ }
+{
+    earliest(&list[..count], source, communicator, tag)
+}
