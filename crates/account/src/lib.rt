@@ -21,7 +21,11 @@ pub struct Outcome {
 pub fn room(a: Account, n: usize) -> bool
     ensures { λ b. ⌜ b ≡ has-room a n ⌝ }
 {
-    if n <= a.size { a.in_use <= a.size - n } else { false }
+    if n <= a.size {
+        a.in_use <= a.size - n
+    } else {
+        false
+    }
 }
 
 // The larger of two numbers.
@@ -38,10 +42,20 @@ pub fn take(a: Account, n: usize) -> Outcome
     if room(a, n) {
         let used = a.in_use + n;
         let most = larger(a.peak, used);
-        let after = Account { size: a.size, in_use: used, peak: most };
-        return Outcome { account: after, ok: true };
+        let after = Account {
+            size: a.size,
+            in_use: used,
+            peak: most,
+        };
+        return Outcome {
+            account: after,
+            ok: true,
+        };
     }
-    Outcome { account: a, ok: false }
+    Outcome {
+        account: a,
+        ok: false,
+    }
 }
 
 // A charge of n bytes goes; the peak stays.
@@ -49,7 +63,11 @@ pub fn give_back(a: Account, n: usize) -> Account
     ensures { λ r. ⌜ r ≡ given-back a n ⌝ }
 {
     let left = if n <= a.in_use { a.in_use - n } else { 0 };
-    Account { size: a.size, in_use: left, peak: a.peak }
+    Account {
+        size: a.size,
+        in_use: left,
+        peak: a.peak,
+    }
 }
 
 // The account is charged n bytes where it stands, if it has room; the answer says whether.
@@ -72,8 +90,15 @@ pub fn release(account: &mut Account, n: usize)
 pub fn settle(size: usize, in_use: usize, peak: usize, back: usize, n: usize) -> Outcome
     ensures { λ r. ⌜ (r .account ≡ taken (given-back (account size in_use peak) back) n) × (r .ok ≡ has-room (given-back (account size in_use peak) back) n) ⌝ }
 {
-    let mut own = Account { size: size, in_use: in_use, peak: peak };
+    let mut own = Account {
+        size: size,
+        in_use: in_use,
+        peak: peak,
+    };
     release(&mut own, back);
     let ok = charge(&mut own, n);
-    Outcome { account: own, ok: ok }
+    Outcome {
+        account: own,
+        ok: ok,
+    }
 }

@@ -48,12 +48,37 @@ fn search_line(source: usize, communicator: usize, tag: usize) {
 fn array_line(count: usize, source: usize, communicator: usize, tag: usize)
     requires { ⌜ count ≤ 16 ⌝ }
 {
-    let rest = Envelope { source: 1, communicator: 2, tag: 9, operation: 4 };
+    let rest = Envelope {
+        source: 1,
+        communicator: 2,
+        tag: 9,
+        operation: 4,
+    };
     let mut list = [rest; 16];
-    list[0] = Envelope { source: 0, communicator: 0, tag: 5, operation: 0 };
-    list[1] = Envelope { source: 1, communicator: 1, tag: 5, operation: 1 };
-    list[2] = Envelope { source: 1, communicator: 0, tag: 6, operation: 2 };
-    list[3] = Envelope { source: 0, communicator: 0, tag: 6, operation: 3 };
+    list[0] = Envelope {
+        source: 0,
+        communicator: 0,
+        tag: 5,
+        operation: 0,
+    };
+    list[1] = Envelope {
+        source: 1,
+        communicator: 1,
+        tag: 5,
+        operation: 1,
+    };
+    list[2] = Envelope {
+        source: 1,
+        communicator: 0,
+        tag: 6,
+        operation: 2,
+    };
+    list[3] = Envelope {
+        source: 0,
+        communicator: 0,
+        tag: 6,
+        operation: 3,
+    };
     found_line(waiting::earliest_of(list, count, source, communicator, tag));
 }
 

@@ -30,13 +30,25 @@ pub fn fits(e: Envelope, source: usize, communicator: usize, tag: usize) -> bool
 }
 
 // The earliest of the messages whose sources, communicators and tags stand in three slices.
-pub fn search(sources: &[usize], communicators: &[usize], tags: &[usize], source: usize, communicator: usize, tag: usize) -> Found
+pub fn search(
+    sources: &[usize],
+    communicators: &[usize],
+    tags: &[usize],
+    source: usize,
+    communicator: usize,
+    tag: usize,
+) -> Found
     requires { ⌜ (length (now communicators) ≡ length (now sources)) × (length (now tags) ≡ length (now sources)) ⌝ }
     ensures { λ r. ⌜ r ≡ earliest-fit (listed (now (sources .entry)) (now (communicators .entry)) (now (tags .entry))) source communicator tag ⌝ }
 {
     let mut i = 0;
     while i < sources.len() {
-        let e = Envelope { source: sources[i], communicator: communicators[i], tag: tags[i], operation: 0 };
+        let e = Envelope {
+            source: sources[i],
+            communicator: communicators[i],
+            tag: tags[i],
+            operation: 0,
+        };
         if fits(e, source, communicator, tag) {
             return Found::At(i);
         }
@@ -60,7 +72,13 @@ pub fn earliest(list: &[Envelope], source: usize, communicator: usize, tag: usiz
 }
 
 // The earliest of the first `count` envelopes of an array.
-pub fn earliest_of(list: [Envelope; 16], count: usize, source: usize, communicator: usize, tag: usize) -> Found
+pub fn earliest_of(
+    list: [Envelope; 16],
+    count: usize,
+    source: usize,
+    communicator: usize,
+    tag: usize,
+) -> Found
     requires { ⌜ count ≤ 16 ⌝ }
     ensures { λ r. ⌜ r ≡ earliest-fit (take count list) source communicator tag ⌝ }
 {
