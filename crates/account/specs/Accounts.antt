@@ -1,6 +1,6 @@
 -- Accounts of attached buffers (document 01, "How a board steps"). What a charge and a release leave is what rules' `charged` and
 -- `released` leave of a place. Assumes nothing.
-use mathlib.Core.Path.{_≡_, refl, sym}
+use mathlib.Core.Path.{_≡_, sym}
 use mathlib.Core.Bool.{Bool, true, false, cond}
 use Prim.Native.Nat.{ℕ, _+_, _-_, _<_, _≤_, max}
 use native.Mathlib.Omega.{arith}

@@ -1,5 +1,5 @@
 -- `account::give_back` meets its contract: what is left is rules' difference. Assumes nothing.
-use mathlib.Core.Path.{_≡_, refl}
+use mathlib.Core.Path.{refl}
 use Prim.Native.Nat.{_-_}
 use native.Mathlib.Omega.{arith}
 use Rattle.account.specs.Accounts.{given-back-left}

@@ -1,5 +1,5 @@
 -- `account::take` meets its contract: what it builds is rules' charged place, or the account as it was. Assumes nothing.
-use mathlib.Core.Path.{_≡_, sym, _∙_}
+use mathlib.Core.Path.{sym, _∙_}
 use native.Mathlib.Omega.{arith}
 use borrow.Author.Needs.{needs}
 use Rattle.account.specs.Accounts.{room-fits, taken-fits, taken-not}

@@ -1,9 +1,9 @@
 -- `waiting::earliest_of` meets its contract: a walk of its MIR, by hand. The array is copied to a local, whose first `count`
 -- envelopes are lent as a slice for a lifetime that the walk makes, and come back when it has ended. All that is known of
 -- `earliest` is its contract. Assumes nothing.
-use mathlib.Core.Path.{_≡_, refl, sym, _∙_, ap}
+use mathlib.Core.Path.{_≡_, refl, sym}
 use mathlib.Core.List.{[], _∷_, List}
-use Prim.Native.Nat.{ℕ, zero, suc, _+_, _*_, _<_, _≤_, _^_}
+use Prim.Native.Nat.{ℕ, zero, suc, _+_, _<_, _≤_, _^_}
 use native.Mathlib.Omega.{arith}
 use lib.ListN.{length, take, drop as drop-list}
 use lib.Seq.{length-take-le}
@@ -13,14 +13,14 @@ use mir.Syntax.{Ty, named, erased, imm, w64, tyArray, tyRef}
 use lib.Dec.{T as Holds}
 use mir.Val.{Val, WT, hasTy, vint}
 use base.Logic.{SProp, ent, sep, emp, exE, snd∗, id⊢}
-use base.Fml.{Fml, GName, Share, ftrue, fsep, flft, flent, fat}
+use base.Fml.{Fml, GName, ftrue, fsep, flft, flent, fat}
 use prog.Memory.{Memory}
 use prog.Routine.{Routine}
 use prog.Wp.{Heap, Calls, Loops, WpFn, Tables}
 use ghost.Atoms.{Atoms, sem}
 use contract.Monad.{Fun, fact}
 use contract.Running.{givenOf, tables, tablesOf}
-use types.Kit.{Given, ‵, raw, _⊛_, some, later, _$_, _∵_, !, qed, by, move, keep, drop, use1, use2, split, join, pick, rewrite, fsplit, fjoin, fpick, fpack, feqL, feqI, suffices, frame, await, done}
+use types.Kit.{Given, ‵, raw, _⊛_, some, later, _$_, _∵_, !, qed, by, move, drop, use1, use2, split, join, pick, rewrite, fsplit, fjoin, fpick, fpack, feqI, suffices, frame, await, done}
 use types.Tokens.{lft-new, lft-end, lent-back}
 use types.Run.{look, init, forget, stop, from, load, of-opd, addr, and-then, no-more, land, assigns, returns, enter, alloc1, alloc0, params1, pass1, pass0, free1, free0}
 use types.Part.{agg}
