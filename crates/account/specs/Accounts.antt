@@ -1,0 +1,62 @@
+-- Accounts of attached buffers (document 01, "How a board steps"). What a charge and a release leave is what rules' `charged` and
+-- `released` leave of a place. Assumes nothing.
+use mathlib.Core.Path.{_≡_, sym}
+use mathlib.Core.Bool.{Bool, true, false, cond}
+use Prim.Native.Nat.{ℕ, _+_, _-_, _<_, _≤_, max}
+use native.Mathlib.Omega.{arith}
+use lib.Dec.{leb}
+use Rattle.rules.specs.Job.{Place, place}
+use Rattle.rules.specs.Step.{charged, released}
+use borrow.Author.Tests.{le-leb, lt-leb, leb-true}
+use Rattle.laws.specs.Tests.{same-test}
+use Rattle.account.specs.declared.Account.{Account}
+
+abbrev pub account : (size in-use peak : ℕ) → Account
+account s u p =
+    record {
+      size = s;
+      in_use = u;
+      peak = p;
+    }
+
+-- the account of a place, for a buffer of the size
+unfoldable pub account-of : (size : ℕ) → Place → Account
+account-of s q = account s (q .in-use) (q .peak)
+
+-- a place with the account's figures
+unfoldable pub place-of : Account → Place
+place-of a = place 0 false (a .in_use) (a .peak)
+
+unfoldable pub has-room : Account → (n : ℕ) → Bool
+has-room a n = leb (a .in_use + n) (a .size)
+
+unfoldable pub taken : Account → (n : ℕ) → Account
+taken a n = cond (has-room a n) (account-of (a .size) (charged n (place-of a))) a
+
+unfoldable pub given-back : Account → (n : ℕ) → Account
+given-back a n = account-of (a .size) (released n (place-of a))
+
+-- what a program that builds accounts shows: a test by a difference, the difference that is left, a charge by what the test said
+pub room-within : (a : Account) (n : ℕ) → n ≤ a .size → leb (a .in_use) (a .size - n) ≡ has-room a n
+unfolding has-room
+room-within a n l = same-test (leb (a .in_use) (a .size - n)) (leb (a .in_use + n) (a .size)) (λ t. le-leb (a .in_use + n) (a .size) (omega (arith, leb-true (a .in_use) (a .size - n) t))) (λ t. le-leb (a .in_use) (a .size - n) (omega (arith, leb-true (a .in_use + n) (a .size) t)))
+
+pub no-room : (a : Account) (n : ℕ) → a .size < n → false ≡ has-room a n
+unfolding has-room
+no-room a n l = sym (lt-leb (a .in_use + n) (a .size) (omega arith))
+
+pub room-fits : (a : Account) (n : ℕ) → has-room a n ≡ true → a .in_use + n ≤ a .size
+unfolding has-room
+room-fits a n t = leb-true (a .in_use + n) (a .size) t
+
+pub taken-fits : (a : Account) (n most : ℕ) → has-room a n ≡ true → most ≡ max (a .peak) (a .in_use + n) → account (a .size) (a .in_use + n) most ≡ taken a n
+unfolding taken account-of place-of charged place
+taken-fits a n most t e = rw (t, e)
+
+pub taken-not : (a : Account) (n : ℕ) → has-room a n ≡ false → a ≡ taken a n
+unfolding taken
+taken-not a n t = rw t
+
+pub given-back-left : (a : Account) (n left : ℕ) → left ≡ a .in_use - n → account (a .size) left (a .peak) ≡ given-back a n
+unfolding given-back account-of place-of released place
+given-back-left a n left e = rw e

@@ -1,0 +1,104 @@
+// The account of a board's attached buffer (document 01, "How a board steps"; MPI buffered mode): its size, the bytes in use and
+// the most that were in use. The rules stand in two functions over accounts by value. `charge` and `release` take the account
+// by `&mut` and change it where it stands. `settle` lends an account of its own to both, for callers that have plain numbers.
+ghost use mathlib.Core.Path.{_≡_};
+ghost use Prim.Native.Nat.{max};
+ghost use Rattle.account.specs.Accounts.{account, has-room, taken, given-back};
+
+pub struct Account {
+    pub size: usize,
+    pub in_use: usize,
+    pub peak: usize,
+}
+
+// What a charge leaves, and whether it was taken.
+pub struct Outcome {
+    pub account: Account,
+    pub ok: bool,
+}
+
+// In use plus n is at most the size.
+pub fn room(a: Account, n: usize) -> bool
+    ensures { λ b. ⌜ b ≡ has-room a n ⌝ }
+{
+    if n <= a.size {
+        a.in_use <= a.size - n
+    } else {
+        false
+    }
+}
+
+// The larger of two numbers.
+fn larger(a: usize, b: usize) -> usize
+    ensures { λ v. ⌜ v ≡ max a b ⌝ }
+{
+    if a < b { b } else { a }
+}
+
+// n bytes are charged where there is room; else the account is as it was, and the answer says so.
+pub fn take(a: Account, n: usize) -> Outcome
+    ensures { λ r. ⌜ (r .account ≡ taken a n) × (r .ok ≡ has-room a n) ⌝ }
+{
+    if room(a, n) {
+        let used = a.in_use + n;
+        let most = larger(a.peak, used);
+        let after = Account {
+            size: a.size,
+            in_use: used,
+            peak: most,
+        };
+        return Outcome {
+            account: after,
+            ok: true,
+        };
+    }
+    Outcome {
+        account: a,
+        ok: false,
+    }
+}
+
+// A charge of n bytes goes; the peak stays.
+pub fn give_back(a: Account, n: usize) -> Account
+    ensures { λ r. ⌜ r ≡ given-back a n ⌝ }
+{
+    let left = if n <= a.in_use { a.in_use - n } else { 0 };
+    Account {
+        size: a.size,
+        in_use: left,
+        peak: a.peak,
+    }
+}
+
+// The account is charged n bytes where it stands, if it has room; the answer says whether.
+pub fn charge(account: &mut Account, n: usize) -> bool
+    ensures { λ b. ⌜ (now (account .exit) ≡ taken (now (account .entry)) n) × (b ≡ has-room (now (account .entry)) n) ⌝ }
+{
+    let c = take(*account, n);
+    *account = c.account;
+    c.ok
+}
+
+// A charge of n bytes goes from the account where it stands.
+pub fn release(account: &mut Account, n: usize)
+    ensures { λ _. ⌜ now (account .exit) ≡ given-back (now (account .entry)) n ⌝ }
+{
+    *account = give_back(*account, n);
+}
+
+// Of an account in plain numbers `back` bytes are released, and n are then charged.
+pub fn settle(size: usize, in_use: usize, peak: usize, back: usize, n: usize) -> Outcome
+    ensures { λ r. ⌜ (r .account ≡ taken (given-back (account size in_use peak) back) n) × (r .ok ≡ has-room (given-back (account size in_use peak) back) n) ⌝ }
+{
+    let mut own = Account {
+        size: size,
+        in_use: in_use,
+        peak: peak,
+    };
+    release(&mut own, back);
+    let ok = charge(&mut own, n);
+    Outcome {
+        account: own,
+        ok: ok,
+    }
+}

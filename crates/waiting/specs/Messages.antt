@@ -1,0 +1,62 @@
+-- The waiting list of one receiver in a job: the envelopes of the pending messages that are addressed to it, in order of arrival.
+-- The earliest that fits a receive is the message that rules' `first-message` gives. Assumes nothing.
+use mathlib.Core.Path.{_≡_, refl, sym, _∙_}
+use mathlib.Core.Bool.{Bool, true, false, cond}
+use mathlib.Core.List.{List, [], _∷_}
+use mathlib.Core.Option.{Option, none, some}
+use Prim.Native.Nat.{ℕ}
+use lib.Dec.{eqb}
+use lib.ListN.{getD}
+use Rattle.rules.specs.Sheet.{Sheet, op, rank-of}
+use Rattle.rules.specs.Step.{fits-with, first-by, first-message}
+use Rattle.waiting.specs.declared.Envelope.{Envelope}
+use Rattle.waiting.specs.declared.Found.{Found}
+use Rattle.waiting.specs.declared.Found.the-variants.{Nothing, At}
+use Rattle.waiting.specs.Envelopes.{envelope, envelope-fits, one-on, first-place, earliest-fit}
+
+unfoldable pub envelope-of : Sheet → (m : ℕ) → Envelope
+envelope-of s m = envelope (rank-of s m) (op s m .comm) (op s m .tag) m
+
+unfoldable pub waiting-for : Sheet → (rank : ℕ) → List ℕ → List Envelope
+waiting-for s b [] = []
+waiting-for s b (m ∷ ms) = cond (eqb (op s m .peer) b) (envelope-of s m ∷ waiting-for s b ms) (waiting-for s b ms)
+
+-- the send that was found
+unfoldable pub operation-of : List Envelope → Found → Option ℕ
+operation-of es Nothing = none
+operation-of es (At k) = some (getD es k (envelope 0 0 0 0) .operation)
+
+next-operation : (e : Envelope) (es : List Envelope) (x : Found) → operation-of (e ∷ es) (one-on x) ≡ operation-of es x
+unfolding operation-of one-on
+next-operation e es Nothing = refl
+next-operation e es (At k) = refl
+
+-- for a message that is addressed to the receiver the fit is the envelope's; no other message fits
+fits-addressed : (s : Sheet) (m r : ℕ) → eqb (op s m .peer) (rank-of s r) ≡ true → fits-with s m r ≡ envelope-fits (envelope-of s m) (op s r .peer) (op s r .comm) (op s r .tag)
+unfolding fits-with envelope-fits envelope-of
+fits-addressed s m r t = rw t refl
+
+fits-not-addressed : (s : Sheet) (m r : ℕ) → eqb (op s m .peer) (rank-of s r) ≡ false → fits-with s m r ≡ false
+unfolding fits-with
+fits-not-addressed s m r t = rw t refl
+
+module _ (s : Sheet) (r : ℕ) where
+  abbrev Given : List ℕ → Type 0
+  Given ms = first-message s r ms ≡ operation-of (waiting-for s (rank-of s r) ms) (earliest-fit (waiting-for s (rank-of s r) ms) (op s r .peer) (op s r .comm) (op s r .tag))
+
+  -- a message in front that is the receiver's, and fits or doesn't
+  front : (m : ℕ) (ms : List ℕ) → (b : Bool) → envelope-fits (envelope-of s m) (op s r .peer) (op s r .comm) (op s r .tag) ≡ b → Given ms
+      → cond b (some m) (first-by (λ n. fits-with s n r) ms) ≡ operation-of (envelope-of s m ∷ waiting-for s (rank-of s r) ms) (earliest-fit (envelope-of s m ∷ waiting-for s (rank-of s r) ms) (op s r .peer) (op s r .comm) (op s r .tag))
+  unfolding earliest-fit first-place first-message operation-of envelope-of
+  front m ms true e h = rw e refl
+  front m ms false e h = rw e (h ∙ sym (next-operation (envelope-of s m) (waiting-for s (rank-of s r) ms) (earliest-fit (waiting-for s (rank-of s r) ms) (op s r .peer) (op s r .comm) (op s r .tag))))
+
+  pub earliest-message : (ms : List ℕ) → Given ms
+  unfolding first-message first-by waiting-for earliest-fit first-place operation-of
+  earliest-message [] = refl
+  earliest-message (m ∷ ms) = go (eqb (op s m .peer) (rank-of s r)) refl (earliest-message ms)
+    where
+      go : (b : Bool) → eqb (op s m .peer) (rank-of s r) ≡ b → Given ms → cond (fits-with s m r) (some m) (first-by (λ n. fits-with s n r) ms)
+          ≡ operation-of (cond b (envelope-of s m ∷ waiting-for s (rank-of s r) ms) (waiting-for s (rank-of s r) ms)) (earliest-fit (cond b (envelope-of s m ∷ waiting-for s (rank-of s r) ms) (waiting-for s (rank-of s r) ms)) (op s r .peer) (op s r .comm) (op s r .tag))
+      go true t h = rw (fits-addressed s m r t) (front m ms (envelope-fits (envelope-of s m) (op s r .peer) (op s r .comm) (op s r .tag)) refl h)
+      go false t h = rw (fits-not-addressed s m r t) h
