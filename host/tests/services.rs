@@ -136,6 +136,13 @@ fn run_is_a_followed_order() {
     );
 }
 
+/// What follow leaves of an order that it accepts.
+fn followed(sheet: &[u8], order: &[u8]) -> Desk {
+    let mut desk = Desk::for_sheet(sheet);
+    assert_eq!(desk.follow(sheet, order), Answer::SUCCESS);
+    desk
+}
+
 /// Document 01, What is pinned down: without any source and ready sends, and
 /// with buffers that cover all, every whole order ends alike, peaks aside.
 #[test]
@@ -146,8 +153,7 @@ fn whole_orders_end_alike() {
         assert_eq!(ran.run(&sheet), Answer::SUCCESS);
         let mut order = Vec::new();
         loop {
-            let mut desk = Desk::for_sheet(&sheet);
-            assert_eq!(desk.follow(&sheet, &order), Answer::SUCCESS);
+            let desk = followed(&sheet, &order);
             let able = desk.able();
             if able.is_empty() {
                 assert_eq!(desk.without_peaks(), ran.without_peaks(), "{order:?}");
@@ -168,8 +174,7 @@ fn neighbours_exchanged() {
         let boards = usize::from(word(&sheet, 0));
         let mut order = Vec::new();
         loop {
-            let mut desk = Desk::for_sheet(&sheet);
-            assert_eq!(desk.follow(&sheet, &order), Answer::SUCCESS);
+            let desk = followed(&sheet, &order);
             let able = desk.able();
             if able.is_empty() {
                 break;

@@ -30,52 +30,57 @@ impl Timed {
         }
     }
 
-    fn run(&self, rounds: usize, calls: usize) -> (f64, f64) {
+    /// Medians of the library and of the judge, each in rooms of its own, which
+    /// have to end equal.
+    fn beside(
+        &self,
+        (rounds, calls): (usize, usize),
+        library: impl Fn(&mut Desk),
+        judge: impl Fn(&mut Desk),
+    ) -> (f64, f64) {
         let mut theirs = self.desk.clone();
         let mut ours = self.desk.clone();
-        let times = medians(
-            rounds,
-            calls,
-            || {
-                black_box(ffi::run(
-                    black_box(&self.sheet),
-                    &mut theirs.inbox,
-                    &mut theirs.report,
-                    &mut theirs.order_out,
-                    &mut theirs.scratch,
-                ));
-            },
-            || {
-                let (rooms, order_out) = ours.rooms();
-                black_box(engine::run(black_box(&self.sheet), rooms, order_out));
-            },
-        );
-        assert_eq!(theirs, ours, "run");
+        let times = medians(rounds, calls, || library(&mut theirs), || judge(&mut ours));
+        assert_eq!(theirs, ours);
         times
     }
 
+    fn run(&self, rounds: usize, calls: usize) -> (f64, f64) {
+        self.beside(
+            (rounds, calls),
+            |desk| {
+                black_box(ffi::run(
+                    black_box(&self.sheet),
+                    &mut desk.inbox,
+                    &mut desk.report,
+                    &mut desk.order_out,
+                    &mut desk.scratch,
+                ));
+            },
+            |desk| {
+                let (rooms, order_out) = desk.rooms();
+                black_box(engine::run(black_box(&self.sheet), rooms, order_out));
+            },
+        )
+    }
+
     fn follow(&self, rounds: usize, calls: usize) -> (f64, f64) {
-        let mut theirs = self.desk.clone();
-        let mut ours = self.desk.clone();
-        let times = medians(
-            rounds,
-            calls,
-            || {
+        self.beside(
+            (rounds, calls),
+            |desk| {
                 black_box(ffi::follow(
                     black_box(&self.sheet),
                     &self.order,
-                    &mut theirs.inbox,
-                    &mut theirs.report,
-                    &mut theirs.scratch,
+                    &mut desk.inbox,
+                    &mut desk.report,
+                    &mut desk.scratch,
                 ));
             },
-            || {
-                let rooms = ours.rooms().0;
+            |desk| {
+                let rooms = desk.rooms().0;
                 black_box(engine::follow(black_box(&self.sheet), &self.order, rooms));
             },
-        );
-        assert_eq!(theirs, ours, "follow");
-        times
+        )
     }
 }
 
