@@ -15,7 +15,7 @@ use Rattle.rules.specs.Job.{Job, Entry, Place, Stop, entry-at, place-at}
 use Rattle.rules.specs.Step.{able, next-op, is-finished, complete, complete-if, waited, waited-below, half-complete, in-waiting-half, is-none}
 use Rattle.laws.specs.Laid.{Laid}
 use Rattle.laws.specs.Decoded.{op-by}
-use Rattle.promises.specs.Good.{Good}
+use Rattle.invariant.specs.sheet.Valid.{Good}
 use Rattle.state.specs.declared.Tally.{Tally}
 use Rattle.state.specs.Layout.{row-at, seat-at, word-at, waits-at}
 use Rattle.state.specs.Decoded.{entry-in, place-in}

@@ -26,9 +26,9 @@ use Rattle.laws.specs.Laid.{Laid}
 use Rattle.laws.specs.Decoded.{payload-decoded}
 use Rattle.laws.specs.Ranks.{inbox-start-none, counts-none, inbox-start-more, counts-more}
 use Rattle.words.specs.Splice.{splice-none}
-use Rattle.promises.specs.Good.{Good}
-use Rattle.promises.specs.Invariant.{paint, painted}
-use Rattle.promises.specs.Extents.{send-extent, area-inside}
+use Rattle.invariant.specs.sheet.Valid.{Good}
+use Rattle.invariant.specs.Invariant.{paint, painted}
+use Rattle.invariant.specs.sheet.Extents.{send-extent, area-inside}
 use Rattle.state.specs.declared.Tally.{Tally}
 use Rattle.state.specs.Layout.{row-at}
 use Rattle.state.specs.Decoded.{entry-in}

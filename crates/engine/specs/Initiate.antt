@@ -14,9 +14,9 @@ use Rattle.rules.specs.Limits.{most-ops}
 use Rattle.rules.specs.Sheet.{Sheet, sheet-in, op, board, P-of, N-of, rank-of, two, is-send, is-receive}
 use Rattle.rules.specs.Job.{Job, Place, job, place-at, with-entries, with-places, with-messages, with-receives, with-memory}
 use Rattle.rules.specs.Step.{able, next-op, in-waiting-half, first-by, first-message, first-receive, fits-with, without, release, matched-rows, matched, delivered, with-state, pend-message, pend-receive, initiated, sent, received, initiating}
-use Rattle.promises.specs.Good.{Good}
-use Rattle.promises.specs.Invariant.{Reached, state-at}
-use Rattle.promises.specs.Facts.{able-parts, next-inside, next-rank, next-new, message-op, receive-op, message-once, receive-once, messages-room, receives-room, new-message, new-receive}
+use Rattle.invariant.specs.sheet.Valid.{Good}
+use Rattle.invariant.specs.Invariant.{Reached, state-at}
+use Rattle.invariant.specs.Facts.{able-parts, next-inside, next-rank, next-new, message-op, receive-op, message-once, receive-once, messages-room, receives-room, new-message, new-receive}
 use Rattle.state.specs.declared.Tally.{Tally}
 use Rattle.state.specs.Layout.{word-at, messages-at, receives-at}
 use Rattle.state.specs.Lists.{First-at}

@@ -17,7 +17,7 @@ use Rattle.rules.specs.Sheet.{Sheet, Op, sheet-in, op, P-of, N-of, rank-of, is-
 use Rattle.rules.specs.Job.{Job, Place, job, place, entry-at, place-at, with-places}
 use Rattle.rules.specs.Step.{is-cut, charge-of, released, release, with-place, one-finished, now-waiting, initiated}
 use Rattle.laws.specs.Laid.{Laid}
-use Rattle.promises.specs.Good.{Good}
+use Rattle.invariant.specs.sheet.Valid.{Good}
 use Rattle.state.specs.declared.Tally.{Tally}
 use Rattle.state.specs.Decodes.{Decodes}
 use Rattle.engine.specs.Search.{Readable}

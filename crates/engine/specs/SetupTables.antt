@@ -26,7 +26,7 @@ use Rattle.laws.specs.Below.{below-found}
 use Rattle.words.specs.Splice.{splice-length}
 use Rattle.state.specs.Layout.{rank-at, word-at, waits-at}
 use Rattle.state.specs.Indexed.{Ranked, Awaited, Indexed, ranked-kept, awaited-kept, ranked-more, awaited-skip, awaited-more}
-use Rattle.promises.specs.Good.{Good}
+use Rattle.invariant.specs.sheet.Valid.{Good}
 
 -- LATEST
 -- operation j of board r takes slot k

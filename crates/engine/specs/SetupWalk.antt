@@ -21,8 +21,8 @@ use Rattle.laws.specs.Ranks.{counts-more}
 use Rattle.laws.specs.Fields.{fields-slot}
 use Rattle.laws.specs.Laid.{Laid}
 use Rattle.laws.specs.Decoded.{P-decoded, N-decoded, op-decoded}
-use Rattle.promises.specs.Good.{Good}
-use Rattle.promises.specs.Start.{start-reached}
+use Rattle.invariant.specs.sheet.Valid.{Good}
+use Rattle.invariant.specs.preserve.Orders.{start-reached}
 use Rattle.state.specs.declared.Tally.{Tally}
 use Rattle.state.specs.Tallied.{no-tally}
 use Rattle.state.specs.Decodes.{Decodes, decodes-as}

@@ -10,8 +10,8 @@ use Rattle.rules.specs.Sheet.{sheet-in, inbox-total}
 use Rattle.rules.specs.Job.{Job}
 use Rattle.rules.specs.Step.{able}
 use Rattle.laws.specs.Laid.{Laid}
-use Rattle.promises.specs.Good.{Good}
-use Rattle.promises.specs.Invariant.{Reached}
+use Rattle.invariant.specs.sheet.Valid.{Good}
+use Rattle.invariant.specs.Invariant.{Reached}
 use Rattle.state.specs.declared.Tally.{Tally}
 use Rattle.state.specs.Decodes.{Decodes}
 

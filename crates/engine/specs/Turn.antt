@@ -11,12 +11,12 @@ use Rattle.rules.specs.Limits.{most-ops}
 use Rattle.rules.specs.Sheet.{Sheet, sheet-in, op, board, P-of, N-of, is-receive, is-wait}
 use Rattle.rules.specs.Job.{Job, Place, job, place-at, with-entries, with-places, with-steps}
 use Rattle.rules.specs.Step.{able, next-op, in-waiting-half, with-place, with-state, one-finished, ended, initiating, step}
-use Rattle.promises.specs.Good.{Good}
-use Rattle.promises.specs.Invariant.{Reached}
-use Rattle.promises.specs.Facts.{able-parts, next-inside}
-use Rattle.promises.specs.Delivering.{ground}
-use Rattle.promises.specs.Sound.{step-sound}
-use Rattle.promises.specs.Bounds.{steps-few}
+use Rattle.invariant.specs.sheet.Valid.{Good}
+use Rattle.invariant.specs.Invariant.{Reached}
+use Rattle.invariant.specs.Facts.{able-parts, next-inside}
+use Rattle.invariant.specs.deliveries.Commute.{ground}
+use Rattle.invariant.specs.preserve.Step.{step-sound}
+use Rattle.invariant.specs.Bounds.{steps-few}
 use Rattle.state.specs.declared.Tally.{Tally}
 use Rattle.state.specs.Tallied.{stepped}
 use Rattle.state.specs.Decodes.{Decodes, steps-put}

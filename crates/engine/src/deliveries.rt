@@ -10,7 +10,7 @@ ghost use Rattle.rules.specs.Sheet.{sheet-in, op, board, rank-of, inbox-start, 
 ghost use Rattle.rules.specs.Job.{Job};
 ghost use Rattle.rules.specs.Step.{delivered};
 ghost use Rattle.laws.specs.Laid.{Laid};
-ghost use Rattle.promises.specs.Good.{Good};
+ghost use Rattle.invariant.specs.sheet.Valid.{Good};
 ghost use Rattle.state.specs.declared.Tally.{Tally};
 ghost use Rattle.engine.specs.Stands.{Stands};
 ghost use Rattle.engine.specs.Deliveries.{Deliverable, paint-in, Script-delivered};

@@ -8,7 +8,7 @@ ghost use Rattle.rules.specs.Limits.{most-boards, most-ops, slot-limit, scratch
 ghost use Rattle.rules.specs.Sheet.{sheet-in, op-in, P-in, N-of, counts-before, inbox-total};
 ghost use Rattle.rules.specs.Job.{started};
 ghost use Rattle.laws.specs.Laid.{Laid};
-ghost use Rattle.promises.specs.Good.{Good};
+ghost use Rattle.invariant.specs.sheet.Valid.{Good};
 ghost use Rattle.engine.specs.Stands.{Stands};
 ghost use Rattle.engine.specs.SetupTables.{last-after, op-put, Filled};
 use sheet::boards;

@@ -19,8 +19,8 @@ use Rattle.rules.specs.Service.{told, room-refusal, order-refusal, in-front, ke
 use Rattle.laws.specs.Tests.{cond-true, cond-false}
 use Rattle.laws.specs.Laid.{Laid}
 use Rattle.laws.specs.Decoded.{N-decoded}
-use Rattle.promises.specs.Good.{Good}
-use Rattle.promises.specs.FromBytes.{unrefused-accepted, accepted-laid, good-from-accepted}
+use Rattle.invariant.specs.sheet.Valid.{Good}
+use Rattle.invariant.specs.sheet.FromBytes.{unrefused-accepted, accepted-laid, good-from-accepted}
 use Rattle.jamturret.specs.Rooms.{sheet-most, room-most}
 
 -- FOLLOW, past sheet and rooms

@@ -5,7 +5,7 @@ ghost use lib.ListN.{length};
 ghost use Rattle.rules.specs.Limits.{order-room};
 ghost use Rattle.rules.specs.Sheet.{sheet-in, N-of};
 ghost use Rattle.laws.specs.Laid.{Laid};
-ghost use Rattle.promises.specs.Good.{Good};
+ghost use Rattle.invariant.specs.sheet.Valid.{Good};
 ghost use Rattle.jamturret.specs.Rooms.{Roomy};
 ghost use Rattle.jamturret.specs.Outcomes.{Follow-does, Run-does};
 use engine::deliveries;

@@ -21,14 +21,14 @@ use Rattle.rules.specs.Service.{told, room-refusal, in-front, kept-or, run-refu
 use Rattle.laws.specs.Tests.{cond-true, cond-false}
 use Rattle.laws.specs.Laid.{Laid}
 use Rattle.laws.specs.Decoded.{P-decoded, N-decoded}
-use Rattle.promises.specs.Good.{Good}
-use Rattle.promises.specs.FromBytes.{unrefused-accepted, accepted-laid, good-from-accepted}
-use Rattle.promises.specs.Delivering.{ground}
-use Rattle.promises.specs.Start.{left-reached}
+use Rattle.invariant.specs.sheet.Valid.{Good}
+use Rattle.invariant.specs.sheet.FromBytes.{unrefused-accepted, accepted-laid, good-from-accepted}
+use Rattle.invariant.specs.deliveries.Commute.{ground}
+use Rattle.invariant.specs.preserve.Orders.{left-reached}
 use Rattle.promises.specs.Statements.{Ends}
-use Rattle.promises.specs.Run.{run-ended}
-use Rattle.promises.specs.Reporting.{report-length}
-use Rattle.promises.specs.Calls.{front-report}
+use Rattle.promises.specs.claims.RunEnds.{run-ended}
+use Rattle.promises.specs.compare.ReportBytes.{report-length}
+use Rattle.promises.specs.claims.Calls.{front-report}
 use Rattle.jamturret.specs.Rooms.{Roomy, roomy, rooms-enough}
 use Rattle.judge.specs.Text.{hex-line, hex-line-length}
 

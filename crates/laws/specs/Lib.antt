@@ -12,6 +12,9 @@
 --   Table     a rule of a constant table, tested once
 --   Xor       exclusive or
 --   CrcStep   a byte of the CRC by a table of remainders
+--   Sums          sums over the numbers below n
+--   WaitingLists  members, order, searches, removal
+--   SpliceOrder   bytes put into a list at a place
 pub mod Tests
 pub mod Below
 pub mod Broken
@@ -25,3 +28,6 @@ pub mod Fields
 pub mod Table
 pub mod Xor
 pub mod CrcStep
+pub mod Sums
+pub mod WaitingLists
+pub mod SpliceOrder

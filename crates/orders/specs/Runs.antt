@@ -16,10 +16,10 @@ use Rattle.rules.specs.Step.{able, step}
 use Rattle.rules.specs.Order.{lowest-able, next-rank, Ran, ran, run-next, run-from, run}
 use Rattle.rules.specs.Service.{in-front}
 use Rattle.laws.specs.Tests.{cond-true, cond-false}
-use Rattle.promises.specs.Good.{Good}
-use Rattle.promises.specs.Invariant.{Reached}
-use Rattle.promises.specs.Lowest.{lowest-some}
-use Rattle.promises.specs.Counting.{able-room}
+use Rattle.invariant.specs.sheet.Valid.{Good}
+use Rattle.invariant.specs.Invariant.{Reached}
+use Rattle.invariant.specs.step.LowestAble.{lowest-some}
+use Rattle.invariant.specs.preserve.StepCount.{able-room}
 use Rattle.state.specs.declared.Tally.{Tally}
 use Rattle.engine.specs.Stands.{Stands, Standing, Able-there}
 

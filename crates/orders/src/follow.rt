@@ -5,7 +5,7 @@ ghost use lib.ListN.{length};
 ghost use Rattle.rules.specs.Limits.{scratch-size};
 ghost use Rattle.rules.specs.Sheet.{sheet-in, inbox-total};
 ghost use Rattle.laws.specs.Laid.{Laid};
-ghost use Rattle.promises.specs.Good.{Good};
+ghost use Rattle.invariant.specs.sheet.Valid.{Good};
 ghost use Rattle.orders.specs.Follows.{Follows};
 use engine::able;
 use engine::setup;

@@ -6,7 +6,7 @@ ghost use Rattle.rules.specs.Limits.{scratch-size, order-room};
 ghost use Rattle.rules.specs.Sheet.{sheet-in, N-of, inbox-total};
 ghost use Rattle.rules.specs.Job.{Job};
 ghost use Rattle.laws.specs.Laid.{Laid};
-ghost use Rattle.promises.specs.Good.{Good};
+ghost use Rattle.invariant.specs.sheet.Valid.{Good};
 ghost use Rattle.engine.specs.Stands.{Stands, Standing};
 ghost use Rattle.orders.specs.Runs.{Lowest, Runs};
 use engine::able;

@@ -5,56 +5,56 @@
 --   of the services      follows-alike, run-alike (Ended); follow-swaps (Swapped)
 -- Assumes nothing.
 use Rattle.promises.specs.Statements.{None-fit, No-overtaking, No-overtaking-receives, Statuses, Deliveries, Verdicts, In-use, Peaks, Run-ends, Ends-alike, Swap-same, Swap-general, Follows-alike, Run-alike, Follow-swaps}
-use Rattle.promises.specs.Matched
-use Rattle.promises.specs.Kept
-use Rattle.promises.specs.Ended
-use Rattle.promises.specs.Swapped
+use Rattle.promises.specs.claims.Matching
+use Rattle.promises.specs.claims.OneJob
+use Rattle.promises.specs.claims.EndsAlike
+use Rattle.promises.specs.claims.SwapSame
 
 -- DEMAND 2
 pub none-fit : None-fit
-none-fit = Matched.none-fit
+none-fit = Matching.none-fit
 
 pub no-overtaking : No-overtaking
-no-overtaking = Matched.no-overtaking
+no-overtaking = Matching.no-overtaking
 
 pub no-overtaking-receives : No-overtaking-receives
-no-overtaking-receives = Matched.no-overtaking-receives
+no-overtaking-receives = Matching.no-overtaking-receives
 
 pub statuses : Statuses
-statuses = Matched.statuses
+statuses = Matching.statuses
 
 pub deliveries : Deliveries
-deliveries = Kept.deliveries
+deliveries = OneJob.deliveries
 
 pub verdicts : Verdicts
-verdicts = Kept.verdicts
+verdicts = OneJob.verdicts
 
 pub in-use : In-use
-in-use = Kept.in-use
+in-use = OneJob.in-use
 
 pub peaks : Peaks
-peaks = Kept.peaks
+peaks = OneJob.peaks
 
 -- RUN
 pub run-ends : Run-ends
-run-ends = Ended.run-ends
+run-ends = EndsAlike.run-ends
 
 -- DEMAND 3
 pub ends-alike : Ends-alike
-ends-alike = Ended.ends-alike
+ends-alike = EndsAlike.ends-alike
 
 pub swap-same : Swap-same
-swap-same = Swapped.swap-same
+swap-same = SwapSame.swap-same
 
 pub swap-general : Swap-general
-swap-general = Swapped.swap-general
+swap-general = SwapSame.swap-general
 
 -- DEMAND 3 OF THE SERVICES
 pub follows-alike : Follows-alike
-follows-alike = Ended.calls-follow-alike
+follows-alike = EndsAlike.calls-follow-alike
 
 pub run-alike : Run-alike
-run-alike = Ended.calls-run-alike
+run-alike = EndsAlike.calls-run-alike
 
 pub follow-swaps : Follow-swaps
-follow-swaps = Swapped.calls-swap
+follow-swaps = SwapSame.calls-swap

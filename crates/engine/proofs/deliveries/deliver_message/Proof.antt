@@ -10,7 +10,7 @@ use Rattle.rules.specs.Limits.{ops-at}
 use Rattle.rules.specs.Sheet.{Op, sheet-in, op, op-in, inbox-total, P-in, N-of}
 use Rattle.rules.specs.Step.{area-start}
 use Rattle.laws.specs.Decoded.{op-by, op-within}
-use Rattle.promises.specs.Extents.{send-inside, receive-inside}
+use Rattle.invariant.specs.sheet.Extents.{send-inside, receive-inside}
 use Rattle.engine.specs.Deliveries.{message-end, area-end, delivered-cut, delivered-part}
 use borrow.Author.Needs.{needs}
 use Rattle.engine.proofs.deliveries.deliver_message.Statement.{statement}

@@ -1,0 +1,186 @@
+-- The invariant of reachable jobs. A job is determined by where its boards stand: the matching that it holds is stable (no
+-- fitting pair is pending, and each match took the earliest on both sides), a stable matching over given entered operations
+-- is unique, and rows, memory and buffer use follow from it. `Reached` collects what every job that an order leads to keeps;
+-- each field says who needs it.
+--   Met        a message and a receive that are matched with each other
+--   Stable     the matching is stable
+--   Arrived    in which order the entered sends came
+--   Placed     which operations are entered and complete, by where the boards stand
+--   Shaped     a row is determined by its state and partner
+--   Reached    all of it, and the waiting lists, charges, memory and steps
+--   Extended   the invariant after a step, and what the step did to the order of arrival
+-- Assumes nothing: these are definitions.
+use mathlib.Core.Path.{_≡_}
+use mathlib.Core.Logic.{_⊎_, _≢_}
+use mathlib.Core.Bool.{true, false, _&&_, _||_, cond}
+use mathlib.Core.List.{List}
+use mathlib.Core.Option.{some}
+use Prim.Native.Nat.{ℕ, zero, suc, _+_, _≤_, _<_}
+use lib.Dec.{eqb, ltb}
+use lib.ListN.{length}
+use Rattle.rules.specs.Limits.{absent}
+use Rattle.rules.specs.Sheet.{Sheet, Op, op, board, P-of, N-of, rank-of, is-send, is-receive, is-wait, is-buffered, is-nonblocking}
+use Rattle.rules.specs.Job.{Job, Entry, Stop, entry, bare-entry, entry-at, place-at}
+use Rattle.rules.specs.Step.{next-op, half-complete, fits-with, is-cut, charge-of, delivered, is-none}
+use Rattle.laws.specs.Sums.{sum-below}
+use Rattle.laws.specs.WaitingLists.{Holds}
+
+abbrev pub state-at : Job → (j : ℕ) → ℕ
+state-at x j = entry-at x j .state
+
+abbrev pub partner-at : Job → (j : ℕ) → ℕ
+partner-at x j = entry-at x j .partner
+
+-- an operation is entered by its initiating step, a wait by its only one
+abbrev pub Entered : Job → (j : ℕ) → Type 0
+Entered x j = 1 ≤ state-at x j
+
+-- a send or receive that is entered and not matched
+pub record Pending-message (s : Sheet) (x : Job) (m : ℕ) : Type 0 where
+  pub sends : is-send (op s m) ≡ true
+  pub entered : Entered x m
+  pub unmatched : state-at x m ≢ 3
+
+pub record Pending-receive (s : Sheet) (x : Job) (r : ℕ) : Type 0 where
+  pub receives : is-receive (op s r) ≡ true
+  pub entered : Entered x r
+  pub unmatched : state-at x r ≢ 3
+
+-- message m and receive r are matched with each other
+pub record Met (s : Sheet) (x : Job) (m r : ℕ) : Type 0 where
+  pub sends : is-send (op s m) ≡ true
+  pub receives : is-receive (op s r) ≡ true
+  pub fit : fits-with s m r ≡ true
+  pub message-matched : state-at x m ≡ 3
+  pub receive-matched : state-at x r ≡ 3
+  pub to-receive : partner-at x m ≡ r
+  pub to-message : partner-at x r ≡ m
+
+-- STABLE, where `came` gives the order in which the sends were entered
+pub record Stable (s : Sheet) (came : ℕ → ℕ) (x : Job) : Type 0 where
+  -- matched operations come in pairs (everyone)
+  pub message-met : (m : ℕ) → is-send (op s m) ≡ true → state-at x m ≡ 3 → Met s x m (partner-at x m)
+  pub receive-met : (r : ℕ) → is-receive (op s r) ≡ true → state-at x r ≡ 3 → Met s x (partner-at x r) r
+  -- no pending message fits a pending receive (None-fit)
+  pub none-fit : (m r : ℕ) → Pending-message s x m → Pending-receive s x r → fits-with s m r ≡ true → ⊥
+  -- a receive took the earliest message: one that came before and fits was taken by an earlier receive (No-overtaking)
+  pub first-sent : (m r k : ℕ) → Met s x m r → is-send (op s k) ≡ true → Entered x k → came k < came m →
+      fits-with s k r ≡ true → (state-at x k ≡ 3) × (partner-at x k < r)
+  -- a message went to the earliest receive: an earlier one of that board that it fits is matched (its other half)
+  pub first-posted : (m r q : ℕ) → Met s x m r → is-receive (op s q) ≡ true → q < r → fits-with s m q ≡ true → state-at x q ≡ 3
+
+-- ARRIVED: `came` numbers the entered sends by the step that entered them, so that each sender's are in script order
+pub record Arrived (s : Sheet) (came : ℕ → ℕ) (x : Job) : Type 0 where
+  pub past : (m : ℕ) → Entered x m → came m < x .steps
+  pub apart : (k m : ℕ) → is-send (op s k) ≡ true → is-send (op s m) ≡ true → Entered x k → Entered x m → came k ≡ came m → k ≡ m
+  pub in-script : (k m : ℕ) → is-send (op s k) ≡ true → is-send (op s m) ≡ true → Entered x k → Entered x m →
+      rank-of s k ≡ rank-of s m →
+      k < m → came k < came m
+
+-- PLACED: a board has entered its operations up to here
+unfoldable pub reach : Sheet → Job → (r : ℕ) → ℕ
+reach s x r = next-op s x r + cond (place-at x r .waiting) 1 0
+
+pub record Placed (s : Sheet) (x : Job) : Type 0 where
+  -- lengths (the report; the engine's tables)
+  pub entries-long : length (x .entries) ≡ N-of s
+  pub places-long : length (x .places) ≡ P-of s
+  -- finished is at most the count (the engine: it fits two bytes)
+  pub finished-most : (r : ℕ) → r < P-of s → place-at x r .finished ≤ board s r .count
+  -- only a blocking operation has a waiting half after its initiating step (step-behind)
+  pub waiting-unfinished : (r : ℕ) → r < P-of s → place-at x r .waiting ≡ true → place-at x r .finished < board s r .count
+  pub waiting-blocking : (r : ℕ) → r < P-of s → place-at x r .waiting ≡ true → is-nonblocking (op s (next-op s x r)) ≡ false
+  pub waiting-no-wait : (r : ℕ) → r < P-of s → place-at x r .waiting ≡ true → is-wait (op s (next-op s x r)) ≡ false
+  -- an operation is entered exactly when it lies before its board's reach (determinacy)
+  pub entered-if : (j : ℕ) → j < N-of s → j < reach s x (rank-of s j) → Entered x j
+  pub entered-only : (j : ℕ) → Entered x j → (j < N-of s) × (j < reach s x (rank-of s j))
+  -- a finished operation that is a wait or blocking had what it waited for complete (disjoint areas)
+  pub passed-complete : (j : ℕ) → j < N-of s → j < next-op s x (rank-of s j) → is-nonblocking (op s j) ≡ false →
+      half-complete s x j ≡ true
+
+-- SHAPED: a row by its state and partner
+unfoldable pub row-of : Sheet → (j state partner : ℕ) → Entry
+row-of s j v p =
+    cond (eqb v 3)
+    (cond (is-receive (op s j)) (entry 3 (cond (is-cut s p j) 1 0) p (rank-of s p) (op s p .tag) (op s p .long))
+    (entry 3 0 p absent absent 0))
+    (bare-entry v)
+
+-- the state of an entered operation that is not matched
+unfoldable pub unmatched-state : Op → ℕ
+unmatched-state o = cond (is-wait o) 5 (cond (is-buffered o) 2 1)
+
+pub record Shaped (s : Sheet) (x : Job) : Type 0 where
+  -- (the report's rows; whole or cut)
+  pub row : (j : ℕ) → entry-at x j ≡ row-of s j (state-at x j) (partner-at x j)
+  -- (determinacy, still-able)
+  pub unmatched : (j : ℕ) → Entered x j → state-at x j ≢ 3 → state-at x j ≡ unmatched-state (op s j)
+  pub wait-unmatched : (j : ℕ) → is-wait (op s j) ≡ true → state-at x j ≢ 3
+
+-- CHARGED: what operation j has in the attached buffer of board r
+unfoldable pub charge-in : Sheet → Job → (r j : ℕ) → ℕ
+charge-in s x r j = cond (eqb (rank-of s j) r && eqb (state-at x j) 2) (charge-of (op s j)) 0
+
+-- PAINTED: inboxes with every matched receive among the first n operations delivered, in script order
+unfoldable pub paint : Sheet → Job → (j : ℕ) → List ℕ → List ℕ
+paint s x j bs = cond (is-receive (op s j) && eqb (state-at x j) 3) (delivered s (partner-at x j) j bs) bs
+
+unfoldable pub painted : Sheet → Job → (n : ℕ) → List ℕ → List ℕ
+painted s x zero bs = bs
+painted s x (suc j) bs = paint s x j (painted s x j bs)
+
+-- STEPS that operation j has taken: a blocking send or receive has two, a wait and a nonblocking operation one
+unfoldable pub steps-of : Op → ℕ
+steps-of o = cond (is-nonblocking o || is-wait o) 1 2
+
+unfoldable pub steps-done : Sheet → Job → (j : ℕ) → ℕ
+steps-done s x j =
+    cond (ltb j (next-op s x (rank-of s j))) (steps-of (op s j)) (cond (ltb j (reach s x (rank-of s j))) 1 0)
+
+-- a job stops for one of two reasons, at an operation that isn't entered
+pub record Stopped (s : Sheet) (x : Job) (t : Stop) : Type 0 where
+  pub reason : (t .verdict ≡ 3) ⊎ (t .verdict ≡ 4)
+  pub rank-small : t .rank < P-of s
+  pub op-small : t .at-op < N-of s
+  pub not-entered : state-at x (t .at-op) ≡ 0
+
+-- order of the posted receives of one board
+abbrev pub Posted-before : Sheet → (a b : ℕ) → Type 0
+Posted-before s a b = rank-of s a ≡ rank-of s b → a < b
+
+abbrev pub Came-before : (came : ℕ → ℕ) → (a b : ℕ) → Type 0
+Came-before came a b = came a < came b
+
+-- `i` is the lent inboxes
+pub record Reached (s : Sheet) (i : List ℕ) (x : Job) : Type 0 where
+  -- the step at which each send was entered: known to the proofs only
+  pub came : ℕ → ℕ
+  pub stable : Stable s came x
+  pub arrived : Arrived s came x
+  pub placed : Placed s x
+  pub shaped : Shaped s x
+  -- the waiting lists hold exactly what is pending: messages by arrival, each board's receives in script order (steps)
+  pub messages-held : Holds (Came-before came) (Pending-message s x) (x .messages)
+  pub receives-held : Holds (Posted-before s) (Pending-receive s x) (x .receives)
+  -- in use is the sum of the pending charges, and at most the peak (In-use, Peaks, calm sheets never stop)
+  pub in-use-sum : (r : ℕ) → r < P-of s → place-at x r .in-use ≡ sum-below (N-of s) (charge-in s x r)
+  pub in-use-peak : (r : ℕ) → place-at x r .in-use ≤ place-at x r .peak
+  -- no board has ever more in use than its attached buffer holds (the engine: they fit two bytes)
+  pub peak-attached : (r : ℕ) → r < P-of s → place-at x r .peak ≤ board s r .attached
+  -- memory holds the deliveries in script order: time is gone from it (alike, whole or cut)
+  pub memory-painted : x .memory ≡ painted s x (N-of s) i
+  pub memory-long : length (x .memory) ≡ length i
+  -- steps taken, a stopping one included (Ends-alike; Run-ends: it is at most 2N)
+  pub steps-sum : x .steps ≡ sum-below (N-of s) (steps-done s x) + cond (is-none (x .stop)) 0 1
+  -- (Verdicts; the engine: rank and operation fit their bytes)
+  pub stop-at : (t : Stop) → x .stop ≡ some t → Stopped s x t
+
+-- A STEP
+-- the invariant of a job after a step of operation i, and what the step did to the order of arrival: what was entered came when
+-- it came, and i came last where it entered
+pub record Extended {s : Sheet} {lent : List ℕ} {x : Job} (R : Reached s lent x) (y : Job) (i : ℕ) : Type 0 where
+  pub reached : Reached s lent y
+  pub on : (j : ℕ) → Entered x j → Entered y j
+  pub back : (j : ℕ) → j ≢ i → Entered y j → Entered x j
+  pub old : (j : ℕ) → Entered x j → reached .came j ≡ R .came j
+  pub new : Entered y i → (Entered x i → ⊥) → (j : ℕ) → Entered x j → reached .came j < reached .came i

@@ -1,0 +1,146 @@
+-- A new match took the earliest on both sides: the search found the earliest on one side, and stability of what was before
+-- gives the other. One law where a receive enters and one where a message does. Assumes nothing.
+use mathlib.Core.Path.{_≡_, sym, ap, _∙_}
+use mathlib.Core.Logic.{_≢_}
+use mathlib.Core.Bool.{true}
+use Prim.Native.Nat.{ℕ, _≤_, _<_}
+use native.Mathlib.Omega.{arith}
+use native.Mathlib.Decide.{ℕ-discrete, decLt}
+use Rattle.rules.specs.Sheet.{Sheet, op, rank-of, is-send, is-receive}
+use Rattle.rules.specs.Job.{Job}
+use Rattle.rules.specs.Step.{next-op, fits-with}
+use Rattle.invariant.specs.sheet.Kinds.{fit-one-board, send-receive-differ}
+use Rattle.laws.specs.WaitingLists.{Holds, Found}
+use Rattle.invariant.specs.Invariant.{Entered, state-at, partner-at, reach, Pending-message, Pending-receive, Met, Stable, Placed, Posted-before, Came-before}
+use Rattle.invariant.specs.matching.RowChanges.{Grows, Matches, state-same, partner-same, state-name, matches-grows}
+use Rattle.invariant.specs.matching.Stable.{Later, First}
+use Rattle.invariant.specs.preserve.Places.{prefix}
+use Rattle.invariant.specs.step.Places.{Next}
+
+reach-least : (s : Sheet) (x : Job) (r : ℕ) → next-op s x r ≤ reach s x r
+unfolding reach
+reach-least s x r = omega arith
+
+module _ {s : Sheet} {x y : Job} {m q i : ℕ} {came now : ℕ → ℕ} (X : Stable s came x) (p : Placed s x) (L : Later came now x i)
+    (M : Matches s x y m q i) where
+  abbrev G : Grows x y i
+  G = matches-grows M
+
+  -- what is not matched in x is pending there
+  pending-message : (k : ℕ) → is-send (op s k) ≡ true → Entered x k → state-at x k ≢ 3 → Pending-message s x k
+  pending-message k a b c =
+      record {
+        sends = a;
+        entered = b;
+        unmatched = c;
+      }
+
+  pending-receive : (k : ℕ) → is-receive (op s k) ≡ true → Entered x k → state-at x k ≢ 3 → Pending-receive s x k
+  pending-receive k a b c =
+      record {
+        receives = a;
+        entered = b;
+        unmatched = c;
+      }
+
+  -- a message that was matched in x with an earlier receive still is
+  matched-on : (k : ℕ) → (state-at x k ≡ 3) × (partner-at x k < q) → (state-at y k ≡ 3) × (partner-at y k < q)
+  matched-on k h = let same = G .kept k (h .0) in (state-same same ∙ h .0, omega (arith, h .1, partner-same same))
+
+  -- messages that came before m are entered in x
+  before : (k : ℕ) → Entered y k → now k < now m → m ≢ i → (k ≢ i) × (came k < came m)
+  before k there l d =
+      let k-old : k ≢ i = λ e. omega (arith, L .new m (M .message-there d), ap now e) in
+      (k-old, omega (arith, L .old k k-old, L .old m d))
+
+  -- THE RECEIVE ENTERS, and m is the earliest message that fits it
+  pub first-for-receive : q ≡ i → (r : ℕ) → Next s x r → i ≡ next-op s x r →
+      Holds (Came-before came) (Pending-message s x) (x .messages) →
+      Found (Came-before came) (λ k. fits-with s k i) (x .messages) m → First s now y m q
+  first-for-receive new r n mine H F =
+      record {
+        sent = λ k a there l f. matched-on k (sent k a there l f (ℕ-discrete (state-at x k) 3));
+        posted = λ o a l f. posted o a l f (ℕ-discrete (state-at x o) 3);
+      }
+    where
+      m-old : m ≢ i
+      m-old e = send-receive-differ s m q (M .sends) (M .receives) (e ∙ sym new)
+
+      fits-new : (k : ℕ) → fits-with s k q ≡ true → fits-with s k i ≡ true
+      fits-new k f = ap (λ (z : ℕ). fits-with s k z) (sym new) ∙ f
+
+      -- a receive of q's board that is entered comes before q
+      earlier : (o : ℕ) → Entered x o → rank-of s o ≡ rank-of s q → Dec (o < q) → Dec (q < o) → o < q
+      earlier o a e (yes l) _ = l
+      earlier o a e (no l) (yes k) = absurd (omega (arith, M .fresh, state-name x new, prefix s x p q o a k (sym e)))
+      earlier o a e (no l) (no k) = absurd (let c : o ≡ q =
+          omega arith in omega (arith, M .fresh, state-name x new, state-name x c))
+
+      sent : (k : ℕ) → is-send (op s k) ≡ true → Entered y k → now k < now m → fits-with s k q ≡ true → Dec (state-at x k ≡ 3) →
+          (state-at x k ≡ 3) × (partner-at x k < q)
+      sent k a there l f (yes e) =
+          let met = X .message-met k a e in (
+            e,
+            earlier (partner-at x k) (omega (arith, met .receive-matched)) (fit-one-board s k (partner-at x k) q (met .fit) f)
+                (decLt (partner-at x k) q) (decLt q (partner-at x k)),
+          )
+      sent k a there l f (no d) =
+          let b = before k there l m-old in
+          absurd
+          (let late = F .earliest k (H .whole k (pending-message k a (G .back k (b .0) there) d)) (fits-new k f)
+          (λ e. omega (arith, b .1, ap came e)) in
+          omega (arith, late, b .1))
+
+      posted : (o : ℕ) → is-receive (op s o) ≡ true → o < q → fits-with s m o ≡ true → Dec (state-at x o ≡ 3) → state-at y o ≡ 3
+      posted o a l f (yes e) = state-same (G .kept o e) ∙ e
+      posted o a l f (no d) =
+          let mine-too : rank-of s o ≡ r = fit-one-board s m o q f (M .fit) ∙ ap (λ (z : ℕ). rank-of s z) (new ∙ mine)
+          ∙ n .ranked in
+          let there : Entered x o = p .entered-if o (omega (arith, n .inside))
+          (omega (arith, ap (λ (z : ℕ). reach s x z) mine-too, reached)) in
+          absurd (X .none-fit m o (pending-message m (M .sends) (M .message-there m-old) (M .message-free))
+          (pending-receive o a there d) f)
+        where
+          reached : next-op s x r ≤ reach s x r
+          reached = reach-least s x r
+
+  -- THE MESSAGE ENTERS, and q is the earliest posted receive that fits it
+  pub first-for-message : m ≡ i → Holds (Posted-before s) (Pending-receive s x) (x .receives) →
+      Found (Posted-before s) (λ k. fits-with s i k) (x .receives) q → First s now y m q
+  first-for-message new H F =
+      record {
+        sent = λ k a there l f. matched-on k (sent k a there l f (ℕ-discrete (state-at x k) 3));
+        posted = λ o a l f. posted o a l f (ℕ-discrete (state-at x o) 3);
+      }
+    where
+      q-old : q ≢ i
+      q-old e = send-receive-differ s m q (M .sends) (M .receives) (new ∙ sym e)
+
+      q-pending : Pending-receive s x q
+      q-pending = pending-receive q (M .receives) (M .receive-there q-old) (M .receive-free)
+
+      sent : (k : ℕ) → is-send (op s k) ≡ true → Entered y k → now k < now m → fits-with s k q ≡ true → Dec (state-at x k ≡ 3) →
+          (state-at x k ≡ 3) × (partner-at x k < q)
+      sent k a there l f (no d) =
+          let k-old : k ≢ i = λ e. omega (arith, ap now (e ∙ sym new)) in
+          absurd (X .none-fit k q (pending-message k a (G .back k k-old there) d) q-pending f)
+      sent k a there l f (yes e) = (e, least (decLt (partner-at x k) q) (decLt q (partner-at x k)))
+        where
+          met : Met s x k (partner-at x k)
+          met = X .message-met k a e
+
+          least : Dec (partner-at x k < q) → Dec (q < partner-at x k) → partner-at x k < q
+          least (yes c) _ = c
+          least (no c) (yes h) = absurd (M .receive-free (X .first-posted k (partner-at x k) q met (M .receives) h f))
+          least (no c) (no h) = absurd (let w : partner-at x k ≡ q =
+              omega arith in M .receive-free (state-name x (sym w) ∙ met .receive-matched))
+
+      posted : (o : ℕ) → is-receive (op s o) ≡ true → o < q → fits-with s m o ≡ true → Dec (state-at x o ≡ 3) → state-at y o ≡ 3
+      posted o a l f (yes e) = state-same (G .kept o e) ∙ e
+      posted o a l f (no d) =
+          let same : rank-of s o ≡ rank-of s q = fit-one-board s m o q f (M .fit) in
+          let there : Entered x o = prefix s x p o q (M .receive-there q-old) l same in
+          absurd
+          (let late = F .earliest o (H .whole o (pending-receive o a there d)) (ap (λ (z : ℕ). fits-with s z o) (sym new) ∙ f)
+          (λ e. omega arith) (sym same) in
+          omega arith)

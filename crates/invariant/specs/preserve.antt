@@ -1,0 +1,25 @@
+-- An able step keeps each part of the invariant.
+--   Places          places of boards, and which operations are entered
+--   StepCount       steps taken
+--   ArrivalOrder    the order of arrival
+--   Rows            the rows of operations
+--   WaitingLists    pending messages and posted receives
+--   Charges         bytes in use
+--   Memory          the inboxes
+--   SameRows        jobs with the same rows
+--   NextPart        which part of an operation comes next
+--   Stop            a stopping step
+--   Step            an able step keeps the whole invariant
+--   Orders          the start has it, and an order keeps it
+pub mod Places
+pub mod StepCount
+pub mod ArrivalOrder
+pub mod Rows
+pub mod WaitingLists
+pub mod Charges
+pub mod Memory
+pub mod SameRows
+pub mod NextPart
+pub mod Stop
+pub mod Step
+pub mod Orders

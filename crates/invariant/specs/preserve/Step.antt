@@ -1,0 +1,321 @@
+-- An able step keeps the whole invariant.
+--   Parts           what is to be shown of a step that goes on; extended-turn: the rest follows from where the boards stand
+--   step-sound      the law
+-- Assumes nothing.
+use mathlib.Core.Path.{_≡_, refl, sym, ap, subst, _∙_}
+use mathlib.Core.Logic.{_⊎_, inl, inr, _≢_}
+use mathlib.Core.Bool.{Bool, true, false, _&&_, cond}
+use mathlib.Core.List.{List}
+use mathlib.Core.Option.{Option, none}
+use Prim.Native.Nat.{ℕ, suc, _+_, _-_, _≤_, _<_}
+use native.Mathlib.Omega.{arith}
+use native.Mathlib.Decide.{ℕ-discrete}
+use lib.Dec.{eqb}
+use lib.ListN.{length}
+use borrow.Author.Tests.{eqb-true, leb-true}
+use Rattle.rules.specs.Sheet.{Sheet, op, board, P-of, N-of, rank-of, inbox-total, is-send, is-receive, is-wait, is-buffered, is-nonblocking}
+use Rattle.rules.specs.Job.{Job, Stop, place-at}
+use Rattle.rules.specs.Step.{able, step, next-op, first-message, first-receive, fits-with, delivered, is-none, fits-buffer, charge-of}
+use Rattle.laws.specs.Tests.{not-so, true-not-false}
+use Rattle.invariant.specs.sheet.Valid.{Good}
+use Rattle.invariant.specs.deliveries.Assumed.{Ground}
+use Rattle.invariant.specs.sheet.Kinds.{send-no-wait, receive-no-wait, receive-no-send, send-no-receive}
+use Rattle.laws.specs.Sums.{sum-below, sum-same}
+use Rattle.laws.specs.WaitingLists.{Holds, first-by-none, first-by-some}
+use Rattle.invariant.specs.Invariant.{Entered, state-at, unmatched-state, steps-done, charge-in, painted, Pending-message, Pending-receive, Stable, Arrived, Placed, Shaped, Posted-before, Came-before, Reached, Extended}
+use Rattle.invariant.specs.matching.RowChanges.{Grows, Enters, Matches, state-same, state-name, enters-grows, matches-grows}
+use Rattle.invariant.specs.matching.Stable.{Later, First, enter-stable, match-stable}
+use Rattle.invariant.specs.step.Places.{Next, moved-peak, able-next}
+use Rattle.invariant.specs.step.BufferUse.{Use, use-kept, use-charged, use-released}
+use Rattle.invariant.specs.step.Cases.{Ends-half, Ends-wait, Posts, Pends, Meets, Finds, Outcome, ends-half, ends-wait, posts, pends, meets, stops}
+use Rattle.invariant.specs.step.CasesHold.{outcome}
+use Rattle.invariant.specs.preserve.Places.{Turn, placed-step}
+use Rattle.invariant.specs.preserve.StepCount.{steps-step}
+use Rattle.invariant.specs.preserve.ArrivalOrder.{came-with, came-other, arrives-later, arrived-step}
+use Rattle.invariant.specs.preserve.Rows.{shaped-same, shaped-enters, shaped-matches}
+use Rattle.invariant.specs.preserve.WaitingLists.{queue-message, queue-message-other, queue-receive, queue-receive-other, queue-message-match, queue-receive-match}
+use Rattle.invariant.specs.preserve.Charges.{charge-same, charging-other, charging-enters, charging-matches}
+use Rattle.invariant.specs.matching.UnmatchedState.{unmatched-receive, unmatched-wait}
+use Rattle.invariant.specs.preserve.Memory.{painted-length, painted-rows, painted-enters, painted-matches}
+use Rattle.invariant.specs.preserve.SameRows.{Same-rows, rows-same, stable-same, arrived-same, messages-same, receives-same}
+use Rattle.invariant.specs.matching.Earliest.{first-for-receive, first-for-message}
+use Rattle.invariant.specs.preserve.Stop.{stops-extended}
+use Rattle.invariant.specs.preserve.NextPart.{turn-initiating, turn-wait, turn-half}
+
+-- what is to be shown of a step that goes on and takes x to y, where `came` is the order of arrival in y
+record Parts {s : Sheet} {lent : List ℕ} {x : Job} (R : Reached s lent x) (y : Job) (i : ℕ) (came : ℕ → ℕ) : Type 0 where
+  old : (j : ℕ) → Entered x j → came j ≡ R .came j
+  new : Entered y i → (Entered x i → ⊥) → (j : ℕ) → Entered x j → came j < came i
+  stable : Stable s came y
+  arrived : Arrived s came y
+  shaped : Shaped s y
+  messages : Holds (Came-before came) (Pending-message s y) (y .messages)
+  receives : Holds (Posted-before s) (Pending-receive s y) (y .receives)
+  in-use-sum : (q : ℕ) → q < P-of s → place-at y q .in-use ≡ sum-below (N-of s) (charge-in s y q)
+  attached : (q : ℕ) → q < P-of s → place-at y q .in-use ≤ board s q .attached
+  memory : y .memory ≡ painted s y (N-of s) lent
+
+module _ {s : Sheet} (g : Good s) (A : Ground s) {lent : List ℕ} (room : inbox-total s ≤ length lent) {x : Job}
+    (R : Reached s lent x) where
+  extended-turn : {y : Job} {r : ℕ} {last : Bool} {came : ℕ → ℕ} → Turn s x y r last → Parts R y (next-op s x r) came →
+      Extended R y (next-op s x r)
+  extended-turn {y} {r} {last} {came} T parts =
+      record {
+        reached =
+            record {
+              came = came;
+              stable = parts .stable;
+              arrived = parts .arrived;
+              placed = placed;
+              shaped = parts .shaped;
+              messages-held = parts .messages;
+              receives-held = parts .receives;
+              in-use-sum = parts .in-use-sum;
+              in-use-peak = λ q. omega (arith, moved-peak (T .moved) q);
+              peak-attached = λ q l. omega (arith, moved-peak (T .moved) q, parts .attached q l, R .peak-attached q l);
+              memory-painted = parts .memory;
+              memory-long =
+                  ap (λ (z : List ℕ). length z) (parts .memory)
+                  ∙ painted-length g A (parts .stable) placed (parts .shaped) (N-of s) lent room;
+              steps-sum =
+                  T .moved .steps-more ∙ ap suc (R .steps-sum)
+                  ∙ ap (λ (o : Option Stop). suc (sum-below (N-of s) (steps-done s x) + cond (is-none o) 0 1)) (T .next .going)
+                  ∙ omega (arith, steps-step g (R .placed) T, ap {B = ℕ} (λ (o : Option Stop). cond (is-none o) 0 1) going);
+              stop-at = λ t e. absurd (let z : _≡_ {A = ℕ} 0 1 = cc in omega arith);
+            };
+        on = T .advances .on;
+        back = T .advances .back;
+        old = parts .old;
+        new = parts .new;
+      }
+    where
+      placed : Placed s y
+      placed = placed-step g (R .placed) T
+
+      going : y .stop ≡ none
+      going = T .moved .stop-same ∙ T .next .going
+
+  -- where no more is in use than was, the attached buffer covers it
+  attached-less : (y : Job) → ((q : ℕ) → place-at y q .in-use ≤ place-at x q .in-use) → (q : ℕ) → q < P-of s →
+      place-at y q .in-use ≤ board s q .attached
+  attached-less y less q l = omega (arith, less q, R .in-use-peak q, R .peak-attached q l)
+
+  module _ (y : Job) (r : ℕ) (n : Next s x r) where
+    abbrev i : ℕ
+    i = next-op s x r
+
+    abbrev now : ℕ → ℕ
+    now = came-with (R .came) i (x .steps)
+
+    came-old : Grows x y i → (j : ℕ) → Entered x j → now j ≡ R .came j
+    came-old G j h = came-other (R .came) i (x .steps) j (λ e. omega (arith, G .fresh, state-name x e))
+
+    messages-are : {came : ℕ → ℕ} {l : List ℕ} → y .messages ≡ l → Holds (Came-before came) (Pending-message s y) l →
+        Holds (Came-before came) (Pending-message s y) (y .messages)
+    messages-are {came} e h = subst (λ (l : List ℕ). Holds (Came-before came) (Pending-message s y) l) (sym e) h
+
+    receives-are : {l : List ℕ} → y .receives ≡ l → Holds (Posted-before s) (Pending-receive s y) l →
+        Holds (Posted-before s) (Pending-receive s y) (y .receives)
+    receives-are e h = subst (λ (l : List ℕ). Holds (Posted-before s) (Pending-receive s y) l) (sym e) h
+
+    -- A WAITING HALF ended: nothing entered
+    sound-half : Ends-half s x y r i → Extended R y i
+    sound-half h =
+        extended-turn T
+        (record {
+          old = λ j e. refl;
+          new = λ now-in out j e. absurd (out (omega (arith, state-same (same i))));
+          stable = stable-same same (R .stable);
+          arrived = arrived-same same (omega (arith, h .moved .steps-more)) (R .arrived);
+          shaped = shaped-same y (R .shaped) (h .entries);
+          messages = messages-are (h .messages) (messages-same same (R .messages-held));
+          receives = receives-are (h .receives) (receives-same same (R .receives-held));
+          in-use-sum =
+              λ q l.
+              h .uses q ∙ R .in-use-sum q l
+              ∙ sum-same (N-of s) (charge-in s x q) (charge-in s y q) (λ j k. charge-same s x y q j (state-same (same j)));
+          attached = attached-less y (λ q. omega (arith, h .uses q));
+          memory = h .memory ∙ R .memory-painted ∙ sym (painted-rows s x y (N-of s) lent same);
+        })
+      where
+        same : Same-rows x y
+        same = rows-same x y (h .entries)
+
+        T : Turn s x y r true
+        T = turn-half (R .placed) n (h .moved) same (h .waiting)
+
+    -- AN OPERATION ENTERED unmatched: what kind of operation it is decides the waiting lists and the charge
+    module _ {v : ℕ} {last : Bool} (T : Turn s x y r last) (E : Enters x y i v) (memory : y .memory ≡ x .memory) where
+      later : Later (R .came) now x i
+      later = arrives-later (R .arrived) (enters-grows E)
+
+      sound-enters : v ≡ unmatched-state (op s i) →
+          (is-send (op s i) ≡ true → (q : ℕ) → Pending-receive s x q → fits-with s i q ≡ true → ⊥) →
+          (is-receive (op s i) ≡ true → (m : ℕ) → Pending-message s x m → fits-with s m i ≡ true → ⊥) →
+          Holds (Came-before now) (Pending-message s y) (y .messages) →
+          Holds (Posted-before s) (Pending-receive s y) (y .receives) →
+          ((q : ℕ) → q < P-of s → place-at y q .in-use ≡ sum-below (N-of s) (charge-in s y q)) →
+          ((q : ℕ) → q < P-of s → place-at y q .in-use ≤ board s q .attached) → Extended R y i
+      sound-enters state no-receive no-message messages receives uses attached =
+          extended-turn T
+          (record {
+            old = came-old (enters-grows E);
+            new = λ now-in out. later .new;
+            stable = enter-stable (R .stable) later E no-receive no-message;
+            arrived = arrived-step (R .arrived) (enters-grows E) (R .placed) (T .moved .steps-more);
+            shaped = shaped-enters (R .shaped) E state;
+            messages = messages;
+            receives = receives;
+            in-use-sum = uses;
+            attached = attached;
+            memory = memory ∙ R .memory-painted ∙ sym (painted-enters s (N-of s) lent E);
+          })
+
+      -- one that is not charged
+      uses-other : v ≢ 2 → Use x y use-kept → (q : ℕ) → q < P-of s → place-at y q .in-use ≡ sum-below (N-of s) (charge-in s y q)
+      uses-other d uses q l = uses q ∙ R .in-use-sum q l ∙ charging-other s E d q
+
+    sound-wait : Ends-wait s x y r i → Extended R y i
+    sound-wait h =
+        sound-enters T E (h .memory) (sym (unmatched-wait s i (h .waits))) (λ a. true-not-false a no-send)
+        (λ a. true-not-false a no-receive)
+        (messages-are (h .messages) (queue-message-other E (later T E (h .memory)) no-send (R .messages-held)))
+        (receives-are (h .receives) (queue-receive-other E no-receive (R .receives-held)))
+        (uses-other T E (h .memory) (omega arith) (h .uses)) (attached-less y (λ q. omega (arith, h .uses q)))
+      where
+        E : Enters x y i 5
+        E = h .enters
+
+        T : Turn s x y r true
+        T = turn-wait n (h .moved) (enters-grows E) (h .not-waiting) (h .waits)
+
+        no-send : is-send (op s i) ≡ false
+        no-send = not-so (is-send (op s i)) (λ a. true-not-false (h .waits) (send-no-wait (op s i) a))
+
+        no-receive : is-receive (op s i) ≡ false
+        no-receive = not-so (is-receive (op s i)) (λ a. true-not-false (h .waits) (receive-no-wait (op s i) a))
+
+    sound-posts : Posts s x y r i → Extended R y i
+    unfolding first-message
+    sound-posts h =
+        sound-enters T E (h .memory) (sym (unmatched-receive s i (h .is-one))) (λ a. true-not-false a no-send)
+        (λ a k p f. true-not-false f (first-by-none (λ k. fits-with s k i) (x .messages) (h .none-fits) k
+        (R .messages-held .whole k p)))
+        (messages-are (h .messages) (queue-message-other E (later T E (h .memory)) no-send (R .messages-held)))
+        (receives-are (h .receives) (queue-receive E (R .placed) (h .is-one) (R .receives-held)))
+        (uses-other T E (h .memory) (omega arith) (h .uses)) (attached-less y (λ q. omega (arith, h .uses q)))
+      where
+        E : Enters x y i 1
+        E = h .enters
+
+        T : Turn s x y r (is-nonblocking (op s i))
+        T = turn-initiating n (h .moved) (enters-grows E) (h .not-waiting) (receive-no-wait (op s i) (h .is-one))
+
+        no-send : is-send (op s i) ≡ false
+        no-send = receive-no-send (op s i) (h .is-one)
+
+    sound-pends : Pends s x y r i → Extended R y i
+    unfolding first-receive use-charged fits-buffer
+    sound-pends h =
+        sound-enters T E (h .memory) refl
+        (λ a q p f. true-not-false f (first-by-none (λ q. fits-with s i q) (x .receives) (h .none-fits) q
+        (R .receives-held .whole q p)))
+        (λ a. true-not-false a no-receive)
+        (messages-are (h .messages) (queue-message E (later T E (h .memory)) (h .is-one) (R .messages-held)))
+        (receives-are (h .receives) (queue-receive-other E no-receive (R .receives-held)))
+        (λ q l.
+        h .uses q
+        ∙ charging-enters s r q (place-at x q .in-use) E (n .inside) (n .ranked) (h .is-one) (R .in-use-sum q l))
+        (λ q l.
+        subst (λ (k : ℕ). k ≤ board s q .attached) (sym (h .uses q))
+        (attached q l (eqb q r) refl (is-buffered (op s i)) refl))
+      where
+        E : Enters x y i (unmatched-state (op s i))
+        E = h .enters
+
+        T : Turn s x y r (is-nonblocking (op s i))
+        T = turn-initiating n (h .moved) (enters-grows E) (h .not-waiting) (send-no-wait (op s i) (h .is-one))
+
+        no-receive : is-receive (op s i) ≡ false
+        no-receive = send-no-receive (op s i) (h .is-one)
+
+        -- the charge of this send had room
+        attached : (q : ℕ) → q < P-of s → (a : Bool) → eqb q r ≡ a → (b : Bool) → is-buffered (op s i) ≡ b →
+            cond (a && b) (place-at x q .in-use + charge-of (op s i)) (place-at x q .in-use) ≤ board s q .attached
+        attached q l true p true o =
+            subst (λ (z : ℕ). place-at x z .in-use + charge-of (op s i) ≤ board s z .attached) (sym (eqb-true q r p))
+            (leb-true (place-at x r .in-use + charge-of (op s i)) (board s r .attached) (h .room o))
+        attached q l true p false o = omega (arith, R .in-use-peak q, R .peak-attached q l)
+        attached q l false p b o = omega (arith, R .in-use-peak q, R .peak-attached q l)
+
+    -- A MESSAGE AND A RECEIVE were matched
+    sound-meets : (m q : ℕ) → Meets s x y r i m q → Extended R y i
+    unfolding first-message first-receive use-released
+    sound-meets m q h =
+        extended-turn (turn-initiating n (h .moved) G (h .not-waiting) (not-wait (M .one)))
+        (record {
+          old = came-old G;
+          new = λ now-in out. L .new;
+          stable = match-stable (R .stable) L M (first (h .finds));
+          arrived = arrived-step (R .arrived) G (R .placed) (h .moved .steps-more);
+          shaped = shaped-matches (R .shaped) M;
+          messages = messages-are (h .messages) (queue-message-match M L (R .messages-held));
+          receives = receives-are (h .receives) (queue-receive-match M (R .receives-held));
+          in-use-sum = λ o l. h .uses o ∙ charging-matches o (place-at x o .in-use) M (R .shaped) inside-m (R .in-use-sum o l);
+          attached =
+              attached-less y
+              (λ o.
+              released-less (eqb o (rank-of s m) && eqb (state-at x m) 2) (place-at x o .in-use) (charge-of (op s m))
+              (h .uses o));
+          memory =
+              h .memory ∙ ap (λ (z : List ℕ). delivered s m q z) (R .memory-painted)
+              ∙ sym (painted-matches g A (R .stable) (R .placed) (R .shaped) M inside-m inside-q (N-of s) lent inside-q room);
+        })
+      where
+        M : Matches s x y m q i
+        M = h .rows
+
+        G : Grows x y i
+        G = matches-grows M
+
+        L : Later (R .came) now x i
+        L = arrives-later (R .arrived) G
+
+        released-less : {k : ℕ} (b : Bool) (n c : ℕ) → k ≡ cond b (n - c) n → k ≤ n
+        released-less true n c e = omega (arith, e)
+        released-less false n c e = omega (arith, e)
+
+        not-wait : (i ≡ m) ⊎ (i ≡ q) → is-wait (op s i) ≡ false
+        not-wait (inl e) = ap (λ (z : ℕ). is-wait (op s z)) e ∙ send-no-wait (op s m) (M .sends)
+        not-wait (inr e) = ap (λ (z : ℕ). is-wait (op s z)) e ∙ receive-no-wait (op s q) (M .receives)
+
+        inside : (j : ℕ) → (j ≢ i → Entered x j) → Dec (j ≡ i) → j < N-of s
+        inside j there (yes e) = omega (arith, n .inside)
+        inside j there (no d) = R .placed .entered-only j (there d) .0
+
+        inside-m : m < N-of s
+        inside-m = inside m (M .message-there) (ℕ-discrete m i)
+
+        inside-q : q < N-of s
+        inside-q = inside q (M .receive-there) (ℕ-discrete q i)
+
+        first : Finds s x i m q → First s now y m q
+        first (inl e) =
+            first-for-receive (R .stable) (R .placed) L M (e .0) r n refl (R .messages-held)
+            (first-by-some (λ k. fits-with s k i) (x .messages) (R .messages-held .sorted) m (e .1))
+        first (inr e) =
+            first-for-message (R .stable) (R .placed) L M (e .0) (R .receives-held)
+            (first-by-some (λ k. fits-with s i k) (x .receives) (R .receives-held .sorted) q (e .1))
+
+  -- AN ABLE STEP keeps the invariant
+  sound : (y : Job) (r : ℕ) → Next s x r → Outcome s x y r (next-op s x r) → Extended R y (next-op s x r)
+  sound y r n (ends-half h) = sound-half y r n h
+  sound y r n (ends-wait h) = sound-wait y r n h
+  sound y r n (posts h) = sound-posts y r n h
+  sound y r n (pends h) = sound-pends y r n h
+  sound y r n (meets m q h) = sound-meets y r n m q h
+  sound y r n (stops v h) =
+      subst (λ (z : Job). Extended R z (next-op s x r)) (sym (h .is-told)) (stops-extended R v r n (h .reason) (h .not-waiting))
+
+  pub step-sound : (r : ℕ) → able s x r ≡ true → Extended R (step s r x) (next-op s x r)
+  step-sound r a = let n = able-next s g x r a in sound (step s r x) r n (outcome s g lent x R r n)

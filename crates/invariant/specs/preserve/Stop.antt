@@ -1,0 +1,89 @@
+-- A stopping step keeps the invariant: it changes nothing but the stop and the count of steps, and its operation isn't entered.
+-- Assumes nothing.
+use mathlib.Core.Path.{_≡_, refl, sym, ap, subst, _∙_}
+use mathlib.Core.Logic.{_⊎_}
+use mathlib.Core.Bool.{false, cond}
+use mathlib.Core.List.{List}
+use mathlib.Core.Option.{Option, some}
+use Prim.Native.Nat.{ℕ, suc, _+_}
+use native.Mathlib.Omega.{arith}
+use Rattle.rules.specs.Sheet.{Sheet, N-of}
+use Rattle.rules.specs.Job.{Job, Stop, job, place-at, entry-at, with-stop, with-steps}
+use Rattle.rules.specs.Step.{next-op, half-complete, complete, complete-if, stopped, is-none}
+use Rattle.laws.specs.Sums.{sum-below}
+use Rattle.invariant.specs.Invariant.{steps-done, charge-in, reach, Stopped, Reached, Extended}
+use Rattle.invariant.specs.step.Places.{Next, next-fresh}
+use Rattle.invariant.specs.preserve.Places.{half-complete-on}
+use Rattle.invariant.specs.preserve.Rows.{shaped-same}
+use Rattle.invariant.specs.preserve.Memory.{painted-rows}
+use Rattle.invariant.specs.preserve.SameRows.{Same-rows, stable-same, arrived-same, messages-same, receives-same}
+
+pub stops-extended : {s : Sheet} {lent : List ℕ} {x : Job} (R : Reached s lent x) (v r : ℕ) → Next s x r → (v ≡ 3) ⊎ (v ≡ 4) →
+    place-at x r .waiting ≡ false →
+    Extended R (with-steps (suc (x .steps)) (stopped v r (next-op s x r) x)) (next-op s x r)
+unfolding stopped with-stop with-steps job place-at entry-at next-op reach half-complete complete complete-if is-none charge-in
+    steps-done
+stops-extended {s} {lent} {x} R v r n reason w =
+    record {
+      reached =
+          record {
+            came = R .came;
+            stable = stable-same same (R .stable);
+            arrived = arrived-same same (omega arith) (R .arrived);
+            placed =
+                record {
+                  entries-long = R .placed .entries-long;
+                  places-long = R .placed .places-long;
+                  finished-most = R .placed .finished-most;
+                  waiting-unfinished = R .placed .waiting-unfinished;
+                  waiting-blocking = R .placed .waiting-blocking;
+                  waiting-no-wait = R .placed .waiting-no-wait;
+                  entered-if = R .placed .entered-if;
+                  entered-only = R .placed .entered-only;
+                  passed-complete = λ j l h b. half-complete-on s x y (λ k c. c) j (R .placed .passed-complete j l h b);
+                };
+            shaped = shaped-same y (R .shaped) refl;
+            messages-held = messages-same same (R .messages-held);
+            receives-held = receives-same same (R .receives-held);
+            in-use-sum = R .in-use-sum;
+            in-use-peak = R .in-use-peak;
+            peak-attached = R .peak-attached;
+            memory-painted = R .memory-painted ∙ sym (painted-rows s x y (N-of s) lent same);
+            memory-long = R .memory-long;
+            steps-sum =
+                ap suc (R .steps-sum)
+                ∙ ap (λ (o : Option Stop). suc (sum-below (N-of s) (steps-done s x) + cond (is-none o) 0 1)) (n .going)
+                ∙ omega arith;
+            stop-at = λ t e. at t e;
+          };
+      on = λ j h. h;
+      back = λ j d h. h;
+      old = λ j h. refl;
+      new = λ inn out j h. absurd (out inn);
+    }
+  where
+    y : Job
+    y = with-steps (suc (x .steps)) (stopped v r (next-op s x r) x)
+
+    same : Same-rows x y
+    same = λ j. refl
+
+    told : Stop
+    told =
+        record {
+          verdict = v;
+          rank = r;
+          at-op = next-op s x r;
+        }
+
+    known : Stopped s y told
+    known =
+        record {
+          reason = reason;
+          rank-small = n .rank-small;
+          op-small = n .inside;
+          not-entered = next-fresh s x r (R .placed) n w;
+        }
+
+    at : (t : Stop) → some told ≡ some t → Stopped s y t
+    at t e = subst (λ (z : Stop). Stopped s y z) (let q : told ≡ t = cc in q) known

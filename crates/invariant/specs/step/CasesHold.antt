@@ -1,0 +1,319 @@
+-- A step of an able board has one of the outcomes of Outcome.antt: each rule of `step`, read once. Assumes nothing.
+use mathlib.Core.Path.{_≡_, refl, sym, subst, _∙_}
+use mathlib.Core.Logic.{_⊎_, inl, inr, _≢_}
+use mathlib.Core.Bool.{Bool, true, false, _||_, cond}
+use mathlib.Core.List.{List, [], _∷_, _++_}
+use mathlib.Core.Option.{Option, none, some}
+use Prim.Native.Nat.{ℕ, suc, _<_}
+use native.Mathlib.Omega.{arith}
+use lib.ListN.{length, set, length-set}
+use lib.Seq.{getD-set-same, getD-set-other}
+use Rattle.rules.specs.Limits.{absent}
+use Rattle.rules.specs.Sheet.{Sheet, op, N-of, rank-of, is-send, is-receive, is-wait, is-ready, is-buffered, is-nonblocking}
+use Rattle.rules.specs.Job.{Job, Entry, job, entry, bare-entry, entry-at, place-at, with-entries, with-places, with-messages, with-receives, with-steps}
+use Rattle.rules.specs.Step.{step, next-op, in-waiting-half, one-finished, first-message, first-receive, fits-with, is-cut, without, delivered, with-place, charge, matched, with-state, pend-message, pend-receive, stopped, initiated, fits-buffer, unmatched, sent, received, initiating, ended}
+use Rattle.laws.specs.Tests.{true-not-false}
+use Rattle.invariant.specs.sheet.Valid.{Good}
+use Rattle.invariant.specs.sheet.Kinds.{kind-send, send-receive-differ}
+use Rattle.laws.specs.WaitingLists.{Found, first-by-some}
+use Rattle.invariant.specs.Invariant.{Entered, state-at, Posted-before, Came-before, Reached}
+use Rattle.invariant.specs.matching.UnmatchedState.{unmatched-send}
+use Rattle.invariant.specs.matching.RowChanges.{Enters, Matches}
+use Rattle.invariant.specs.step.Places.{Next, next-fresh, Moved}
+use Rattle.invariant.specs.step.BufferUse.{Use, use-kept, use-charged, use-released, used-kept, used-released, used-charged, used-uncharged, released-places, matched-is, stepped-places, stepped-moved, set-enters}
+use Rattle.invariant.specs.step.Cases.{Finds, Outcome, ends-half, ends-wait, posts, pends, meets, stops}
+
+-- OUTCOMES of a step of board r, which is able, of a job that keeps the invariant
+module _ (s : Sheet) (g : Good s) (lent : List ℕ) (x : Job) (R : Reached s lent x) (r : ℕ) (n : Next s x r) where
+  abbrev here : ℕ
+  here = next-op s x r
+
+  entries-inside : here < length (x .entries)
+  entries-inside = omega (arith, n .inside, R .placed .entries-long)
+
+  places-inside : r < length (x .places)
+  places-inside = omega (arith, n .rank-small, R .placed .places-long)
+
+  -- the job after a step's other changes are made
+  abbrev counted : Job → Job
+  counted y = with-steps (suc (x .steps)) y
+
+  -- a waiting half ends
+  outcome-half : place-at x r .waiting ≡ true → Outcome s x (counted (ended s r here x)) r here
+  unfolding ended with-place with-places with-steps job place-at
+  outcome-half w = go (is-wait (op s here)) (R .placed .waiting-no-wait r (n .rank-small) w)
+    where
+      y : Job
+      y = counted (with-place r (one-finished (place-at x r)) x)
+
+      m : Moved x y r true × Use x y use-kept
+      m = stepped-moved y (used-kept s x (R .in-use-peak)) r true places-inside refl refl refl refl
+
+      go : (b : Bool) → b ≡ false →
+          Outcome s x (counted (with-place r (one-finished (place-at x r)) (cond b (with-state here 5 x) x))) r here
+      go true e = true-not-false refl e
+      go false e =
+          ends-half
+          (record {
+            waiting = w;
+            moved = m .0;
+            uses = m .1;
+            entries = refl;
+            messages = refl;
+            receives = refl;
+            memory = refl;
+          })
+
+  -- a wait ends
+  outcome-wait : place-at x r .waiting ≡ false → is-wait (op s here) ≡ true → Outcome s x (counted (ended s r here x)) r here
+  unfolding ended with-place with-places with-steps with-state with-entries job place-at
+  outcome-wait w e = go (is-wait (op s here)) e
+    where
+      y : Job
+      y = counted (with-place r (one-finished (place-at x r)) (with-state here 5 x))
+
+      m : Moved x y r true × Use x y use-kept
+      m =
+          stepped-moved y (used-kept s x (R .in-use-peak)) r true places-inside refl
+          (length-set (x .entries) here (bare-entry 5)) refl refl
+
+      go : (b : Bool) → b ≡ true →
+          Outcome s x (counted (with-place r (one-finished (place-at x r)) (cond b (with-state here 5 x) x))) r here
+      go false c = true-not-false c refl
+      go true c =
+          ends-wait
+          (record {
+            not-waiting = w;
+            waits = e;
+            moved = m .0;
+            uses = m .1;
+            enters = set-enters x y here 5 (next-fresh s x r (R .placed) n w) entries-inside (omega arith) (omega arith) refl;
+            messages = refl;
+            receives = refl;
+            memory = refl;
+          })
+
+  -- a receive is posted
+  outcome-posts : place-at x r .waiting ≡ false → is-receive (op s here) ≡ true → first-message s here (x .messages) ≡ none →
+      Outcome s x (counted (initiated s r here (pend-receive here x))) r here
+  unfolding initiated pend-receive with-receives with-place with-places with-steps with-state with-entries job place-at
+  outcome-posts w e none-fits =
+      posts
+      (record {
+        not-waiting = w;
+        is-one = e;
+        none-fits = none-fits;
+        moved = m .0;
+        uses = m .1;
+        enters = set-enters x y here 1 (next-fresh s x r (R .placed) n w) entries-inside (omega arith) (omega arith) refl;
+        messages = refl;
+        receives = refl;
+        memory = refl;
+      })
+    where
+      y : Job
+      y = counted (initiated s r here (pend-receive here x))
+
+      m : Moved x y r (is-nonblocking (op s here)) × Use x y use-kept
+      m =
+          stepped-moved y (used-kept s x (R .in-use-peak)) r (is-nonblocking (op s here)) places-inside refl
+          (length-set (x .entries) here (bare-entry 1)) refl refl
+
+  -- a send is pending, in its state, after its charge if it is buffered
+  outcome-pends : (y : Job) → place-at x r .waiting ≡ false → is-send (op s here) ≡ true →
+      first-receive s here (x .receives) ≡ none → (is-buffered (op s here) ≡ true → fits-buffer s r here x ≡ true) →
+      Moved x y r (is-nonblocking (op s here)) × Use x y (use-charged s r here) →
+      Enters x y here (cond (is-buffered (op s here)) 2 1) →
+      y .messages ≡ x .messages ++ (here ∷ []) → y .receives ≡ x .receives → y .memory ≡ x .memory → Outcome s x y r here
+  outcome-pends y w e none-fits room m enters messages receives memory =
+      pends
+      (record {
+        not-waiting = w;
+        is-one = e;
+        none-fits = none-fits;
+        room = room;
+        moved = m .0;
+        uses = m .1;
+        enters = subst (λ (v : ℕ). Enters x y here v) (sym (unmatched-send s here e)) enters;
+        messages = messages;
+        receives = receives;
+        memory = memory;
+      })
+
+  outcome-standard : place-at x r .waiting ≡ false → is-send (op s here) ≡ true → is-buffered (op s here) ≡ false →
+      first-receive s here (x .receives) ≡ none → Outcome s x (counted (initiated s r here (pend-message here 1 x))) r here
+  unfolding initiated pend-message with-messages with-place with-places with-steps with-state with-entries job place-at
+  outcome-standard w e b none-fits =
+      outcome-pends y w e none-fits (λ c. true-not-false c b)
+      (stepped-moved y (used-uncharged s x (R .in-use-peak) r here b) r (is-nonblocking (op s here)) places-inside refl
+      (length-set (x .entries) here (bare-entry 1)) refl refl)
+      (subst (λ (c : Bool). Enters x y here (cond c 2 1)) (sym b)
+      (set-enters x y here 1 (next-fresh s x r (R .placed) n w) entries-inside (omega arith) (omega arith) refl))
+      refl refl refl
+    where
+      y : Job
+      y = counted (initiated s r here (pend-message here 1 x))
+
+  outcome-buffered : place-at x r .waiting ≡ false → is-send (op s here) ≡ true → is-buffered (op s here) ≡ true →
+      first-receive s here (x .receives) ≡ none → fits-buffer s r here x ≡ true →
+      Outcome s x (counted (initiated s r here (charge s r here (pend-message here 2 x)))) r here
+  unfolding initiated charge pend-message with-messages with-place with-places with-steps with-state with-entries job place-at
+  outcome-buffered w e b none-fits room =
+      outcome-pends y w e none-fits (λ c. room)
+      (stepped-moved y (used-charged s x (R .in-use-peak) r here places-inside b) r (is-nonblocking (op s here)) places-inside
+      refl (length-set (x .entries) here (bare-entry 2)) refl refl)
+      (subst (λ (c : Bool). Enters x y here (cond c 2 1)) (sym b)
+      (set-enters x y here 2 (next-fresh s x r (R .placed) n w) entries-inside (omega arith) (omega arith) refl))
+      refl refl refl
+    where
+      y : Job
+      y = counted (initiated s r here (charge s r here (pend-message here 2 x)))
+
+  -- a message and a receive are matched
+  outcome-meets : (m q : ℕ) → place-at x r .waiting ≡ false → is-send (op s m) ≡ true → is-receive (op s q) ≡ true →
+      fits-with s m q ≡ true → m < N-of s → q < N-of s → state-at x m ≢ 3 → state-at x q ≢ 3 →
+      (m ≢ here → Entered x m) → (q ≢ here → Entered x q) → Finds s x here m q →
+      Outcome s x (counted (initiated s r here (matched s m q x))) r here
+  unfolding initiated with-place with-places with-steps job place-at entry-at
+  outcome-meets m q w sm rq fit lm lq free-m free-q there-m there-q found =
+      subst (λ (z : Job). Outcome s x (counted (initiated s r here z)) r here) (sym (matched-is s m q x))
+      (meets m q
+      (record {
+        not-waiting = w;
+        finds = found;
+        moved = p .0;
+        uses = p .1;
+        rows = rows;
+        messages = refl;
+        receives = refl;
+        memory = refl;
+      }))
+    where
+      nb : Bool
+      nb = is-nonblocking (op s here)
+
+      A : Entry
+      A = entry 3 0 q absent absent 0
+
+      B : Entry
+      B = entry 3 (cond (is-cut s m q) 1 0) m (rank-of s m) (op s m .tag) (op s m .long)
+
+      z : Entry
+      z = bare-entry 0
+
+      y : Job
+      y =
+          job (set (set (x .entries) m A) q B) (stepped-places (released-places s x m) r nb) (without m (x .messages))
+          (without q (x .receives))
+          (delivered s m q (x .memory)) (x .stop) (suc (x .steps))
+
+      long : length (x .entries) ≡ N-of s
+      long = R .placed .entries-long
+
+      one : Finds s x here m q → (here ≡ m) ⊎ (here ≡ q)
+      one (inl e) = inr (sym (e .0))
+      one (inr e) = inl (sym (e .0))
+
+      p : Moved x y r nb × Use x y (use-released s x m)
+      p =
+          stepped-moved y
+          (used-released s x (R .in-use-peak) m (omega (arith, g .rank-small m lm, R .placed .places-long))) r nb places-inside
+          refl
+          (length-set (set (x .entries) m A) q B ∙ length-set (x .entries) m A) refl refl
+
+      rows : Matches s x y m q here
+      rows =
+          record {
+            sends = sm;
+            receives = rq;
+            fit = fit;
+            message-row =
+                getD-set-other (set (x .entries) m A) q m B z (send-receive-differ s m q sm rq)
+                ∙ getD-set-same (x .entries) m A z (omega (arith, long));
+            receive-row = getD-set-same (set (x .entries) m A) q B z (omega (arith, long, length-set (x .entries) m A));
+            other = λ j a b. getD-set-other (set (x .entries) m A) q j B z b ∙ getD-set-other (x .entries) m j A z a;
+            message-free = free-m;
+            receive-free = free-q;
+            one = one found;
+            fresh = next-fresh s x r (R .placed) n w;
+            message-there = there-m;
+            receive-there = there-q;
+          }
+
+  -- what the searches find is pending, and fits
+  found-message : (m : ℕ) → first-message s here (x .messages) ≡ some m →
+      Found (Came-before (R .came)) (λ k. fits-with s k here) (x .messages) m
+  unfolding first-message
+  found-message m e = first-by-some (λ k. fits-with s k here) (x .messages) (R .messages-held .sorted) m e
+
+  found-receive : (q : ℕ) → first-receive s here (x .receives) ≡ some q →
+      Found (Posted-before s) (λ k. fits-with s here k) (x .receives) q
+  unfolding first-receive
+  found-receive q e = first-by-some (λ k. fits-with s here k) (x .receives) (R .receives-held .sorted) q e
+
+  -- INITIATING
+  outcome-received : (o : Option ℕ) → first-message s here (x .messages) ≡ o → place-at x r .waiting ≡ false →
+      is-receive (op s here) ≡ true →
+      Outcome s x (counted (received s r here o x)) r here
+  unfolding received
+  outcome-received none e w k = outcome-posts w k e
+  outcome-received (some m) e w k =
+      let f = found-message m e in
+      let p = R .messages-held .sound m (f .member) in
+      outcome-meets m here w (p .sends) k (f .passes) (R .placed .entered-only m (p .entered) .0) (n .inside) (p .unmatched)
+      (λ c. omega (arith, next-fresh s x r (R .placed) n w)) (λ d. p .entered) (λ d. absurd (d refl)) (inl (refl, e))
+
+  outcome-unmatched : place-at x r .waiting ≡ false → is-send (op s here) ≡ true → first-receive s here (x .receives) ≡ none →
+      Outcome s x (counted (unmatched s r here x)) r here
+  unfolding unmatched
+  outcome-unmatched w k e = go (is-ready (op s here)) (is-buffered (op s here)) refl (fits-buffer s r here x) refl
+    where
+      halts : (v : ℕ) → (v ≡ 3) ⊎ (v ≡ 4) → Outcome s x (counted (stopped v r here x)) r here
+      halts v reason =
+          stops v
+          (record {
+            reason = reason;
+            not-waiting = w;
+            is-told = refl;
+          })
+
+      go : (a b : Bool) → is-buffered (op s here) ≡ b → (c : Bool) → fits-buffer s r here x ≡ c →
+          Outcome s x
+          (counted
+          (cond a (stopped 4 r here x)
+          (cond b (cond c (initiated s r here (charge s r here (pend-message here 2 x))) (stopped 3 r here x))
+          (initiated s r here (pend-message here 1 x)))))
+          r here
+      go true b h c f = halts 4 (inr refl)
+      go false true h true f = outcome-buffered w k h e f
+      go false true h false f = halts 3 (inl refl)
+      go false false h c f = outcome-standard w k h e
+
+  outcome-sent : (o : Option ℕ) → first-receive s here (x .receives) ≡ o → place-at x r .waiting ≡ false →
+      is-send (op s here) ≡ true →
+      Outcome s x (counted (sent s r here o x)) r here
+  unfolding sent
+  outcome-sent none e w k = outcome-unmatched w k e
+  outcome-sent (some q) e w k =
+      let f = found-receive q e in
+      let p = R .receives-held .sound q (f .member) in
+      outcome-meets here q w k (p .receives) (f .passes) (n .inside) (R .placed .entered-only q (p .entered) .0)
+      (λ c. omega (arith, next-fresh s x r (R .placed) n w)) (p .unmatched) (λ d. absurd (d refl)) (λ d. p .entered)
+      (inr (refl, e))
+
+  pub outcome : Outcome s x (step s r x) r here
+  unfolding step in-waiting-half initiating
+  outcome = go (place-at x r .waiting) refl (is-wait (op s here)) refl (is-receive (op s here)) refl
+    where
+      go : (w : Bool) → place-at x r .waiting ≡ w → (a : Bool) → is-wait (op s here) ≡ a → (b : Bool) →
+          is-receive (op s here) ≡ b →
+          Outcome s x
+          (counted
+          (cond (w || a) (ended s r here x)
+          (cond b (received s r here (first-message s here (x .messages)) x)
+          (sent s r here (first-receive s here (x .receives)) x))))
+          r here
+      go true e a f b h = outcome-half e
+      go false e true f b h = outcome-wait e f
+      go false e false f true h = outcome-received (first-message s here (x .messages)) refl e h
+      go false e false f false h = outcome-sent (first-receive s here (x .receives)) refl e (kind-send s g here (n .inside) f h)

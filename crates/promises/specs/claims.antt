@@ -1,0 +1,21 @@
+-- The proofs of the claims, of a sheet's bytes and the lent inboxes.
+--   Deliveries    memory byte by byte
+--   Verdicts      each verdict exactly when it should be given
+--   BufferUse     buffer use and its peak
+--   OneJob        demand 2 of one job
+--   Matching      demand 2 of its matching
+--   RunEnds       a run ends
+--   Calls         what a call of follow or run has answered
+--   Services      demand 3 of the services, from demand 3 of the orders
+--   EndsAlike     full orders end alike
+--   SwapSame      exchanged steps
+pub mod Deliveries
+pub mod Verdicts
+pub mod BufferUse
+pub mod OneJob
+pub mod Matching
+pub mod RunEnds
+pub mod Calls
+pub mod Services
+pub mod EndsAlike
+pub mod SwapSame

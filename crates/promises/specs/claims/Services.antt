@@ -1,0 +1,245 @@
+-- Demand 3 of the services, from demand 3 of the orders: calls whose inboxes start with the same bytes end alike, whatever
+-- the rooms' lengths and what stands beyond, since nothing in the inboxes influences a step.
+--   follows-alike, run-alike, follow-swaps
+-- Assumes nothing: what it takes from the orders (Ends-alike, Swap-same, Run-ends) is an argument of each law.
+use mathlib.Core.Path.{_≡_, sym, ap, _∙_}
+use mathlib.Core.Bool.{true}
+use mathlib.Core.List.{List, _∷_, _++_}
+use mathlib.Core.Option.{Option}
+use Prim.Native.Nat.{ℕ, _≤_}
+use lib.ListN.{length, take}
+use Rattle.rules.specs.Limits.{report-size}
+use Rattle.rules.specs.Sheet.{Sheet, sheet-in, P-of, N-of, inbox-total}
+use Rattle.rules.specs.Job.{Job}
+use Rattle.rules.specs.Step.{is-none}
+use Rattle.rules.specs.Order.{follow, run, none-able}
+use Rattle.rules.specs.Report.{report}
+use Rattle.rules.specs.Service.{in-front, order-refusal}
+use Rattle.rules.specs.Claims.{passes, calm, accepts, left-by, without-peaks, Alike, Given}
+use Rattle.promises.specs.Statements.{Lent, Ends, Run-ends, Ends-alike, Swap-same, Follow-call, Run-call, Same-start, Left-alike, Follows-alike, Run-alike, Follow-swaps}
+use Rattle.laws.specs.SpliceOrder.{Near}
+use Rattle.promises.specs.compare.ReportBytes.{report-length}
+use Rattle.promises.specs.compare.PeaksAside.{level-report, level-none-able}
+use Rattle.invariant.specs.sheet.Valid.{Good}
+use Rattle.invariant.specs.Invariant.{Reached}
+use Rattle.invariant.specs.deliveries.Commute.{ground}
+use Rattle.promises.specs.compare.SamePositions.{Like, like-level}
+use Rattle.promises.specs.compare.WholeOrders.{Left-like}
+use Rattle.promises.specs.compare.TwoRooms.{rooms-like, like-near}
+use Rattle.promises.specs.claims.OneJob.{lent-good, lent-reached}
+use Rattle.promises.specs.claims.Calls.{follow-answer, follow-accepted, follow-inbox, follow-report, front-report, run-answer}
+
+-- ALIKE AS FAR AS THE SHEET'S OWN ROOM GOES
+record Alike-front (s : Sheet) (x y : Job) : Type 0 where
+  memory : take (inbox-total s) (x .memory) ≡ take (inbox-total s) (y .memory)
+  reports : without-peaks (P-of s) (report s x) ≡ without-peaks (P-of s) (report s y)
+
+front-alike : {s : Sheet} {x y : Job} → Alike s x y → Alike-front s x y
+unfolding Alike
+front-alike {s} h =
+    record {
+      memory = ap (λ (bs : List ℕ). take (inbox-total s) bs) (h .0);
+      reports = h .1;
+    }
+
+-- like jobs on rooms that start with the same bytes
+front-like : {s : Sheet} → Good s → {i j : List ℕ} {x y : Job} {X : Reached s i x} {Y : Reached s j y} → Like X Y →
+    Near (inbox-total s) i j → Alike-front s x y
+front-like {s} g {i} {j} {x} {y} K h =
+    record {
+      memory = like-near g K h .same;
+      reports = level-report s x y (like-level g K);
+    }
+
+front-next : {s : Sheet} {x y z : Job} → Alike-front s x y → Alike-front s y z → Alike-front s x z
+front-next a b =
+    record {
+      memory = a .memory ∙ b .memory;
+      reports = a .reports ∙ b .reports;
+    }
+
+-- inbox and report as a call left them show a job
+record Shows (s : Sheet) (x : Job) (i r : List ℕ) : Type 0 where
+  memory : i ≡ x .memory
+  reported : take (report-size (P-of s) (N-of s)) r ≡ report s x
+
+shows : (s : Sheet) (x : Job) {i r : List ℕ} (old : List ℕ) → length (x .entries) ≡ N-of s → i ≡ x .memory →
+    r ≡ in-front (report s x) old → Shows s x i r
+shows s x old long m h =
+    record {
+      memory = m;
+      reported =
+          ap (λ (z : List ℕ). take (report-size (P-of s) (N-of s)) z) h
+          ∙ front-report (report s x) old (report-size (P-of s) (N-of s)) (report-length s x long);
+    }
+
+shown-alike : (bs : List ℕ) {i r j q : List ℕ} {x y : Job} → Shows (sheet-in bs) x i r → Shows (sheet-in bs) y j q →
+    Alike-front (sheet-in bs) x y → Left-alike bs i r j q
+unfolding Left-alike
+shown-alike bs a b h =
+    let s = sheet-in bs in (
+      ap (λ (z : List ℕ). take (inbox-total s) z) (a .memory) ∙ h .memory
+          ∙ ap (λ (z : List ℕ). take (inbox-total s) z) (sym (b .memory)),
+      ap (λ (z : List ℕ). without-peaks (P-of s) z) (a .reported) ∙ h .reports
+          ∙ ap (λ (z : List ℕ). without-peaks (P-of s) z) (sym (b .reported)),
+    )
+
+-- CALLS
+module _ {bs : List ℕ} (p : passes bs ≡ true) where
+  follow-given : {o : List ℕ} (f : Follow-call bs o) → calm (sheet-in bs) ≡ true → Given bs (f .inbox)
+  follow-given f c =
+      record {
+        passing = p;
+        calm-sheet = c;
+        room = follow-answer p f .inbox-room;
+      }
+
+  follow-lent : {o : List ℕ} (f : Follow-call bs o) → Lent bs (f .inbox)
+  follow-lent f =
+      record {
+        passing = p;
+        room = follow-answer p f .inbox-room;
+      }
+
+  follow-shows : {o : List ℕ} (f : Follow-call bs o) → f .number ≡ 0 →
+      Shows (sheet-in bs) (left-by (sheet-in bs) o (f .inbox)) (f .inbox-now) (f .report-now)
+  follow-shows {o} f h =
+      shows (sheet-in bs) (left-by (sheet-in bs) o (f .inbox)) (f .report) (lent-reached (follow-lent f) o .placed .entries-long)
+      (follow-inbox p f h) (follow-report p f h)
+
+  run-lent : (g : Run-call bs) → Lent bs (g .inbox)
+  run-lent g =
+      record {
+        passing = p;
+        room = run-answer p g .inbox-room;
+      }
+
+  run-shows : (g : Run-call bs) → Ends (sheet-in bs) (g .inbox) →
+      Shows (sheet-in bs) (run (sheet-in bs) (g .inbox) .end) (g .inbox-now) (g .report-now)
+  run-shows g E =
+      shows (sheet-in bs) (run (sheet-in bs) (g .inbox) .end) (g .report)
+      (ap (λ (z : Job). length (z .entries)) (sym (E .same-job))
+      ∙ lent-reached (run-lent g) (run (sheet-in bs) (g .inbox) .order) .placed .entries-long) (run-answer p g .inbox-is)
+      (run-answer p g .report-is)
+
+-- calls on rooms that start with the same bytes
+near-start : (bs : List ℕ) {i j : List ℕ} → inbox-total (sheet-in bs) ≤ length i → inbox-total (sheet-in bs) ≤ length j →
+    Same-start bs i j → Near (inbox-total (sheet-in bs)) i j
+unfolding Same-start
+near-start bs a b h =
+    record {
+      long = a;
+      long-too = b;
+      same = h;
+    }
+
+-- one order on two rooms, where there is room enough in both
+module _ {bs i j : List ℕ} (a : Lent bs i) (b : Lent bs j) (same : Same-start bs i j) (rs : List ℕ) where
+  abbrev s : Sheet
+  s = sheet-in bs
+
+  two-rooms : Left-like s i j (follow s rs i) (follow s rs j)
+  two-rooms = rooms-like (lent-good a) (ground s (lent-good a)) (a .room) (b .room) rs
+
+  two-alike : Alike-front s (left-by s rs i) (left-by s rs j)
+  unfolding left-by
+  two-alike = front-like (lent-good a) (two-rooms .like) (near-start bs (a .room) (b .room) same)
+
+  two-refused : follow s rs i .refused-at ≡ follow s rs j .refused-at
+  two-refused = two-rooms .refused
+
+  two-accepted : accepts s rs i ≡ true → accepts s rs j ≡ true
+  unfolding accepts
+  two-accepted e = ap (λ (o : Option ℕ). is-none o) (sym two-refused) ∙ e
+
+  two-none-able : none-able s (left-by s rs i) ≡ true → none-able s (left-by s rs j) ≡ true
+  unfolding left-by
+  two-none-able e =
+      sym (level-none-able s (follow s rs i .left) (follow s rs j .left) (like-level (lent-good a) (two-rooms .like))) ∙ e
+
+same-back : (bs i j : List ℕ) → Same-start bs i j → Same-start bs j i
+unfolding Same-start
+same-back bs i j h = sym h
+
+-- THE LAWS
+pub follows-alike : Ends-alike → Follows-alike
+unfolding Ends-alike Follows-alike
+follows-alike ends bs a b f g p c same zero-f zero-g full-a full-b =
+    shown-alike bs (follow-shows p f zero-f) (follow-shows p g zero-g)
+    (front-next
+    (front-alike
+    (ends bs (f .inbox) a b (follow-given p f c) (follow-accepted p f zero-f)
+    (two-accepted there here (same-back bs (f .inbox) (g .inbox) same) b (follow-accepted p g zero-g)) full-a
+    (two-none-able there here (same-back bs (f .inbox) (g .inbox) same) b full-b) .0))
+    (two-alike here there same b))
+  where
+    here : Lent bs (f .inbox)
+    here = follow-lent p f
+
+    there : Lent bs (g .inbox)
+    there = follow-lent p g
+
+-- the order followed on the run's room ends alike with the run, and alike with itself on its own room
+pub run-alike : Ends-alike → Run-ends → Run-alike
+unfolding Ends-alike Run-ends Run-alike
+run-alike ends runs bs a f g p c same zero-f full = (
+  run-answer p g .number-zero,
+  shown-alike bs (follow-shows p f zero-f) (run-shows p g (runs bs (g .inbox) there))
+      (front-next (two-alike here there same a)
+      (front-alike (ends bs (g .inbox) a a given accepted accepted full-there full-there .1))),
+)
+  where
+    here : Lent bs (f .inbox)
+    here = follow-lent p f
+
+    there : Lent bs (g .inbox)
+    there = run-lent p g
+
+    given : Given bs (g .inbox)
+    given =
+        record {
+          passing = p;
+          calm-sheet = c;
+          room = there .room;
+        }
+
+    accepted : accepts (sheet-in bs) a (g .inbox) ≡ true
+    accepted = two-accepted here there same a (follow-accepted p f zero-f)
+
+    full-there : none-able (sheet-in bs) (left-by (sheet-in bs) a (g .inbox)) ≡ true
+    full-there = two-none-able here there same a full
+
+pub follow-swaps : Swap-same → Follow-swaps
+unfolding Swap-same Follow-swaps
+follow-swaps swap bs before after p q f g pass c same accepted differ able-p able-q = (
+  number-same,
+  follow-answer pass f .place-is ∙ ap (λ (o : Option ℕ). order-refusal o .place) refused
+      ∙ sym (follow-answer pass g .place-is),
+  λ zero-f.
+      shown-alike bs (follow-shows pass f zero-f) (follow-shows pass g (sym number-same ∙ zero-f))
+      (front-next (front-alike (swapped .1)) (two-alike here there same other)),
+)
+  where
+    here : Lent bs (f .inbox)
+    here = follow-lent pass f
+
+    there : Lent bs (g .inbox)
+    there = follow-lent pass g
+
+    one : List ℕ
+    one = before ++ (p ∷ q ∷ after)
+
+    other : List ℕ
+    other = before ++ (q ∷ p ∷ after)
+
+    swapped : (follow (sheet-in bs) one (f .inbox) .refused-at ≡ follow (sheet-in bs) other (f .inbox) .refused-at)
+        × Alike (sheet-in bs) (left-by (sheet-in bs) one (f .inbox)) (left-by (sheet-in bs) other (f .inbox))
+    swapped = swap bs (f .inbox) before after p q (follow-given pass f c) accepted differ able-p able-q
+
+    refused : follow (sheet-in bs) one (f .inbox) .refused-at ≡ follow (sheet-in bs) other (g .inbox) .refused-at
+    refused = swapped .0 ∙ two-refused here there same other
+
+    number-same : f .number ≡ g .number
+    number-same =
+        follow-answer pass f .number-is ∙ ap (λ (o : Option ℕ). order-refusal o .number) refused
+        ∙ sym (follow-answer pass g .number-is)

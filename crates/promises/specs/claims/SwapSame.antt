@@ -1,0 +1,106 @@
+-- Two neighbouring able steps exchanged, for whole orders: on any sheet where the exchange is harmless, so on a calm sheet,
+-- where it always is, and so of the calls of follow.
+--   swap-general, swap-same, calls-swap
+-- Assumes nothing.
+use mathlib.Core.Path.{_≡_, sym, ap, subst, _∙_}
+use mathlib.Core.Logic.{_≢_}
+use mathlib.Core.Bool.{true}
+use mathlib.Core.List.{List, _∷_, _++_}
+use mathlib.Core.Option.{none}
+use Prim.Native.Nat.{ℕ, suc}
+use lib.ListN.{length}
+use Rattle.rules.specs.Sheet.{Sheet, sheet-in}
+use Rattle.rules.specs.Job.{Job}
+use Rattle.rules.specs.Step.{able, step}
+use Rattle.rules.specs.Order.{Followed, follow, follow-from}
+use Rattle.rules.specs.Claims.{accepts, left-by, calm, Alike}
+use Rattle.laws.specs.Tests.{true-not-false}
+use Rattle.promises.specs.Statements.{Lent, Harmless, Swap-general, Swap-same, Follow-swaps}
+use Rattle.invariant.specs.sheet.Valid.{Good}
+use Rattle.invariant.specs.deliveries.Assumed.{Ground}
+use Rattle.invariant.specs.Invariant.{Reached}
+use Rattle.invariant.specs.deliveries.Commute.{ground}
+use Rattle.promises.specs.compare.WholeOrders.{Left-like, like-follow, follow-join, follow-two}
+use Rattle.promises.specs.compare.Exchange.{E, swap-able, able-p, able-q, swap-like}
+use Rattle.promises.specs.compare.CalmSheets.{calm-going, calm-tame-all}
+use Rattle.promises.specs.compare.SamePositionsAlike.{like-alike}
+use Rattle.promises.specs.claims.Services.{follow-swaps}
+use Rattle.promises.specs.claims.OneJob.{lent-good, lent-reached}
+
+module _ {bs i : List ℕ} (h : Lent bs i) (before : List ℕ) (p q : ℕ) (d : p ≢ q) where
+  abbrev s : Sheet
+  s = sheet-in bs
+
+  abbrev x : Job
+  x = left-by s before i
+
+  g : Good s
+  g = lent-good h
+
+  A : Ground s
+  A = ground s g
+
+  X : Reached s i x
+  X = lent-reached h before
+
+  -- what follows two able steps after the beginning
+  two-more : (accepted : accepts s before i ≡ true) (j k : ℕ) (after : List ℕ) → able s x j ≡ true →
+      able s (step s j x) k ≡ true →
+      follow s (before ++ (j ∷ k ∷ after)) i ≡ follow-from (suc (suc (length before))) s after (step s k (step s j x))
+  two-more accepted j k after a b = follow-join s before (j ∷ k ∷ after) i accepted ∙ follow-two s (length before) j k after x a b
+
+  exchanged : (after : List ℕ) → accepts s before i ≡ true → able s x p ≡ true → able s x q ≡ true → Harmless s x p q →
+      (follow s (before ++ (p ∷ q ∷ after)) i .refused-at ≡ follow s (before ++ (q ∷ p ∷ after)) i .refused-at)
+      × Alike s (left-by s (before ++ (p ∷ q ∷ after)) i) (left-by s (before ++ (q ∷ p ∷ after)) i)
+  unfolding left-by
+  exchanged after accepted a b H = (
+    ap (λ (f : Followed). f .refused-at) one ∙ L .refused ∙ sym (ap (λ (f : Followed). f .refused-at) other),
+    subst (λ (f : Followed). Alike s (f .left) (follow s (before ++ (q ∷ p ∷ after)) i .left)) (sym one)
+        (subst (λ (f : Followed). Alike s (follow-from n s after (step s q (step s p x)) .left) (f .left)) (sym other)
+        (like-alike g (L .like))),
+  )
+    where
+      n : ℕ
+      n = suc (suc (length before))
+
+      one : follow s (before ++ (p ∷ q ∷ after)) i ≡ follow-from n s after (step s q (step s p x))
+      one = two-more accepted p q after a (able-q g A (h .room) X p q d a b H)
+
+      other : follow s (before ++ (q ∷ p ∷ after)) i ≡ follow-from n s after (step s p (step s q x))
+      other = two-more accepted q p after b (able-p g A (h .room) X p q d a b H)
+
+      L : Left-like s i i (follow-from n s after (step s q (step s p x))) (follow-from n s after (step s p (step s q x)))
+      L = like-follow g A (h .room) (h .room) n after (swap-like g A (h .room) X p q d a b H)
+
+  -- on a calm sheet no step stops the job, and no receive takes from any source
+  calm-on : calm s ≡ true → (j k : ℕ) → j ≢ k → able s x j ≡ true → able s x k ≡ true → step s k (step s j x) .stop ≡ none
+  calm-on c j k e a b =
+      let going = calm-going g c X j a in
+      calm-going g c (E g A (h .room) X j a going .reached) k (swap-able g A (h .room) X j a going k (λ f. e (sym f)) b)
+
+  calm-harmless : calm s ≡ true → able s x p ≡ true → able s x q ≡ true → Harmless s x p q
+  calm-harmless c a b =
+      record {
+        goes-on = calm-on c p q d a b;
+        goes-on-swapped = calm-on c q p (λ e. d (sym e)) b a;
+        no-race = λ r half other sends receives wild fits too. true-not-false wild (calm-tame-all s c r);
+      }
+
+pub swap-general : Swap-general
+unfolding Swap-general
+swap-general bs i before after p q h accepted d a b H = exchanged h before p q d after accepted a b H
+
+pub swap-same : Swap-same
+unfolding Swap-same
+swap-same bs i before after p q h accepted d a b =
+    exchanged lent before p q d after accepted a b (calm-harmless lent before p q d (h .calm-sheet) a b)
+  where
+    lent : Lent bs i
+    lent =
+        record {
+          passing = h .passing;
+          room = h .room;
+        }
+
+pub calls-swap : Follow-swaps
+calls-swap = follow-swaps swap-same

@@ -1,0 +1,178 @@
+-- A job that is behind another can only catch up. Let no board of x be further in its script than in y, and let messages
+-- that one receive could take have come in the same order: then what is matched in x is matched alike in y, what is complete
+-- in x is complete in y, and a board that stands where it stood and was able is able still. Behind both ways, the rows are
+-- the same.
+--   Behind           x is behind y
+--   behind-met, behind-complete, still-able
+--   level-rows       behind both ways: the same rows
+-- Assumes nothing.
+use mathlib.Core.Path.{_≡_, refl, sym, ap, _∙_}
+use mathlib.Core.Logic.{_≢_}
+use mathlib.Core.Bool.{Bool, true, false, _&&_, _||_, not, cond}
+use mathlib.Core.List.{List}
+use mathlib.Core.Option.{none}
+use Prim.Native.Nat.{ℕ, _+_, _*_, _≤_, _<_}
+use native.Mathlib.Omega.{arith}
+use native.Mathlib.Decide.{ℕ-discrete}
+use lib.Dec.{ltb, leb}
+use Rattle.rules.specs.Sheet.{Sheet, op, board, P-of, rank-of, is-receive, is-wait}
+use Rattle.rules.specs.Job.{Job, bare-entry, entry-at, place-at}
+use Rattle.rules.specs.Step.{able, next-op, is-finished, in-waiting-half, half-complete, is-none}
+use Rattle.laws.specs.Tests.{and-both, and-left, and-right}
+use Rattle.invariant.specs.sheet.Valid.{Good}
+use Rattle.invariant.specs.sheet.Kinds.{kind-send}
+use Rattle.invariant.specs.Invariant.{Entered, state-at, partner-at, reach, row-of, Met, Placed, Reached}
+use Rattle.invariant.specs.matching.Monotone.{Same-order, keep}
+use Rattle.invariant.specs.preserve.Rows.{row-bare}
+use Rattle.invariant.specs.step.Position.{position, position-finished, position-waiting}
+use Rattle.invariant.specs.preserve.Places.{prefix, half-complete-on}
+
+position-reach : (s : Sheet) (x y : Job) (r : ℕ) → position x r ≤ position y r → reach s x r ≤ reach s y r
+unfolding position reach next-op
+position-reach s x y r = go (place-at x r .waiting) (place-at y r .waiting)
+  where
+    go : (a b : Bool) → 2 * place-at x r .finished + cond a 1 0 ≤ 2 * place-at y r .finished + cond b 1 0 →
+        board s r .first + place-at x r .finished + cond a 1 0 ≤ board s r .first + place-at y r .finished + cond b 1 0
+    go true true l = omega arith
+    go true false l = omega arith
+    go false true l = omega arith
+    go false false l = omega arith
+
+pub record Behind {s : Sheet} {i j : List ℕ} {x y : Job} (X : Reached s i x) (Y : Reached s j y) : Type 0 where
+  pub places : (r : ℕ) → r < P-of s → position x r ≤ position y r
+  pub order : Same-order s (X .came) x (Y .came) y
+
+-- what is entered goes by the places
+pub places-entered : {s : Sheet} → Good s → {x y : Job} → Placed s x → Placed s y →
+    ((r : ℕ) → r < P-of s → position x r ≤ position y r) →
+    (k : ℕ) → Entered x k → Entered y k
+places-entered {s} g {x} {y} p q l k h =
+    let only = p .entered-only k h in
+    q .entered-if k (only .0) (omega (
+      arith,
+      only .1,
+      position-reach s x y (rank-of s k)
+          (l (rank-of s k) (g .rank-small k (only .0))),
+    ))
+
+module _ {s : Sheet} (g : Good s) {i j : List ℕ} {x y : Job} (X : Reached s i x) (Y : Reached s j y) (B : Behind X Y) where
+  pub behind-entered : (k : ℕ) → Entered x k → Entered y k
+  behind-entered = places-entered g (X .placed) (Y .placed) (B .places)
+
+  pub behind-met : (m r : ℕ) → Met s x m r → Met s y m r
+  behind-met =
+      keep s (X .came) x (Y .came) y (X .stable) (Y .stable) (Y .arrived) (prefix s x (X .placed))
+      (record {
+        entered = behind-entered;
+        order = B .order;
+      })
+
+  -- what is matched in x is matched alike in y
+  pub behind-matched : (k : ℕ) → state-at x k ≡ 3 → (state-at y k ≡ 3) × (partner-at y k ≡ partner-at x k)
+  behind-matched k e = go (is-wait (op s k)) refl (is-receive (op s k)) refl
+    where
+      go : (a : Bool) → is-wait (op s k) ≡ a → (b : Bool) → is-receive (op s k) ≡ b → (state-at y k ≡ 3)
+          × (partner-at y k ≡ partner-at x k)
+      go true w b r = absurd (X .shaped .wait-unmatched k w e)
+      go false w true r =
+          let met = behind-met (partner-at x k) k (X .stable .receive-met k r e) in
+          (met .receive-matched, met .to-message)
+      go false w false r =
+          let sends = kind-send s g k (X .placed .entered-only k (omega arith) .0) w r in
+          let met = behind-met k (partner-at x k) (X .stable .message-met k sends e) in
+          (met .message-matched, met .to-receive)
+
+  -- what is complete in x is complete in y
+  pub behind-complete : (k : ℕ) → 2 ≤ state-at x k → 2 ≤ state-at y k
+  behind-complete k l = go (ℕ-discrete (state-at x k) 3) (ℕ-discrete (state-at y k) 3)
+    where
+      go : Dec (state-at x k ≡ 3) → Dec (state-at y k ≡ 3) → 2 ≤ state-at y k
+      go (yes e) _ = omega (arith, behind-matched k e .0)
+      go (no d) (yes e) = omega arith
+      go (no d) (no c) = omega (
+        arith,
+        X .shaped .unmatched k (omega arith) d,
+        Y .shaped .unmatched k
+            (behind-entered k (omega arith)) c,
+      )
+
+  -- a board that stands where it stood, and was able
+  pub still-able : (r : ℕ) → position x r ≡ position y r → able s x r ≡ true → y .stop ≡ none → able s y r ≡ true
+  unfolding able is-finished in-waiting-half next-op is-none
+  still-able r e a going =
+      and-both (and-both (ap is-none going) unfinished)
+      (last-part (place-at x r .waiting || is-wait (op s k)) refl (and-right first-part second-part a))
+    where
+      same-finished : place-at y r .finished ≡ place-at x r .finished
+      same-finished = sym (position-finished x y r e)
+
+      same-waiting : place-at y r .waiting ≡ place-at x r .waiting
+      same-waiting = sym (position-waiting x y r e)
+
+      k : ℕ
+      k = board s r .first + place-at x r .finished
+
+      same-next : board s r .first + place-at y r .finished ≡ k
+      same-next = ap (λ (n : ℕ). board s r .first + n) same-finished
+
+      first-part : Bool
+      first-part = is-none (x .stop) && (ltb r (P-of s) && not (leb (board s r .count) (place-at x r .finished)))
+
+      second-part : Bool
+      second-part = not (place-at x r .waiting || is-wait (op s k)) || half-complete s x k
+
+      unfinished : ltb r (P-of s) && not (leb (board s r .count) (place-at y r .finished)) ≡ true
+      unfinished =
+          ap (λ (n : ℕ). ltb r (P-of s) && not (leb (board s r .count) n)) same-finished
+          ∙ and-right (is-none (x .stop)) (ltb r (P-of s) && not (leb (board s r .count) (place-at x r .finished)))
+          (and-left first-part second-part a)
+
+      -- in its waiting half alike, and what it waits for complete
+      last-part : (b : Bool) → place-at x r .waiting || is-wait (op s k) ≡ b → not b || half-complete s x k ≡ true →
+          not (place-at y r .waiting || is-wait (op s (board s r .first + place-at y r .finished))) || half-complete s y
+          (board s r .first + place-at y r .finished) ≡ true
+      last-part b told h =
+          ap (λ (w : Bool). not (w || is-wait (op s (board s r .first + place-at y r .finished))) || half-complete s y
+          (board s r .first + place-at y r .finished)) same-waiting
+          ∙ ap (λ (n : ℕ). not (place-at x r .waiting || is-wait (op s n)) || half-complete s y n) same-next
+          ∙ ap (λ (w : Bool). not w || half-complete s y k) told ∙ go b h
+        where
+          go : (b : Bool) → not b || half-complete s x k ≡ true → not b || half-complete s y k ≡ true
+          go true h = half-complete-on s x y behind-complete k h
+          go false h = refl
+
+-- BEHIND BOTH WAYS
+module _ {s : Sheet} (g : Good s) {i j : List ℕ} {x y : Job} (X : Reached s i x) (Y : Reached s j y) (B : Behind X Y)
+    (C : Behind Y X) where
+  level-row : (k : ℕ) → (state-at y k ≡ state-at x k)
+      × (row-of s k (state-at y k) (partner-at y k) ≡ row-of s k (state-at x k) (partner-at x k))
+  level-row k = go (ℕ-discrete (state-at x k) 3) (ℕ-discrete (state-at y k) 3) (ℕ-discrete (state-at x k) 0)
+    where
+      bare : state-at y k ≡ state-at x k → state-at x k ≢ 3 →
+          (state-at y k ≡ state-at x k) × (row-of s k (state-at y k) (partner-at y k) ≡ row-of s k (state-at x k)
+          (partner-at x k))
+      bare e d = (
+        e,
+        row-bare s k (state-at y k) (partner-at y k) (λ c. d (sym e ∙ c)) ∙ ap bare-entry e
+            ∙ sym (row-bare s k (state-at x k) (partner-at x k) d),
+      )
+
+      go : Dec (state-at x k ≡ 3) → Dec (state-at y k ≡ 3) → Dec (state-at x k ≡ 0) →
+          (state-at y k ≡ state-at x k) × (row-of s k (state-at y k) (partner-at y k) ≡ row-of s k (state-at x k)
+          (partner-at x k))
+      go (yes e) _ _ =
+          let m = behind-matched g X Y B k e in
+          let same : state-at y k ≡ state-at x k = m .0 ∙ sym e in
+          (same, ap (λ (v : ℕ). row-of s k v (partner-at y k)) same ∙ ap (λ (p : ℕ). row-of s k (state-at x k) p) (m .1))
+      go (no d) (yes e) _ = absurd (d (behind-matched g Y X C k e .0))
+      go (no d) (no c) (yes z) = bare (none (ℕ-discrete (state-at y k) 0)) d
+        where
+          none : Dec (state-at y k ≡ 0) → state-at y k ≡ state-at x k
+          none (yes w) = w ∙ sym z
+          none (no w) = absurd (omega (arith, behind-entered g Y X C k (omega arith)))
+      go (no d) (no c) (no z) =
+          let there : Entered x k = omega arith in
+          bare (Y .shaped .unmatched k (behind-entered g X Y B k there) c ∙ sym (X .shaped .unmatched k there d)) d
+
+  pub level-rows : (k : ℕ) → entry-at y k ≡ entry-at x k
+  level-rows k = Y .shaped .row k ∙ level-row k .1 ∙ sym (X .shaped .row k)

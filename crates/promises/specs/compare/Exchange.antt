@@ -1,0 +1,227 @@
+-- Two neighbouring able steps of different boards may be exchanged, on any sheet: where neither stops the job in either
+-- order, and they do not enter two messages that one any-source receive fits. After both orders the boards position alike and
+-- the messages that one receive could take came in the same order, so the jobs are alike.
+--   swap-able        the second step is able after the first
+--   swap-like        the law
+-- Assumes nothing.
+use mathlib.Core.Path.{_≡_, refl, sym, ap, subst, _∙_}
+use mathlib.Core.Logic.{_⊎_, inl, inr, _≢_}
+use mathlib.Core.Bool.{Bool, true, false, _||_, cond}
+use mathlib.Core.List.{List}
+use mathlib.Core.Option.{none}
+use Prim.Native.Nat.{ℕ, suc, _+_, _≤_}
+use native.Mathlib.Omega.{arith}
+use native.Mathlib.Decide.{ℕ-discrete}
+use lib.ListN.{length}
+use borrow.Author.Tests.{eq-eqb}
+use Rattle.rules.specs.Limits.{any}
+use Rattle.rules.specs.Sheet.{Sheet, op, rank-of, inbox-total, is-send, is-receive, is-wait}
+use Rattle.rules.specs.Job.{Job, place-at}
+use Rattle.rules.specs.Step.{able, step, next-op, in-waiting-half, fits-with}
+use Rattle.rules.specs.Claims.{is-any-source}
+use Rattle.laws.specs.Tests.{and-both}
+use Rattle.promises.specs.Statements.{Harmless}
+use Rattle.invariant.specs.sheet.Valid.{Good}
+use Rattle.invariant.specs.deliveries.Assumed.{Ground}
+use Rattle.invariant.specs.sheet.Kinds.{send-no-wait, fit-source}
+use Rattle.invariant.specs.Invariant.{Entered, reach, Reached, Extended}
+use Rattle.invariant.specs.matching.Monotone.{Same-order}
+use Rattle.invariant.specs.step.Places.{Next, Moved, able-next}
+use Rattle.invariant.specs.preserve.Step.{step-sound}
+use Rattle.promises.specs.compare.ArrivalGrowth.{Grew, grew-step, grew-both, grew-same, grew-order}
+use Rattle.invariant.specs.step.Position.{position}
+use Rattle.promises.specs.compare.Behind.{Behind, still-able, places-entered}
+use Rattle.promises.specs.compare.AfterStep.{After, goes-on, halts, step-after, step-counted, finishing, moved-position-other, position-next, position-moved, position-further, stop-stays}
+use Rattle.promises.specs.compare.SamePositions.{Like}
+
+-- A STEP of p, after which the job goes on
+module _ {s : Sheet} (g : Good s) (A : Ground s) {lent : List ℕ} (room : inbox-total s ≤ length lent) {x : Job}
+    (X : Reached s lent x)
+    (p : ℕ) (a : able s x p ≡ true) (going : step s p x .stop ≡ none) where
+  abbrev pub E : Extended X (step s p x) (next-op s x p)
+  E = step-sound g A room X p a
+
+  pub step-moved : Moved x (step s p x) p (finishing s x p)
+  step-moved = go (step-after g X p a)
+    where
+      go : After s x (step s p x) p → Moved x (step s p x) p (finishing s x p)
+      go (goes-on e m) = m
+      go (halts t e q k) = absurd (let z : _≡_ {A = ℕ} 0 1 = cc in omega arith)
+
+  -- the job is behind itself after the step
+  step-ahead : Behind X (E .reached)
+  step-ahead =
+      record {
+        places = λ r l. ahead r (ℕ-discrete r p);
+        order = grew-same (grew-step E);
+      }
+    where
+      ahead : (r : ℕ) → Dec (r ≡ p) → position x r ≤ position (step s p x) r
+      ahead r (yes e) = subst (λ (z : ℕ). position x z ≤ position (step s p x) z) (sym e) (omega (arith, position-further s step-moved))
+      ahead r (no d) = omega (arith, moved-position-other step-moved r d)
+
+  -- a board that was able and did not step is able still
+  pub swap-able : (q : ℕ) → q ≢ p → able s x q ≡ true → able s (step s p x) q ≡ true
+  swap-able q d b = still-able g X (E .reached) step-ahead q (sym (moved-position-other step-moved q d)) b going
+
+-- BOTH STEPS, in both orders
+module _ {s : Sheet} (g : Good s) (A : Ground s) {lent : List ℕ} (room : inbox-total s ≤ length lent) {x : Job}
+    (X : Reached s lent x)
+    (p q : ℕ) (d : p ≢ q) (a : able s x p ≡ true) (b : able s x q ≡ true) (H : Harmless s x p q) where
+  -- a step after which the next one does not stop the job did not stop it
+  went-on : (r k : ℕ) → able s x r ≡ true → step s k (step s r x) .stop ≡ none → step s r x .stop ≡ none
+  went-on r k c e = go (step-after g X r c)
+    where
+      go : After s x (step s r x) r → step s r x .stop ≡ none
+      go (goes-on h m) = h
+      go (halts t h m n) = absurd (stop-stays s k (step s r x) t h e)
+
+  going-p : step s p x .stop ≡ none
+  going-p = went-on p q a (H .goes-on)
+
+  going-q : step s q x .stop ≡ none
+  going-q = went-on q p b (H .goes-on-swapped)
+
+  pub able-q : able s (step s p x) q ≡ true
+  able-q = swap-able g A room X p a going-p q (λ e. d (sym e)) b
+
+  pub able-p : able s (step s q x) p ≡ true
+  able-p = swap-able g A room X q b going-q p d a
+
+  abbrev EP : Extended X (step s p x) (next-op s x p)
+  EP = step-sound g A room X p a
+
+  abbrev EQ : Extended X (step s q x) (next-op s x q)
+  EQ = step-sound g A room X q b
+
+  abbrev pub EPQ : Extended (EP .reached) (step s q (step s p x)) (next-op s (step s p x) q)
+  EPQ = step-sound g A room (EP .reached) q able-q
+
+  abbrev pub EQP : Extended (EQ .reached) (step s p (step s q x)) (next-op s (step s q x) p)
+  EQP = step-sound g A room (EQ .reached) p able-p
+
+  MP : Moved x (step s p x) p (finishing s x p)
+  MP = step-moved g A room X p a going-p
+
+  MQ : Moved x (step s q x) q (finishing s x q)
+  MQ = step-moved g A room X q b going-q
+
+  MPQ : Moved (step s p x) (step s q (step s p x)) q (finishing s (step s p x) q)
+  MPQ = step-moved g A room (EP .reached) q able-q (H .goes-on)
+
+  MQP : Moved (step s q x) (step s p (step s q x)) p (finishing s (step s q x) p)
+  MQP = step-moved g A room (EQ .reached) p able-p (H .goes-on-swapped)
+
+  -- the board that steps second stands where it stood
+  second-q : position x q ≡ position (step s p x) q
+  second-q = sym (moved-position-other MP q (λ e. d (sym e)))
+
+  second-p : position x p ≡ position (step s q x) p
+  second-p = sym (moved-position-other MQ p d)
+
+  swap-places : (r : ℕ) → position (step s q (step s p x)) r ≡ position (step s p (step s q x)) r
+  swap-places r = go (ℕ-discrete r p) (ℕ-discrete r q)
+    where
+      go : Dec (r ≡ p) → Dec (r ≡ q) → position (step s q (step s p x)) r ≡ position (step s p (step s q x)) r
+      go (yes e) _ =
+          subst (λ (z : ℕ). position (step s q (step s p x)) z ≡ position (step s p (step s q x)) z) (sym e)
+          (moved-position-other MPQ p d ∙ position-moved s x (step s q x) p second-p MP MQP)
+      go (no c) (yes e) =
+          subst (λ (z : ℕ). position (step s q (step s p x)) z ≡ position (step s p (step s q x)) z) (sym e)
+          (sym (moved-position-other MQP q (λ h. d (sym h)) ∙ position-moved s x (step s p x) q second-q MQ MPQ))
+      go (no c) (no h) =
+          moved-position-other MPQ r h ∙ moved-position-other MP r c
+          ∙ sym (moved-position-other MQP r c ∙ moved-position-other MQ r h)
+
+  -- what entered is the one operation or the other
+  entered-since : (k : ℕ) → Entered (step s q (step s p x)) k → (Entered x k → ⊥) → (k ≡ next-op s x p) ⊎ (k ≡ next-op s x q)
+  entered-since k h out = go (ℕ-discrete k (next-op s x p)) (ℕ-discrete k (next-op s x q))
+    where
+      go : Dec (k ≡ next-op s x p) → Dec (k ≡ next-op s x q) → (k ≡ next-op s x p) ⊎ (k ≡ next-op s x q)
+      go (yes e) _ = inl e
+      go (no c) (yes e) = inr e
+      go (no c) (no e) = absurd (out (EP .back k c (EPQ .back k (λ f. e (f ∙ sym (position-next s x (step s p x) q second-q))) h)))
+
+  -- a board whose next operation is a send that is not entered is in no waiting half
+  in-no-half : (r k : ℕ) → able s x r ≡ true → k ≡ next-op s x r → is-send (op s k) ≡ true → (Entered x k → ⊥) →
+      in-waiting-half s x r ≡ false
+  unfolding in-waiting-half reach
+  in-no-half r k c e sends out = go (place-at x r .waiting) refl
+    where
+      n : Next s x r
+      n = able-next s g x r c
+
+      go : (w : Bool) → place-at x r .waiting ≡ w → w || is-wait (op s (next-op s x r)) ≡ false
+      go false h = ap (λ (z : ℕ). is-wait (op s z)) (sym e) ∙ send-no-wait (op s k) sends
+      go true h =
+          absurd
+          (out
+          (subst (λ (z : ℕ). Entered x z) (sym e)
+          (X .placed .entered-if (next-op s x r) (n .inside)
+          (omega (arith, ap (λ (z : ℕ). reach s x z) (n .ranked), ap (λ (w : Bool). next-op s x r + cond w 1 0) h)))))
+
+  -- the two messages do not meet in one receive
+  no-meeting : (k m r : ℕ) → k ≡ next-op s x p → m ≡ next-op s x q → is-send (op s k) ≡ true → is-send (op s m) ≡ true →
+      is-receive (op s r) ≡ true →
+      fits-with s k r ≡ true → fits-with s m r ≡ true → (Entered x k → ⊥) → (Entered x m → ⊥) → ⊥
+  unfolding is-any-source
+  no-meeting k m r ek em sk sm rr fk fm out gone = go (fit-source s k r fk) (fit-source s m r fm)
+    where
+      rank-k : rank-of s k ≡ p
+      rank-k = ap (λ (z : ℕ). rank-of s z) ek ∙ able-next s g x p a .ranked
+
+      rank-m : rank-of s m ≡ q
+      rank-m = ap (λ (z : ℕ). rank-of s z) em ∙ able-next s g x q b .ranked
+
+      race : op s r .peer ≡ any → ⊥
+      race e =
+          H .no-race r (in-no-half p k a ek sk out) (in-no-half q m b em sm gone) (ap (λ (z : ℕ). is-send (op s z)) (sym ek) ∙ sk)
+          (ap (λ (z : ℕ). is-send (op s z)) (sym em) ∙ sm) (and-both rr (eq-eqb (op s r .peer) any e))
+          (ap (λ (z : ℕ). fits-with s z r) (sym ek) ∙ fk) (ap (λ (z : ℕ). fits-with s z r) (sym em) ∙ fm)
+
+      go : (op s r .peer ≡ any) ⊎ (op s r .peer ≡ rank-of s k) → (op s r .peer ≡ any) ⊎ (op s r .peer ≡ rank-of s m) → ⊥
+      go (inl e) _ = race e
+      go (inr e) (inl f) = race f
+      go (inr e) (inr f) = d (sym rank-k ∙ sym e ∙ f ∙ rank-m)
+
+  no-meetings : (k m r : ℕ) → is-send (op s k) ≡ true → is-send (op s m) ≡ true → is-receive (op s r) ≡ true →
+      fits-with s k r ≡ true → fits-with s m r ≡ true →
+      Entered (step s q (step s p x)) k → Entered (step s q (step s p x)) m → (Entered x k → ⊥) → (Entered x m → ⊥) → k ≢ m → ⊥
+  no-meetings k m r sk sm rr fk fm hk hm out gone c = go (entered-since k hk out) (entered-since m hm gone)
+    where
+      go : (k ≡ next-op s x p) ⊎ (k ≡ next-op s x q) → (m ≡ next-op s x p) ⊎ (m ≡ next-op s x q) → ⊥
+      go (inl e) (inl f) = c (e ∙ sym f)
+      go (inl e) (inr f) = no-meeting k m r e f sk sm rr fk fm out gone
+      go (inr e) (inl f) = no-meeting m k r f e sm sk rr fm fk gone out
+      go (inr e) (inr f) = c (e ∙ sym f)
+
+  pub swap-like : Like (EPQ .reached) (EQP .reached)
+  swap-like =
+      record {
+        stop = H .goes-on ∙ sym (H .goes-on-swapped);
+        steps =
+            step-counted g (EP .reached) q able-q ∙ ap suc (step-counted g X p a)
+            ∙ sym (step-counted g (EQ .reached) p able-p ∙ ap suc (step-counted g X q b));
+        places = λ r l. swap-places r;
+        order =
+            grew-order grew-pq grew-qp (λ k h. h) (λ k h. h) back same
+            (λ k m r sk sm rr fk fm hk hm. no-meetings k m r sk sm rr fk fm (back k hk) hm);
+        order-back =
+            grew-order grew-qp grew-pq (λ k h. h) (λ k h. h) on same
+            (λ k m r sk sm rr fk fm hk hm. no-meetings k m r sk sm rr fk fm hk (back m hm));
+      }
+    where
+      grew-pq : Grew X (EPQ .reached)
+      grew-pq = grew-both (grew-step EP) (grew-step EPQ)
+
+      grew-qp : Grew X (EQP .reached)
+      grew-qp = grew-both (grew-step EQ) (grew-step EQP)
+
+      same : Same-order s (X .came) x (X .came) x
+      same k m r sk sm rr fk fm hm hk l = (hk, l)
+
+      on : (k : ℕ) → Entered (step s q (step s p x)) k → Entered (step s p (step s q x)) k
+      on = places-entered g (EPQ .reached .placed) (EQP .reached .placed) (λ r l. omega (arith, swap-places r))
+
+      back : (k : ℕ) → Entered (step s p (step s q x)) k → Entered (step s q (step s p x)) k
+      back = places-entered g (EQP .reached .placed) (EPQ .reached .placed) (λ r l. omega (arith, swap-places r))

@@ -1,0 +1,96 @@
+-- Like jobs are followed alike: refused at the same index, and like where they were left. And how follow goes over an order
+-- that is joined of two.
+--   like-follow       a whole order
+--   follow-join       an accepted beginning, and then the rest
+--   follow-two        two steps that are able
+-- Assumes nothing.
+use mathlib.Core.Path.{_≡_, refl, sym, ap, _∙_}
+use mathlib.Core.Bool.{Bool, true, false, cond}
+use mathlib.Core.List.{List, [], _∷_, _++_}
+use mathlib.Core.Option.{some}
+use Prim.Native.Nat.{ℕ, suc, _+_, _≤_}
+use native.Mathlib.Omega.{arith}
+use lib.ListN.{length}
+use Rattle.rules.specs.Sheet.{Sheet, inbox-total}
+use Rattle.rules.specs.Job.{Job, started}
+use Rattle.rules.specs.Step.{able, step, is-none}
+use Rattle.rules.specs.Order.{Followed, followed, follow-from, follow}
+use Rattle.rules.specs.Claims.{accepts, left-by}
+use Rattle.laws.specs.Tests.{true-not-false}
+use Rattle.invariant.specs.sheet.Valid.{Good}
+use Rattle.invariant.specs.deliveries.Assumed.{Ground}
+use Rattle.invariant.specs.Invariant.{Reached}
+use Rattle.promises.specs.compare.SamePositions.{Like, like-able, like-step}
+
+pub record Left-like (s : Sheet) (i j : List ℕ) (a b : Followed) : Type 0 where
+  pub refused : a .refused-at ≡ b .refused-at
+  pub reached-x : Reached s i (a .left)
+  pub reached-y : Reached s j (b .left)
+  pub like : Like reached-x reached-y
+
+pub like-follow : {s : Sheet} → Good s → Ground s → {i j : List ℕ} → inbox-total s ≤ length i → inbox-total s ≤ length j →
+    (k : ℕ) (rs : List ℕ) →
+    {x y : Job} {X : Reached s i x} {Y : Reached s j y} → Like X Y → Left-like s i j (follow-from k s rs x) (follow-from k s rs y)
+unfolding follow-from followed
+like-follow g A room-x room-y k [] {x} {y} {X} {Y} K =
+    record {
+      refused = refl;
+      reached-x = X;
+      reached-y = Y;
+      like = K;
+    }
+like-follow {s} g A {i} {j} room-x room-y k (r ∷ rs) {x} {y} {X} {Y} K =
+    go (able s x r) refl (able s y r) refl (λ a b. like-follow g A room-x room-y (suc k) rs (like-step g K A room-x room-y r a b))
+  where
+    go : (a : Bool) → able s x r ≡ a → (b : Bool) → able s y r ≡ b →
+        (able s x r ≡ true → able s y r ≡ true →
+        Left-like s i j (follow-from (suc k) s rs (step s r x)) (follow-from (suc k) s rs (step s r y))) →
+        Left-like s i j (cond a (follow-from (suc k) s rs (step s r x)) (followed (some k) x))
+        (cond b (follow-from (suc k) s rs (step s r y)) (followed (some k) y))
+    go true e true f rest = rest e f
+    go true e false f rest = true-not-false (sym (like-able g K r) ∙ e) f
+    go false e true f rest = true-not-false (like-able g K r ∙ f) e
+    go false e false f rest =
+        record {
+          refused = refl;
+          reached-x = X;
+          reached-y = Y;
+          like = K;
+        }
+
+-- AN ORDER JOINED OF TWO
+pub follow-from-join : (s : Sheet) (k : ℕ) (a b : List ℕ) (x : Job) → is-none (follow-from k s a x .refused-at) ≡ true →
+    follow-from k s (a ++ b) x ≡ follow-from (k + length a) s b (follow-from k s a x .left)
+unfolding follow-from followed is-none
+follow-from-join s k [] b x e = ap (λ (n : ℕ). follow-from n s b x) (omega arith)
+follow-from-join s k (r ∷ rs) b x e = go (able s x r) (λ h. follow-from-join s (suc k) rs b (step s r x) h) e
+  where
+    go : (c : Bool) →
+        (is-none (follow-from (suc k) s rs (step s r x) .refused-at) ≡ true →
+        follow-from (suc k) s (rs ++ b) (step s r x) ≡ follow-from (suc k + length rs) s b
+        (follow-from (suc k) s rs (step s r x) .left)) →
+        is-none (cond c (follow-from (suc k) s rs (step s r x)) (followed (some k) x) .refused-at) ≡ true →
+        cond c (follow-from (suc k) s (rs ++ b) (step s r x)) (followed (some k) x)
+        ≡ follow-from (k + suc (length rs)) s b (cond c (follow-from (suc k) s rs (step s r x)) (followed (some k) x) .left)
+    go true rest h =
+        rest h ∙ ap (λ (n : ℕ). follow-from n s b (follow-from (suc k) s rs (step s r x) .left)) (omega arith)
+    go false rest h = true-not-false h refl
+
+pub follow-join : (s : Sheet) (a b lent : List ℕ) → accepts s a lent ≡ true →
+    follow s (a ++ b) lent ≡ follow-from (length a) s b (left-by s a lent)
+unfolding follow accepts left-by
+follow-join s a b lent e =
+    follow-from-join s 0 a b (started s lent) e
+    ∙ ap (λ (n : ℕ). follow-from n s b (follow-from 0 s a (started s lent) .left)) (omega arith)
+
+pub follow-two : (s : Sheet) (k p q : ℕ) (rs : List ℕ) (x : Job) → able s x p ≡ true → able s (step s p x) q ≡ true →
+    follow-from k s (p ∷ q ∷ rs) x ≡ follow-from (suc (suc k)) s rs (step s q (step s p x))
+unfolding follow-from
+follow-two s k p q rs x a b =
+    ap
+    (λ (c : Bool).
+    cond c
+    (cond (able s (step s p x) q) (follow-from (suc (suc k)) s rs (step s q (step s p x))) (followed (some (suc k)) (step s p x)))
+    (followed (some k) x))
+    a
+    ∙ ap (λ (c : Bool). cond c (follow-from (suc (suc k)) s rs (step s q (step s p x))) (followed (some (suc k)) (step s p x))) b
