@@ -32,7 +32,7 @@ fn run(sheet: &[u8]) {
     crc(b"  order ", &order);
     rooms(&inbox, &report, &scratch);
     if ran.number == 0 {
-        tallies(&report);
+        controls(&report);
         let steps = words::two_at(&report, 4);
         again(sheet, &order, steps);
     }
@@ -64,7 +64,7 @@ fn answer(name: &[u8], number: u64, place: u64) {
 }
 
 // The report's header but P and N.
-fn tallies(report: &[u8])
+fn controls(report: &[u8])
     requires { ⌜ 16 ≤ length (now report) ⌝ }
 {
     field(b"  verdict ", words::byte_at(report, 0) as u64);
@@ -91,6 +91,6 @@ fn rooms(inbox: &[u8], report: &[u8], scratch: &[u8]) {
 
 fn crc(name: &[u8], room: &[u8]) {
     io::write_all(1, name);
-    io::print_hex(1, sheet::crc::crc_of_bytes(room) as u64, 4);
+    io::print_hex(1, crc::crc_of_bytes(room) as u64, 4);
     io::write_all(1, b"\n");
 }

@@ -7,7 +7,7 @@ mod jobs;
 use jobs::job;
 
 fn crc_line(text: &[u8]) {
-    io::print_hex(1, sheet::crc::crc_of_bytes(text) as u64, 4);
+    io::print_hex(1, crc::crc_of_bytes(text) as u64, 4);
     io::write_all(1, b"\n");
 }
 

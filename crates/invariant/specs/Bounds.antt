@@ -12,12 +12,12 @@ use Rattle.rules.specs.Sheet.{Sheet, board, P-of, counts-before, inbox-start}
 use Rattle.rules.specs.Refusal.{board-good}
 use Rattle.rules.specs.Job.{Job, place-at}
 use Rattle.laws.specs.Tests.{and-left, and-right}
-use Rattle.invariant.specs.sheet.Valid.{Good}
+use Rattle.invariant.specs.sheet.Valid.{Valid}
 use Rattle.invariant.specs.Invariant.{Reached}
 use Rattle.invariant.specs.preserve.StepCount.{steps-bound}
 
 -- an attached buffer is small (number 5)
-pub attached-small : {s : Sheet} → Good s → (r : ℕ) → r < P-of s → board s r .attached ≤ most-attached
+pub attached-small : {s : Sheet} → Valid s → (r : ℕ) → r < P-of s → board s r .attached ≤ most-attached
 unfolding board-good
 attached-small {s} g r l =
     let first = eqb (board s r .first) (counts-before s r) in
@@ -26,7 +26,7 @@ attached-small {s} g r l =
     leb-true (board s r .attached) most-attached
     (and-left attached inbox (and-right first (attached && inbox) (g .boards-good r l)))
 
-module _ {s : Sheet} (g : Good s) {lent : List ℕ} {x : Job} (R : Reached s lent x) where
+module _ {s : Sheet} (g : Valid s) {lent : List ℕ} {x : Job} (R : Reached s lent x) where
   pub finished-few : (r : ℕ) → r < P-of s → place-at x r .finished ≤ most-ops
   finished-few r l = omega (arith, R .placed .finished-most r l, g .script-inside r l, g .ops-few)
 

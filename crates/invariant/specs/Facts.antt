@@ -24,7 +24,7 @@ use Rattle.rules.specs.Sheet.{Sheet, op, board, P-of, N-of, rank-of, is-send, i
 use Rattle.rules.specs.Job.{Job, place-at}
 use Rattle.rules.specs.Step.{able, next-op, is-finished, in-waiting-half, fits-with, without}
 use Rattle.laws.specs.Tests.{or-false-left, or-false-right}
-use Rattle.invariant.specs.sheet.Valid.{Good}
+use Rattle.invariant.specs.sheet.Valid.{Valid}
 use Rattle.invariant.specs.sheet.Kinds.{kind-send}
 use Rattle.laws.specs.WaitingLists.{In, Sorted, Holds, holds-less, holds-more, holds-same, without-none}
 use Rattle.invariant.specs.Invariant.{state-at, partner-at, Pending-message, Pending-receive, Reached}
@@ -83,7 +83,7 @@ few-room n i P l h small m out =
     below v (inl p) = small v p
     below v (inr e) = omega arith
 
-module _ {s : Sheet} (g : Good s) {lent : List ℕ} {x : Job} (R : Reached s lent x) where
+module _ {s : Sheet} (g : Valid s) {lent : List ℕ} {x : Job} (R : Reached s lent x) where
   -- THE NEXT OPERATION of a board
   pub able-parts : (r : ℕ) → able s x r ≡ true →
       (x .stop ≡ none) × (r < P-of s) × (is-finished s x r ≡ false) × (place-at x r .finished < board s r .count)

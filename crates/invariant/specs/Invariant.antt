@@ -122,12 +122,12 @@ unfoldable pub charge-in : Sheet → Job → (r j : ℕ) → ℕ
 charge-in s x r j = cond (eqb (rank-of s j) r && eqb (state-at x j) 2) (charge-of (op s j)) 0
 
 -- PAINTED: inboxes with every matched receive among the first n operations delivered, in script order
-unfoldable pub paint : Sheet → Job → (j : ℕ) → List ℕ → List ℕ
-paint s x j bs = cond (is-receive (op s j) && eqb (state-at x j) 3) (delivered s (partner-at x j) j bs) bs
+unfoldable pub replay : Sheet → Job → (j : ℕ) → List ℕ → List ℕ
+replay s x j bs = cond (is-receive (op s j) && eqb (state-at x j) 3) (delivered s (partner-at x j) j bs) bs
 
-unfoldable pub painted : Sheet → Job → (n : ℕ) → List ℕ → List ℕ
-painted s x zero bs = bs
-painted s x (suc j) bs = paint s x j (painted s x j bs)
+unfoldable pub replayed : Sheet → Job → (n : ℕ) → List ℕ → List ℕ
+replayed s x zero bs = bs
+replayed s x (suc j) bs = replay s x j (replayed s x j bs)
 
 -- STEPS that operation j has taken: a blocking send or receive has two, a wait and a nonblocking operation one
 unfoldable pub steps-of : Op → ℕ
@@ -168,7 +168,7 @@ pub record Reached (s : Sheet) (i : List ℕ) (x : Job) : Type 0 where
   -- no board has ever more in use than its attached buffer holds (the engine: they fit two bytes)
   pub peak-attached : (r : ℕ) → r < P-of s → place-at x r .peak ≤ board s r .attached
   -- memory holds the deliveries in script order: time is gone from it (alike, whole or cut)
-  pub memory-painted : x .memory ≡ painted s x (N-of s) i
+  pub memory-replayed : x .memory ≡ replayed s x (N-of s) i
   pub memory-long : length (x .memory) ≡ length i
   -- steps taken, a stopping one included (Ends-alike; Run-ends: it is at most 2N)
   pub steps-sum : x .steps ≡ sum-below (N-of s) (steps-done s x) + cond (is-none (x .stop)) 0 1

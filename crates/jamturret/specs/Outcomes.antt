@@ -15,11 +15,11 @@ use Rattle.rules.specs.Job.{Job}
 use Rattle.rules.specs.Refusal.{Refusal, refusal, accepted, or-else, sheet-refusal}
 use Rattle.rules.specs.Order.{Followed, followed, follow, Ran, ran, run}
 use Rattle.rules.specs.Report.{report}
-use Rattle.rules.specs.Service.{told, room-refusal, order-refusal, in-front, kept-or, scratch-left, Check-says, follow-refusal, Follow-says, run-refusal, Run-says}
+use Rattle.rules.specs.Service.{answers, room-refusal, order-refusal, in-front, kept-or, scratch-left, Check-says, follow-refusal, Follow-says, run-refusal, Run-says}
 use Rattle.laws.specs.Tests.{cond-true, cond-false}
 use Rattle.laws.specs.Laid.{Laid}
 use Rattle.laws.specs.Decoded.{N-decoded}
-use Rattle.invariant.specs.sheet.Valid.{Good}
+use Rattle.invariant.specs.sheet.Valid.{Valid}
 use Rattle.invariant.specs.sheet.FromBytes.{unrefused-accepted, accepted-laid, good-from-accepted}
 use Rattle.jamturret.specs.Rooms.{sheet-most, room-most}
 
@@ -28,7 +28,7 @@ unfoldable pub Follow-does : (sheet order : List ℕ) → (number place : ℕ) �
 Follow-does bs o n p i i-now r r-now c c-now =
     let y = follow (sheet-in bs) o i in
     let f = order-refusal (y .refused-at) in
-    told f n p
+    answers f n p
     × (i-now ≡ kept-or (f .number) (y .left .memory) i)
     × (r-now ≡ kept-or (f .number) (in-front (report (sheet-in bs) (y .left)) r) r)
     × (c-now ≡ replicate (length c) 0)
@@ -61,11 +61,11 @@ or-else-behind : (a b : Refusal) → a .number ≡ 0 → or-else a b ≡ b
 unfolding or-else
 or-else-behind a b h = cond-true (eqb (a .number) 0) b a (eq-eqb (a .number) 0 h)
 
-told-of : (f g : Refusal) (n p : ℕ) → g ≡ f → told f n p → told g n p
-told-of f g n p e t = subst (λ (h : Refusal). told h n p) (sym e) t
+told-of : (f g : Refusal) (n p : ℕ) → g ≡ f → answers f n p → answers g n p
+told-of f g n p e t = subst (λ (h : Refusal). answers h n p) (sym e) t
 
-pub number-of : (f : Refusal) (n p : ℕ) → told f n p → n ≡ f .number
-unfolding told
+pub number-of : (f : Refusal) (n p : ℕ) → answers f n p → n ≡ f .number
+unfolding answers
 number-of f n p t = t .0
 
 module _ (bs o i r c : List ℕ) where
@@ -75,7 +75,7 @@ module _ (bs o i r c : List ℕ) where
   abbrev whole : Refusal
   whole = follow-refusal bs o i (length r) (length c)
 
-  refused-as : (f : Refusal) (n p : ℕ) → whole ≡ f → f .number ≤ 8 → told f n p → (n ≡ 0 → ⊥) → Follow-says bs o n p i i r r c c
+  refused-as : (f : Refusal) (n p : ℕ) → whole ≡ f → f .number ≤ 8 → answers f n p → (n ≡ 0 → ⊥) → Follow-says bs o n p i i r r c c
   unfolding Follow-says
   refused-as f n p e l t h =
       let same = number-of f n p t in
@@ -87,7 +87,7 @@ module _ (bs o i r c : List ℕ) where
       )
 
   -- the sheet is refused
-  pub follow-sheet : (n p : ℕ) → told (sheet-refusal bs) n p → (n ≡ 0 → ⊥) → Follow-says bs o n p i i r r c c
+  pub follow-sheet : (n p : ℕ) → answers (sheet-refusal bs) n p → (n ≡ 0 → ⊥) → Follow-says bs o n p i i r r c c
   unfolding follow-refusal
   follow-sheet n p t h =
       refused-as (sheet-refusal bs) n p
@@ -95,7 +95,7 @@ module _ (bs o i r c : List ℕ) where
       (omega (arith, sheet-most bs)) t h
 
   -- a room is short
-  pub follow-rooms : sheet-refusal bs .number ≡ 0 → (n p : ℕ) → told rooms n p → (n ≡ 0 → ⊥) → Follow-says bs o n p i i r r c c
+  pub follow-rooms : sheet-refusal bs .number ≡ 0 → (n p : ℕ) → answers rooms n p → (n ≡ 0 → ⊥) → Follow-says bs o n p i i r r c c
   unfolding follow-refusal
   follow-rooms s n p t h =
       refused-as rooms n p
@@ -128,7 +128,7 @@ module _ (bs i r o c : List ℕ) where
   abbrev run-whole : Refusal
   run-whole = run-refusal bs (length i) (length r) (length o) (length c)
 
-  run-refused-as : (f : Refusal) (n p : ℕ) → run-whole ≡ f → f .number ≤ 8 → told f n p → (n ≡ 0 → ⊥) → Run-says bs n p i i r r o o c c
+  run-refused-as : (f : Refusal) (n p : ℕ) → run-whole ≡ f → f .number ≤ 8 → answers f n p → (n ≡ 0 → ⊥) → Run-says bs n p i i r r o o c c
   unfolding Run-says
   run-refused-as f n p e l t h =
       let same = number-of f n p t in
@@ -140,18 +140,18 @@ module _ (bs i r o c : List ℕ) where
         scratch-old (run-whole .number) c no-0 (subst (λ (g : Refusal). g .number ≤ 8) (sym e) l),
       )
 
-  pub run-sheet : (n p : ℕ) → told (sheet-refusal bs) n p → (n ≡ 0 → ⊥) → Run-says bs n p i i r r o o c c
+  pub run-sheet : (n p : ℕ) → answers (sheet-refusal bs) n p → (n ≡ 0 → ⊥) → Run-says bs n p i i r r o o c c
   unfolding run-refusal
   run-sheet n p t h =
       run-refused-as (sheet-refusal bs) n p (or-else-here (sheet-refusal bs) run-rooms (λ z. h (number-of (sheet-refusal bs) n p t ∙ z))) (omega (arith, sheet-most bs)) t h
 
-  pub run-short : sheet-refusal bs .number ≡ 0 → (n p : ℕ) → told run-rooms n p → (n ≡ 0 → ⊥) → Run-says bs n p i i r r o o c c
+  pub run-short : sheet-refusal bs .number ≡ 0 → (n p : ℕ) → answers run-rooms n p → (n ≡ 0 → ⊥) → Run-says bs n p i i r r o o c c
   unfolding run-refusal
   run-short s n p t h =
       run-refused-as run-rooms n p (or-else-behind (sheet-refusal bs) run-rooms s) (room-most (sheet-in bs) (length i) (length r) (length o) (length c)) t h
 
-  pub run-done : sheet-refusal bs .number ≡ 0 → run-rooms .number ≡ 0 → (n p : ℕ) → told run-rooms 0 0 → (i-now r-now o-now c-now : List ℕ) → Run-does bs n p i i-now r r-now o o-now c c-now → Run-says bs n p i i-now r r-now o o-now c c-now
-  unfolding Run-says Run-does run-refusal told
+  pub run-done : sheet-refusal bs .number ≡ 0 → run-rooms .number ≡ 0 → (n p : ℕ) → answers run-rooms 0 0 → (i-now r-now o-now c-now : List ℕ) → Run-does bs n p i i-now r r-now o o-now c c-now → Run-says bs n p i i-now r r-now o o-now c c-now
+  unfolding Run-says Run-does run-refusal answers
   run-done s z n p t i-now r-now o-now c-now h =
       let e : run-whole ≡ run-rooms = or-else-behind (sheet-refusal bs) run-rooms s in
       let number : run-whole .number ≡ 0 = ap (λ (g : Refusal). g .number) e ∙ z in
@@ -171,11 +171,11 @@ module _ (bs i r o c : List ℕ) where
 
 -- FROM WHAT WAS DONE
 pub does-refused : (bs o i r c c-now : List ℕ) (k : ℕ) (x : Job) → follow (sheet-in bs) o i ≡ followed (some k) x → c-now ≡ replicate (length c) 0 → Follow-does bs o 9 k i i r r c c-now
-unfolding Follow-does followed order-refusal refusal told kept-or
+unfolding Follow-does followed order-refusal refusal answers kept-or
 does-refused bs o i r c c-now k x e z = rw e ((refl, refl), refl, refl, z)
 
 pub does-followed : (bs o i i-now r r-now c c-now : List ℕ) (x : Job) → follow (sheet-in bs) o i ≡ followed none x → i-now ≡ x .memory → r-now ≡ in-front (report (sheet-in bs) x) r → c-now ≡ replicate (length c) 0 → Follow-does bs o 0 0 i i-now r r-now c c-now
-unfolding Follow-does followed order-refusal refusal told kept-or
+unfolding Follow-does followed order-refusal refusal answers kept-or
 does-followed bs o i i-now r r-now c c-now x e a b z = rw e ((refl, refl), a, b, z)
 
 pub does-run : (bs i i-now r r-now o o-now c c-now taken : List ℕ) (x : Job) → run (sheet-in bs) i ≡ ran taken x → i-now ≡ x .memory → r-now ≡ in-front (report (sheet-in bs) x) r → o-now ≡ in-front taken o → c-now ≡ replicate (length c) 0 → Run-does bs 0 0 i i-now r r-now o o-now c c-now
@@ -183,14 +183,14 @@ unfolding Run-does ran
 does-run bs i i-now r r-now o o-now c c-now taken x e a b d z = rw e (refl, refl, a, b, d, z)
 
 -- check's answer, and what an accepting one has settled
-pub check-told : (bs : List ℕ) (n p : ℕ) → Check-says bs n p → told (sheet-refusal bs) n p
+pub check-told : (bs : List ℕ) (n p : ℕ) → Check-says bs n p → answers (sheet-refusal bs) n p
 unfolding Check-says
 check-told bs n p h = h
 
 pub record Settled (bs : List ℕ) : Type 0 where
   pub unrefused : sheet-refusal bs .number ≡ 0
   pub laid : Laid bs
-  pub good : Good (sheet-in bs)
+  pub good : Valid (sheet-in bs)
 
 pub settled : (bs : List ℕ) (n p : ℕ) → Check-says bs n p → n ≡ 0 → Settled bs
 settled bs n p h z =
@@ -203,5 +203,5 @@ settled bs n p h z =
     }
 
 -- follow's order has its room
-pub rooms-as : (bs : List ℕ) (i r k c n p : ℕ) → k ≡ N-in bs → told (room-refusal (sheet-in bs) i r (2 * k) c) n p → told (room-refusal (sheet-in bs) i r (order-room (N-of (sheet-in bs))) c) n p
-rooms-as bs i r k c n p e t = subst (λ (m : ℕ). told (room-refusal (sheet-in bs) i r (2 * m) c) n p) (e ∙ sym (N-decoded bs)) t
+pub rooms-as : (bs : List ℕ) (i r k c n p : ℕ) → k ≡ N-in bs → answers (room-refusal (sheet-in bs) i r (2 * k) c) n p → answers (room-refusal (sheet-in bs) i r (order-room (N-of (sheet-in bs))) c) n p
+rooms-as bs i r k c n p e t = subst (λ (m : ℕ). answers (room-refusal (sheet-in bs) i r (2 * m) c) n p) (e ∙ sym (N-decoded bs)) t

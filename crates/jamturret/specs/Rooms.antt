@@ -11,7 +11,7 @@ use borrow.Author.Tests.{lt-ltb, le-ltb, ltb-false}
 use Rattle.rules.specs.Limits.{report-size, order-room, scratch-size}
 use Rattle.rules.specs.Sheet.{Sheet, sheet-in, P-of, N-of, counts-before, inbox-start, inbox-total}
 use Rattle.rules.specs.Refusal.{Refusal, refusal, accepted, or-else, first-broken, board-good, boards-refusal, ops-refusal, requests-refusal, tables-refusal, sizes-good, layout-good, crc-good, sheet-refusal}
-use Rattle.rules.specs.Service.{told, room-refusal}
+use Rattle.rules.specs.Service.{answers, room-refusal}
 
 -- NUMBERS that a refusal can have
 broken-most : (n m : ℕ) (f : ℕ → Bool) (left i : ℕ) → n ≤ m → first-broken n f left i .number ≤ m
@@ -59,18 +59,18 @@ module _ (s : Sheet) (i r o c : ℕ) where
       (cond-most 8 (ltb o (order-room (N-of s))) (refusal 8 3) _ (omega arith)
       (cond-most 8 (ltb c scratch-size) (refusal 8 4) accepted (omega arith) (omega arith))))
 
-  pub short-inbox : i < inbox-total s → told (room-refusal s i r o c) 8 1
-  unfolding told room-refusal refusal
+  pub short-inbox : i < inbox-total s → answers (room-refusal s i r o c) 8 1
+  unfolding answers room-refusal refusal
   short-inbox h = let a = lt-ltb i (inbox-total s) h in rw a (refl, refl)
 
   module _ (inbox : inbox-total s ≤ i) where
-    pub short-report : r < report-size (P-of s) (N-of s) → told (room-refusal s i r o c) 8 2
-    unfolding told room-refusal refusal
+    pub short-report : r < report-size (P-of s) (N-of s) → answers (room-refusal s i r o c) 8 2
+    unfolding answers room-refusal refusal
     short-report h = let a = le-ltb i (inbox-total s) inbox in let b = lt-ltb r (report-size (P-of s) (N-of s)) h in rw (a, b) (refl, refl)
 
     module _ (report : report-size (P-of s) (N-of s) ≤ r) where
-      pub short-order : o < order-room (N-of s) → told (room-refusal s i r o c) 8 3
-      unfolding told room-refusal refusal
+      pub short-order : o < order-room (N-of s) → answers (room-refusal s i r o c) 8 3
+      unfolding answers room-refusal refusal
       short-order h =
           let a = le-ltb i (inbox-total s) inbox in
           let b = le-ltb r (report-size (P-of s) (N-of s)) report in
@@ -78,8 +78,8 @@ module _ (s : Sheet) (i r o c : ℕ) where
           rw (a, b, d) (refl, refl)
 
       module _ (order : order-room (N-of s) ≤ o) where
-        pub short-scratch : c < scratch-size → told (room-refusal s i r o c) 8 4
-        unfolding told room-refusal refusal
+        pub short-scratch : c < scratch-size → answers (room-refusal s i r o c) 8 4
+        unfolding answers room-refusal refusal
         short-scratch h =
             let a = le-ltb i (inbox-total s) inbox in
             let b = le-ltb r (report-size (P-of s) (N-of s)) report in
@@ -87,8 +87,8 @@ module _ (s : Sheet) (i r o c : ℕ) where
             let e = lt-ltb c scratch-size h in
             rw (a, b, d, e) (refl, refl)
 
-        pub rooms-enough : scratch-size ≤ c → told (room-refusal s i r o c) 0 0
-        unfolding told room-refusal refusal
+        pub rooms-enough : scratch-size ≤ c → answers (room-refusal s i r o c) 0 0
+        unfolding answers room-refusal refusal
         rooms-enough h =
             let a = le-ltb i (inbox-total s) inbox in
             let b = le-ltb r (report-size (P-of s) (N-of s)) report in

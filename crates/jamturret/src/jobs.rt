@@ -5,11 +5,9 @@ ghost use lib.ListN.{length};
 ghost use Rattle.rules.specs.Limits.{order-room};
 ghost use Rattle.rules.specs.Sheet.{sheet-in, N-of};
 ghost use Rattle.laws.specs.Laid.{Laid};
-ghost use Rattle.invariant.specs.sheet.Valid.{Good};
+ghost use Rattle.invariant.specs.sheet.Valid.{Valid};
 ghost use Rattle.jamturret.specs.Rooms.{Roomy};
 ghost use Rattle.jamturret.specs.Outcomes.{Follow-does, Run-does};
-use engine::deliveries;
-use engine::report;
 use orders::follow;
 use orders::run;
 use sheet::Answer;
@@ -21,7 +19,7 @@ pub fn follow(
     out: &mut [u8],
     scratch: &mut [u8],
 ) -> Answer
-    requires { ⌜ Laid (now sheet) × Good (sheet-in (now sheet)) × Roomy (sheet-in (now sheet)) (length (now inbox)) (length (now out)) (order-room (N-of (sheet-in (now sheet)))) (length (now scratch)) ⌝ }
+    requires { ⌜ Laid (now sheet) × Valid (sheet-in (now sheet)) × Roomy (sheet-in (now sheet)) (length (now inbox)) (length (now out)) (order-room (N-of (sheet-in (now sheet)))) (length (now scratch)) ⌝ }
     ensures { λ a. ⌜ Follow-does (now (sheet .entry)) (now (order .entry)) (a .number) (a .place) (now (inbox .entry)) (now (inbox .exit)) (now (out .entry)) (now (out .exit)) (now (scratch .entry)) (now (scratch .exit)) ⌝ }
 {
     let walk = follow::follow(sheet, order, scratch);
@@ -32,9 +30,9 @@ pub fn follow(
             place: walk.at as u64,
         };
     }
-    let tally = walk.tally;
+    let control = walk.control;
     deliveries::deliver(sheet, scratch, inbox);
-    report::write(sheet, scratch, tally, out);
+    report::write(sheet, scratch, control, out);
     words::zero(scratch);
     Answer {
         number: 0,
@@ -49,12 +47,12 @@ pub fn run(
     order: &mut [u8],
     scratch: &mut [u8],
 ) -> Answer
-    requires { ⌜ Laid (now sheet) × Good (sheet-in (now sheet)) × Roomy (sheet-in (now sheet)) (length (now inbox)) (length (now out)) (length (now order)) (length (now scratch)) ⌝ }
+    requires { ⌜ Laid (now sheet) × Valid (sheet-in (now sheet)) × Roomy (sheet-in (now sheet)) (length (now inbox)) (length (now out)) (length (now order)) (length (now scratch)) ⌝ }
     ensures { λ a. ⌜ Run-does (now (sheet .entry)) (a .number) (a .place) (now (inbox .entry)) (now (inbox .exit)) (now (out .entry)) (now (out .exit)) (now (order .entry)) (now (order .exit)) (now (scratch .entry)) (now (scratch .exit)) ⌝ }
 {
-    let tally = run::run(sheet, scratch, order);
+    let control = run::run(sheet, scratch, order);
     deliveries::deliver(sheet, scratch, inbox);
-    report::write(sheet, scratch, tally, out);
+    report::write(sheet, scratch, control, out);
     words::zero(scratch);
     Answer {
         number: 0,

@@ -5,8 +5,8 @@ ghost use Rattle.rules.specs.Service.{Check-says, Follow-says, Run-says};
 mod jobs;
 mod rooms;
 
+use refusals::check;
 use sheet::Answer;
-use sheet::check;
 use sheet::header;
 
 // CHECK a sheet: refusals 1 to 7, or number 0 and place 0. Shut out, among others: a check that refuses everything, and one

@@ -1,7 +1,7 @@
 // Refusal 8: the first lent room that is short (document 01, "When the desk says no").
 ghost use mathlib.Core.Path.{_≡_};
 ghost use Rattle.rules.specs.Sheet.{sheet-in, inbox-total};
-ghost use Rattle.rules.specs.Service.{told, room-refusal};
+ghost use Rattle.rules.specs.Service.{answers, room-refusal};
 ghost use Rattle.laws.specs.Laid.{Laid};
 use sheet::Answer;
 use sheet::boards;
@@ -25,7 +25,7 @@ fn inbox_total(s: &[u8]) -> usize
 // Place 1 inbox, 2 report, 3 order out, 4 scratch.
 pub fn refusal(s: &[u8], inbox: usize, report: usize, order: usize, scratch: usize) -> Answer
     requires { ⌜ Laid (now s) ⌝ }
-    ensures { λ a. ⌜ told (room-refusal (sheet-in (now (s .entry))) inbox report order scratch) (a .number) (a .place) ⌝ }
+    ensures { λ a. ⌜ answers (room-refusal (sheet-in (now (s .entry))) inbox report order scratch) (a .number) (a .place) ⌝ }
 {
     let n = header::ops(s);
     if inbox < inbox_total(s) {

@@ -17,11 +17,11 @@ use Rattle.rules.specs.Refusal.{Refusal, or-else, sheet-refusal}
 use Rattle.rules.specs.Step.{splice}
 use Rattle.rules.specs.Order.{run}
 use Rattle.rules.specs.Report.{report}
-use Rattle.rules.specs.Service.{told, room-refusal, in-front, kept-or, run-refusal, Run-says}
+use Rattle.rules.specs.Service.{answers, room-refusal, in-front, kept-or, run-refusal, Run-says}
 use Rattle.laws.specs.Tests.{cond-true, cond-false}
 use Rattle.laws.specs.Laid.{Laid}
 use Rattle.laws.specs.Decoded.{P-decoded, N-decoded}
-use Rattle.invariant.specs.sheet.Valid.{Good}
+use Rattle.invariant.specs.sheet.Valid.{Valid}
 use Rattle.invariant.specs.sheet.FromBytes.{unrefused-accepted, accepted-laid, good-from-accepted}
 use Rattle.invariant.specs.deliveries.Commute.{ground}
 use Rattle.invariant.specs.preserve.Orders.{left-reached}
@@ -46,7 +46,7 @@ Printed bs n p text =
     (n ≡ sheet-refusal bs .number) × ((n ≡ 0 → ⊥) → p ≡ sheet-refusal bs .place) × (n ≡ 0 → text ≡ line-for bs)
 
 -- rooms of these sizes are never short
-never-short : (bs : List ℕ) → sheet-refusal bs .number ≡ 0 → told (room-refusal (sheet-in bs) 16384 12432 2048 32768) 0 0
+never-short : (bs : List ℕ) → sheet-refusal bs .number ≡ 0 → answers (room-refusal (sheet-in bs) 16384 12432 2048 32768) 0 0
 never-short bs e =
     let a = unrefused-accepted bs e in
     let q = accepted-laid bs a in
@@ -55,8 +55,8 @@ never-short bs e =
     rooms-enough (sheet-in bs) 16384 12432 2048 32768 (good-from-accepted bs a .inbox-small) (omega (arith, P-is, N-is, q .few-boards, q .few-ops)) (omega (arith, N-is, q .few-ops)) (omega arith)
 
 -- so that run's refusal is check's
-checks : (bs : List ℕ) (n p : ℕ) → told (run-refusal bs 16384 12432 2048 32768) n p → (n ≡ sheet-refusal bs .number) × ((n ≡ 0 → ⊥) → p ≡ sheet-refusal bs .place)
-unfolding told run-refusal or-else
+checks : (bs : List ℕ) (n p : ℕ) → answers (run-refusal bs 16384 12432 2048 32768) n p → (n ≡ sheet-refusal bs .number) × ((n ≡ 0 → ⊥) → p ≡ sheet-refusal bs .place)
+unfolding answers run-refusal or-else
 checks bs n p t = go (eqb f 0) refl
   where
     f : ℕ
@@ -83,7 +83,7 @@ module _ (bs i i' r r' o o' c c' : List ℕ) (n p : ℕ) (said : Run-says bs n p
   rooms = room-refusal s (length i) (length r) (length o) (length c)
 
   whole-zero : or-else (sheet-refusal bs) rooms .number ≡ 0
-  unfolding Run-says told run-refusal rooms s
+  unfolding Run-says answers run-refusal rooms s
   whole-zero = sym (said .0 .0) ∙ z
 
   unrefused : sheet-refusal bs .number ≡ 0
@@ -103,7 +103,7 @@ module _ (bs i i' r r' o o' c c' : List ℕ) (n p : ℕ) (said : Run-says bs n p
   pub sheet-laid : Laid bs
   sheet-laid = accepted-laid bs (unrefused-accepted bs unrefused)
 
-  good : Good s
+  good : Valid s
   unfolding s
   good = good-from-accepted bs (unrefused-accepted bs unrefused)
 
@@ -113,7 +113,7 @@ module _ (bs i i' r r' o o' c c' : List ℕ) (n p : ℕ) (said : Run-says bs n p
       ∙ left-reached good (ground s good) (enough .inbox) (run s i .order) .placed .entries-long
 
   laid-report : r' ≡ in-front (report s (run s i .end)) r
-  unfolding Run-says told run-refusal kept-or rooms s
+  unfolding Run-says answers run-refusal kept-or rooms s
   laid-report = said .2 ∙ cond-true (eqb (or-else (sheet-refusal bs) rooms .number) 0) (in-front (report s (run s i .end)) r) r (eq-eqb (or-else (sheet-refusal bs) rooms .number) 0 whole-zero)
 
   -- the report's own bytes are the report
@@ -134,13 +134,13 @@ line-front old new k e =
 
 -- THE JUDGE'S OWN CALL, from zeros in every room
 module _ (bs i' r' o' c' : List ℕ) (n p : ℕ) (said : Run-says bs n p (zeros 16384) i' (zeros 12432) r' (zeros 2048) o' (zeros 32768) c') where
-  answered : told (run-refusal bs 16384 12432 2048 32768) n p
+  answered : answers (run-refusal bs 16384 12432 2048 32768) n p
   unfolding Run-says
   answered =
-      subst (λ (k : ℕ). told (run-refusal bs k 12432 2048 32768) n p) (length-replicate {A = ℕ} 16384 0)
-      (subst (λ (k : ℕ). told (run-refusal bs (length (zeros 16384)) k 2048 32768) n p) (length-replicate {A = ℕ} 12432 0)
-      (subst (λ (k : ℕ). told (run-refusal bs (length (zeros 16384)) (length (zeros 12432)) k 32768) n p) (length-replicate {A = ℕ} 2048 0)
-      (subst (λ (k : ℕ). told (run-refusal bs (length (zeros 16384)) (length (zeros 12432)) (length (zeros 2048)) k) n p) (length-replicate {A = ℕ} 32768 0) (said .0))))
+      subst (λ (k : ℕ). answers (run-refusal bs k 12432 2048 32768) n p) (length-replicate {A = ℕ} 16384 0)
+      (subst (λ (k : ℕ). answers (run-refusal bs (length (zeros 16384)) k 2048 32768) n p) (length-replicate {A = ℕ} 12432 0)
+      (subst (λ (k : ℕ). answers (run-refusal bs (length (zeros 16384)) (length (zeros 12432)) k 32768) n p) (length-replicate {A = ℕ} 2048 0)
+      (subst (λ (k : ℕ). answers (run-refusal bs (length (zeros 16384)) (length (zeros 12432)) (length (zeros 2048)) k) n p) (length-replicate {A = ℕ} 32768 0) (said .0))))
 
   pub printed-refusal : (text : List ℕ) → (n ≡ 0 → ⊥) → Printed bs n p text
   unfolding Printed

@@ -21,12 +21,12 @@ fn main() {
 // Prints the report or the refusal.
 fn judge(sheet: &[u8]) {
     let mut line = [0u8; 37296];
-    let told = lay(sheet, &mut line);
-    if told.number != 0 {
-        print_refusal(told.number as u64, told.place);
+    let answers = lay(sheet, &mut line);
+    if answers.number != 0 {
+        print_refusal(answers.number as u64, answers.place);
         return;
     }
-    let size = told.size;
+    let size = answers.size;
     io::write_all(1, &line[..size]);
 }
 

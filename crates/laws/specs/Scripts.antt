@@ -7,23 +7,23 @@ use native.Mathlib.Omega.{arith}
 use native.Mathlib.Numerals.{add-one}
 use Rattle.rules.specs.Sheet.{Sheet, board, P-of, N-of, counts-before}
 use Rattle.rules.specs.Refusal.{Refusal, refusal, accepted, first-broken}
-use Rattle.rules.specs.Service.{told}
+use Rattle.rules.specs.Service.{answers}
 use Rattle.laws.specs.Broken.{broken-none, broken-more, broken-here, broken-part-on, broken-part-here}
 use Rattle.laws.specs.Ranks.{counts-none, script-next, script-before}
 use Rattle.laws.specs.Tabled.{Tabled}
 
 -- an answer, from an equation of refusals
-pub told-is : (f : Refusal) (n p : ℕ) → f ≡ refusal n p → told f n p
-unfolding told refusal
+pub told-is : (f : Refusal) (n p : ℕ) → f ≡ refusal n p → answers f n p
+unfolding answers refusal
 told-is f n p e = (ap (λ (g : Refusal). g .number) (sym e), ap (λ (g : Refusal). g .place) (sym e))
 
 -- and from an answer to an equal one
-pub told-same : (f g : Refusal) (n p : ℕ) → f ≡ g → told g n p → told f n p
-told-same f g n p e t = subst (λ (h : Refusal). told h n p) (sym e) t
+pub told-same : (f g : Refusal) (n p : ℕ) → f ≡ g → answers g n p → answers f n p
+told-same f g n p e t = subst (λ (h : Refusal). answers h n p) (sym e) t
 
-pub told-number : (f : Refusal) (n p : ℕ) → told f n p → n ≡ f .number
-unfolding told
-told-number f n p t = t .0
+pub answers-number : (f : Refusal) (n p : ℕ) → answers f n p → n ≡ f .number
+unfolding answers
+answers-number f n p t = t .0
 
 -- the search over the script of board r alone
 abbrev pub script-broken : (number : ℕ) → (ℕ → Bool) → Sheet → (r : ℕ) → Refusal
@@ -63,12 +63,12 @@ module _ (s : Sheet) (t : Tabled s) (n : ℕ) (f : ℕ → Bool) (h : n ≡ 0 �
       ∙ broken-part-here n f (N-of s) (board s r .first) (board s r .count) h inside q)
 
   -- the same of answers: what a board's script is told is what the whole search is told, or the search goes on
-  pub passed-answer : (r k p : ℕ) → r < P-of s → Passed s n f r → told (script-broken n f s r) k p → (k ≡ 0 → ⊥) → told (first-broken n f (N-of s) 0) k p
+  pub passed-answer : (r k p : ℕ) → r < P-of s → Passed s n f r → answers (script-broken n f s r) k p → (k ≡ 0 → ⊥) → answers (first-broken n f (N-of s) 0) k p
   passed-answer r k p l e a q =
-      told-same (first-broken n f (N-of s) 0) (script-broken n f s r) k p (passed-bad r l e (λ z. q (told-number (script-broken n f s r) k p a ∙ z))) a
+      told-same (first-broken n f (N-of s) 0) (script-broken n f s r) k p (passed-bad r l e (λ z. q (answers-number (script-broken n f s r) k p a ∙ z))) a
 
-  pub passed-on : (r k p : ℕ) → r < P-of s → Passed s n f r → told (script-broken n f s r) k p → k ≡ 0 → Passed s n f (r + 1)
-  passed-on r k p l e a q = passed-more r l e (sym (told-number (script-broken n f s r) k p a) ∙ q)
+  pub passed-on : (r k p : ℕ) → r < P-of s → Passed s n f r → answers (script-broken n f s r) k p → k ≡ 0 → Passed s n f (r + 1)
+  passed-on r k p l e a q = passed-more r l e (sym (answers-number (script-broken n f s r) k p a) ∙ q)
 
   -- behind the last script nothing is refused at all
   pub passed-all : (r : ℕ) → r ≡ P-of s → Passed s n f r → first-broken n f (N-of s) 0 ≡ accepted
@@ -101,8 +101,8 @@ module _ (s : Sheet) (n : ℕ) (f : ℕ → Bool) (r : ℕ) where
         left = q .left ∙ (broken-more n f (end - i) i (omega arith) t ∙ ap (λ (m : ℕ). first-broken n f m (i + 1)) k);
       }
 
-  pub searched-bad : (i end : ℕ) → Searched s n f r i end → i < end → f i ≡ false → told (script-broken n f s r) n i
+  pub searched-bad : (i end : ℕ) → Searched s n f r i end → i < end → f i ≡ false → answers (script-broken n f s r) n i
   searched-bad i end q l t = told-is (script-broken n f s r) n i (q .left ∙ broken-here n f (end - i) i (omega arith) t)
 
-  pub searched-all : (i end : ℕ) → Searched s n f r i end → end ≤ i → told (script-broken n f s r) 0 0
+  pub searched-all : (i end : ℕ) → Searched s n f r i end → end ≤ i → answers (script-broken n f s r) 0 0
   searched-all i end q l = told-is (script-broken n f s r) 0 0 (q .left ∙ broken-none n f (end - i) i (omega arith))

@@ -13,18 +13,18 @@ use Rattle.rules.specs.Job.{Job, started}
 use Rattle.rules.specs.Step.{able, step}
 use Rattle.rules.specs.Order.{Followed, followed, follow-from, follow}
 use Rattle.laws.specs.Tests.{cond-true, cond-false}
-use Rattle.state.specs.declared.Tally.{Tally}
-use Rattle.engine.specs.Stands.{Stands, Standing, Able-there}
+use Rattle.state.specs.declared.Control.{Control}
+use Rattle.simulation.specs.Represents.{Represents, Represented, Represented-able}
 use Rattle.orders.specs.declared.follow.Walk.{Walk}
 
 -- the walk has come to index k with a job that stands in scratch
-pub record Reaches (bs order lent c : List ℕ) (t : Tally) (k : ℕ) : Type 0 where
+pub record Reaches (bs order lent c : List ℕ) (t : Control) (k : ℕ) : Type 0 where
   pub job : Job
-  pub stands : Stands bs lent c t job
+  pub represents : Represents bs lent c t job
   pub left : follow (sheet-in bs) order lent ≡ follow-from k (sheet-in bs) (drop k order) job
 
 -- whatever inboxes are lent
-abbrev pub Reaches-all : (bs order c : List ℕ) → Tally → (k : ℕ) → Type 0
+abbrev pub Reaches-all : (bs order c : List ℕ) → Control → (k : ℕ) → Type 0
 Reaches-all bs order c t k = (lent : List ℕ) → inbox-total (sheet-in bs) ≤ length lent → Reaches bs order lent c t k
 
 -- the answer: the first refused index or none, and the job as the steps before left it
@@ -33,30 +33,30 @@ refused-at w = cond (w .refused) (some (w .at)) none
 
 pub record Follows (bs order lent c : List ℕ) (w : Walk) : Type 0 where
   pub job : Job
-  pub stands : Stands bs lent c (w .tally) job
+  pub represents : Represents bs lent c (w .control) job
   pub said : follow (sheet-in bs) order lent ≡ followed (refused-at w) job
 
-pub reaches-none : (bs order c : List ℕ) (t : Tally) → ((lent : List ℕ) → inbox-total (sheet-in bs) ≤ length lent → Stands bs lent c t (started (sheet-in bs) lent)) → Reaches-all bs order c t 0
+pub reaches-none : (bs order c : List ℕ) (t : Control) → ((lent : List ℕ) → inbox-total (sheet-in bs) ≤ length lent → Represents bs lent c t (started (sheet-in bs) lent)) → Reaches-all bs order c t 0
 unfolding follow
 reaches-none bs order c t h lent l =
     record {
       job = started (sheet-in bs) lent;
-      stands = h lent l;
+      represents = h lent l;
       left = refl;
     }
 
 -- some inboxes could be lent, so some job stands there
-pub standing : (bs order c : List ℕ) (t : Tally) (k : ℕ) → Reaches-all bs order c t k → Standing bs c t
+pub standing : (bs order c : List ℕ) (t : Control) (k : ℕ) → Reaches-all bs order c t k → Represented bs c t
 standing bs order c t k h =
     let some-inboxes : List ℕ = replicate (inbox-total (sheet-in bs)) 0 in
     let r = h some-inboxes (omega (arith, length-replicate {A = ℕ} (inbox-total (sheet-in bs)) 0)) in
     record {
       lent = some-inboxes;
       job = r .job;
-      stands = r .stands;
+      represents = r .represents;
     }
 
-module _ (bs order c : List ℕ) (t : Tally) (k r : ℕ) (h : Reaches-all bs order c t k) (l : k < length order) (e : r ≡ getD order k 0) where
+module _ (bs order c : List ℕ) (t : Control) (k r : ℕ) (h : Reaches-all bs order c t k) (l : k < length order) (e : r ≡ getD order k 0) where
   abbrev s : Sheet
   s = sheet-in bs
 
@@ -65,46 +65,46 @@ module _ (bs order c : List ℕ) (t : Tally) (k r : ℕ) (h : Reaches-all bs ord
   next x = rw (drop-cons order k 0 l, sym e)
 
   -- the rank isn't able: the order is refused here
-  pub reaches-refused : (b : Bool) → ((lent : List ℕ) (x : Job) → Stands bs lent c t x → b ≡ able s x r) → b ≡ false → (lent : List ℕ) → inbox-total s ≤ length lent → Follows bs order lent c (record { refused = true; at = k; tally = t })
+  pub reaches-refused : (b : Bool) → ((lent : List ℕ) (x : Job) → Represents bs lent c t x → b ≡ able s x r) → b ≡ false → (lent : List ℕ) → inbox-total s ≤ length lent → Follows bs order lent c (record { refused = true; at = k; control = t })
   reaches-refused b ask fails lent room =
       let q = h lent room in
       record {
         job = q .job;
-        stands = q .stands;
-        said = q .left ∙ (next (q .job) ∙ cond-false (able s (q .job) r) (follow-from (suc k) s (drop (suc k) order) (step s r (q .job))) (followed (some k) (q .job)) (sym (ask lent (q .job) (q .stands)) ∙ fails));
+        represents = q .represents;
+        said = q .left ∙ (next (q .job) ∙ cond-false (able s (q .job) r) (follow-from (suc k) s (drop (suc k) order) (step s r (q .job))) (followed (some k) (q .job)) (sym (ask lent (q .job) (q .represents)) ∙ fails));
       }
 
   -- it is able: one step more
-  pub reaches-more : (b : Bool) → ((lent : List ℕ) (x : Job) → Stands bs lent c t x → b ≡ able s x r) → b ≡ true → (d : List ℕ) (u : Tally) → ((lent : List ℕ) (x : Job) → Stands bs lent c t x → able s x r ≡ true → Stands bs lent d u (step s r x)) → Reaches-all bs order d u (k + 1)
+  pub reaches-more : (b : Bool) → ((lent : List ℕ) (x : Job) → Represents bs lent c t x → b ≡ able s x r) → b ≡ true → (d : List ℕ) (u : Control) → ((lent : List ℕ) (x : Job) → Represents bs lent c t x → able s x r ≡ true → Represents bs lent d u (step s r x)) → Reaches-all bs order d u (k + 1)
   reaches-more b ask so d u go lent room =
       let q = h lent room in
-      let yes-able = sym (ask lent (q .job) (q .stands)) ∙ so in
+      let yes-able = sym (ask lent (q .job) (q .represents)) ∙ so in
       record {
         job = step s r (q .job);
-        stands = go lent (q .job) (q .stands) yes-able;
+        represents = go lent (q .job) (q .represents) yes-able;
         left =
             q .left ∙ (next (q .job) ∙ (cond-true (able s (q .job) r) (follow-from (suc k) s (drop (suc k) order) (step s r (q .job))) (followed (some k) (q .job)) yes-able
             ∙ ap (λ (n : ℕ). follow-from n s (drop n order) (step s r (q .job))) (sym (add-one k))));
       }
 
-  pub able-there : (b : Bool) → ((lent : List ℕ) (x : Job) → Stands bs lent c t x → b ≡ able s x r) → b ≡ true → Able-there bs c t r
+  pub able-there : (b : Bool) → ((lent : List ℕ) (x : Job) → Represents bs lent c t x → b ≡ able s x r) → b ≡ true → Represented-able bs c t r
   able-there b ask so =
       let w = standing bs order c t k h in
       record {
         lent = w .lent;
         job = w .job;
-        stands = w .stands;
-        is-able = sym (ask (w .lent) (w .job) (w .stands)) ∙ so;
+        represents = w .represents;
+        is-able = sym (ask (w .lent) (w .job) (w .represents)) ∙ so;
       }
 
 -- behind the last rank the order is accepted
-pub reaches-all : (bs order c : List ℕ) (t : Tally) (k : ℕ) → Reaches-all bs order c t k → length order ≤ k → (lent : List ℕ) → inbox-total (sheet-in bs) ≤ length lent → Follows bs order lent c (record { refused = false; at = 0; tally = t })
+pub reaches-all : (bs order c : List ℕ) (t : Control) (k : ℕ) → Reaches-all bs order c t k → length order ≤ k → (lent : List ℕ) → inbox-total (sheet-in bs) ≤ length lent → Follows bs order lent c (record { refused = false; at = 0; control = t })
 unfolding follow-from
 reaches-all bs order c t k h l lent room =
     let q = h lent room in
     let done : drop k order ≡ [] = drop-of-length-le order {i = k} l in
     record {
       job = q .job;
-      stands = q .stands;
+      represents = q .represents;
       said = q .left ∙ ap (λ (rs : List ℕ). follow-from k (sheet-in bs) rs (q .job)) done;
     }

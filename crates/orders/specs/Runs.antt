@@ -16,12 +16,12 @@ use Rattle.rules.specs.Step.{able, step}
 use Rattle.rules.specs.Order.{lowest-able, next-rank, Ran, ran, run-next, run-from, run}
 use Rattle.rules.specs.Service.{in-front}
 use Rattle.laws.specs.Tests.{cond-true, cond-false}
-use Rattle.invariant.specs.sheet.Valid.{Good}
+use Rattle.invariant.specs.sheet.Valid.{Valid}
 use Rattle.invariant.specs.Invariant.{Reached}
 use Rattle.invariant.specs.step.LowestAble.{lowest-some}
 use Rattle.invariant.specs.preserve.StepCount.{able-room}
-use Rattle.state.specs.declared.Tally.{Tally}
-use Rattle.engine.specs.Stands.{Stands, Standing, Able-there}
+use Rattle.state.specs.declared.Control.{Control}
+use Rattle.simulation.specs.Represents.{Represents, Represented, Represented-able}
 
 -- THE LOWEST RANK that is able, P where none is
 pub record Lowest (s : Sheet) (x : Job) (r : ℕ) : Type 0 where
@@ -29,11 +29,11 @@ pub record Lowest (s : Sheet) (x : Job) (r : ℕ) : Type 0 where
   pub missing : P-of s ≤ r → next-rank s x ≡ none
 
 -- a search that has come to rank r
-abbrev pub Sought : (bs c : List ℕ) → Tally → (r : ℕ) → Type 0
+abbrev pub Sought : (bs c : List ℕ) → Control → (r : ℕ) → Type 0
 Sought bs c t r =
-    (lent : List ℕ) (x : Job) → Stands bs lent c t x → next-rank (sheet-in bs) x ≡ lowest-able (P-of (sheet-in bs) - r) r (sheet-in bs) x
+    (lent : List ℕ) (x : Job) → Represents bs lent c t x → next-rank (sheet-in bs) x ≡ lowest-able (P-of (sheet-in bs) - r) r (sheet-in bs) x
 
-pub sought-none : (bs c : List ℕ) (t : Tally) → Sought bs c t 0
+pub sought-none : (bs c : List ℕ) (t : Control) → Sought bs c t 0
 unfolding next-rank
 sought-none bs c t lent x d = ap (λ (n : ℕ). lowest-able n 0 (sheet-in bs) x) (omega arith)
 
@@ -50,21 +50,21 @@ lowest-more (suc n) r s x h t =
     let b : r + 1 ≡ suc r = add-one r in
     rw (a, b) (cond-false (able s x r) (some r) (lowest-able n (suc r) s x) t)
 
-module _ (bs c : List ℕ) (t : Tally) (r : ℕ) (h : Sought bs c t r) where
-  pub sought-found : r < P-of (sheet-in bs) → (b : Bool) → ((lent : List ℕ) (x : Job) → Stands bs lent c t x → b ≡ able (sheet-in bs) x r) → b ≡ true → (lent : List ℕ) (x : Job) → Stands bs lent c t x → Lowest (sheet-in bs) x r
+module _ (bs c : List ℕ) (t : Control) (r : ℕ) (h : Sought bs c t r) where
+  pub sought-found : r < P-of (sheet-in bs) → (b : Bool) → ((lent : List ℕ) (x : Job) → Represents bs lent c t x → b ≡ able (sheet-in bs) x r) → b ≡ true → (lent : List ℕ) (x : Job) → Represents bs lent c t x → Lowest (sheet-in bs) x r
   sought-found l b ask so lent x d =
       record {
         found = λ k. h lent x d ∙ lowest-here (P-of (sheet-in bs) - r) r (sheet-in bs) x (omega arith) (sym (ask lent x d) ∙ so);
         missing = λ k. absurd (omega arith);
       }
 
-  pub sought-more : r < P-of (sheet-in bs) → (b : Bool) → ((lent : List ℕ) (x : Job) → Stands bs lent c t x → b ≡ able (sheet-in bs) x r) → b ≡ false → Sought bs c t (r + 1)
+  pub sought-more : r < P-of (sheet-in bs) → (b : Bool) → ((lent : List ℕ) (x : Job) → Represents bs lent c t x → b ≡ able (sheet-in bs) x r) → b ≡ false → Sought bs c t (r + 1)
   sought-more l b ask fails lent x d =
       h lent x d
       ∙ (lowest-more (P-of (sheet-in bs) - r) r (sheet-in bs) x (omega arith) (sym (ask lent x d) ∙ fails)
       ∙ ap (λ (n : ℕ). lowest-able n (r + 1) (sheet-in bs) x) (omega arith))
 
-  pub sought-all : P-of (sheet-in bs) ≤ r → (lent : List ℕ) (x : Job) → Stands bs lent c t x → Lowest (sheet-in bs) x r
+  pub sought-all : P-of (sheet-in bs) ≤ r → (lent : List ℕ) (x : Job) → Represents bs lent c t x → Lowest (sheet-in bs) x r
   unfolding lowest-able
   sought-all l lent x d =
       let none-left : P-of (sheet-in bs) - r ≡ 0 = omega arith in
@@ -74,32 +74,32 @@ module _ (bs c : List ℕ) (t : Tally) (r : ℕ) (h : Sought bs c t r) where
       }
 
 -- THE RUN after k steps: the order so far stands in front of the room
-pub record Running (bs lent room c out : List ℕ) (t : Tally) (k : ℕ) : Type 0 where
+pub record Running (bs lent room c out : List ℕ) (t : Control) (k : ℕ) : Type 0 where
   pub job : Job
-  pub stands : Stands bs lent c t job
+  pub represents : Represents bs lent c t job
   pub taken : List ℕ
   pub taken-long : length taken ≡ k
   pub counted : job .steps ≡ k
   pub left : run (sheet-in bs) lent ≡ run-from (order-room (N-of (sheet-in bs)) - k) (sheet-in bs) taken job
   pub out-is : out ≡ in-front taken room
 
-abbrev pub Running-all : (bs room c out : List ℕ) → Tally → (k : ℕ) → Type 0
+abbrev pub Running-all : (bs room c out : List ℕ) → Control → (k : ℕ) → Type 0
 Running-all bs room c out t k = (lent : List ℕ) → inbox-total (sheet-in bs) ≤ length lent → Running bs lent room c out t k
 
 -- the answer: the order that was taken, and the job where it ended
-pub record Runs (bs lent room c out : List ℕ) (t : Tally) : Type 0 where
+pub record Runs (bs lent room c out : List ℕ) (t : Control) : Type 0 where
   pub job : Job
-  pub stands : Stands bs lent c t job
+  pub represents : Represents bs lent c t job
   pub taken : List ℕ
   pub said : run (sheet-in bs) lent ≡ ran taken job
   pub out-is : out ≡ in-front taken room
 
-pub running-none : (bs room c : List ℕ) (t : Tally) → ((lent : List ℕ) → inbox-total (sheet-in bs) ≤ length lent → Stands bs lent c t (started (sheet-in bs) lent)) → Running-all bs room c room t 0
+pub running-none : (bs room c : List ℕ) (t : Control) → ((lent : List ℕ) → inbox-total (sheet-in bs) ≤ length lent → Represents bs lent c t (started (sheet-in bs) lent)) → Running-all bs room c room t 0
 unfolding run started job in-front
 running-none bs room c t h lent l =
     record {
       job = started (sheet-in bs) lent;
-      stands = h lent l;
+      represents = h lent l;
       taken = [];
       taken-long = refl;
       counted = refl;
@@ -107,14 +107,14 @@ running-none bs room c t h lent l =
       out-is = refl;
     }
 
-pub running-standing : (bs room c out : List ℕ) (t : Tally) (k : ℕ) → Running-all bs room c out t k → Standing bs c t
+pub running-standing : (bs room c out : List ℕ) (t : Control) (k : ℕ) → Running-all bs room c out t k → Represented bs c t
 running-standing bs room c out t k h =
     let some-inboxes : List ℕ = replicate (inbox-total (sheet-in bs)) 0 in
     let r = h some-inboxes (omega (arith, length-replicate {A = ℕ} (inbox-total (sheet-in bs)) 0)) in
     record {
       lent = some-inboxes;
       job = r .job;
-      stands = r .stands;
+      represents = r .represents;
     }
 
 -- one rank written behind the order so far
@@ -127,11 +127,11 @@ order-more taken room k r e l =
     ∙ (set-at taken (getD room k 0) (drop (suc k) room) r k e
     ∙ (sym (append-assoc taken (r ∷ []) (drop (suc k) room)) ∙ ap (λ (n : ℕ). (taken ++ (r ∷ [])) ++ drop n room) (sym long))))
 
-module _ (bs room c out : List ℕ) (t : Tally) (k r : ℕ) (h : Running-all bs room c out t k) (low : (lent : List ℕ) (x : Job) → Stands bs lent c t x → Lowest (sheet-in bs) x r) where
+module _ (bs room c out : List ℕ) (t : Control) (k r : ℕ) (h : Running-all bs room c out t k) (low : (lent : List ℕ) (x : Job) → Represents bs lent c t x → Lowest (sheet-in bs) x r) where
   abbrev s : Sheet
   s = sheet-in bs
 
-  rank-able : (lent : List ℕ) (x : Job) → Stands bs lent c t x → r < P-of s → able s x r ≡ true
+  rank-able : (lent : List ℕ) (x : Job) → Represents bs lent c t x → r < P-of s → able s x r ≡ true
   unfolding next-rank
   rank-able lent x d l = lowest-some (P-of s) 0 r s x (low lent x d .found l)
 
@@ -141,16 +141,16 @@ module _ (bs room c out : List ℕ) (t : Tally) (k r : ℕ) (h : Running-all bs 
       let w = running-standing bs room c out t k h in
       let some-inboxes : List ℕ = replicate (inbox-total s) 0 in
       let q = h some-inboxes (omega (arith, length-replicate {A = ℕ} (inbox-total s) 0)) in
-      omega (arith, q .counted, able-room (q .stands .reached) (q .stands .good) r (rank-able some-inboxes (q .job) (q .stands) l))
+      omega (arith, q .counted, able-room (q .represents .reached) (q .represents .good) r (rank-able some-inboxes (q .job) (q .represents) l))
 
-  pub running-able : r < P-of s → Able-there bs c t r
+  pub running-able : r < P-of s → Represented-able bs c t r
   running-able l =
       let w = running-standing bs room c out t k h in
       record {
         lent = w .lent;
         job = w .job;
-        stands = w .stands;
-        is-able = rank-able (w .lent) (w .job) (w .stands) l;
+        represents = w .represents;
+        is-able = rank-able (w .lent) (w .job) (w .represents) l;
       }
 
   run-more : (fuel : ℕ) (o : List ℕ) (x : Job) → 0 < fuel → next-rank s x ≡ some r → run-from fuel s o x ≡ run-from (fuel - 1) s (o ++ (r ∷ [])) (step s r x)
@@ -164,18 +164,18 @@ module _ (bs room c out : List ℕ) (t : Tally) (k r : ℕ) (h : Running-all bs 
   unfolding step with-steps job
   stepped x = refl
 
-  pub running-more : r < P-of s → order-room (N-of s) ≤ length room → (d : List ℕ) (u : Tally) → ((lent : List ℕ) (x : Job) → Stands bs lent c t x → able s x r ≡ true → Stands bs lent d u (step s r x)) → Running-all bs room d (set out k r) u (k + 1)
+  pub running-more : r < P-of s → order-room (N-of s) ≤ length room → (d : List ℕ) (u : Control) → ((lent : List ℕ) (x : Job) → Represents bs lent c t x → able s x r ≡ true → Represents bs lent d u (step s r x)) → Running-all bs room d (set out k r) u (k + 1)
   running-more l wide d u go lent enough =
       let q = h lent enough in
       let fits = running-room l in
       record {
         job = step s r (q .job);
-        stands = go lent (q .job) (q .stands) (rank-able lent (q .job) (q .stands) l);
+        represents = go lent (q .job) (q .represents) (rank-able lent (q .job) (q .represents) l);
         taken = q .taken ++ (r ∷ []);
         taken-long = length-append (q .taken) (r ∷ []) ∙ omega (arith, q .taken-long);
         counted = omega (arith, stepped (q .job), q .counted);
         left =
-            q .left ∙ (run-more (order-room (N-of s) - k) (q .taken) (q .job) (omega arith) (low lent (q .job) (q .stands) .found l)
+            q .left ∙ (run-more (order-room (N-of s) - k) (q .taken) (q .job) (omega arith) (low lent (q .job) (q .represents) .found l)
             ∙ ap (λ (n : ℕ). run-from n s (q .taken ++ (r ∷ [])) (step s r (q .job))) (omega arith));
         out-is = ap (λ (o : List ℕ). set o k r) (q .out-is) ∙ order-more (q .taken) room k r (q .taken-long) (omega arith);
       }
@@ -191,8 +191,8 @@ module _ (bs room c out : List ℕ) (t : Tally) (k r : ℕ) (h : Running-all bs 
       let q = h lent enough in
       record {
         job = q .job;
-        stands = q .stands;
+        represents = q .represents;
         taken = q .taken;
-        said = q .left ∙ run-done (order-room (N-of s) - k) (q .taken) (q .job) (low lent (q .job) (q .stands) .missing l);
+        said = q .left ∙ run-done (order-room (N-of s) - k) (q .taken) (q .job) (low lent (q .job) (q .represents) .missing l);
         out-is = q .out-is;
       }

@@ -5,22 +5,21 @@ ghost use lib.ListN.{length};
 ghost use Rattle.rules.specs.Limits.{scratch-size};
 ghost use Rattle.rules.specs.Sheet.{sheet-in, inbox-total};
 ghost use Rattle.laws.specs.Laid.{Laid};
-ghost use Rattle.invariant.specs.sheet.Valid.{Good};
+ghost use Rattle.invariant.specs.sheet.Valid.{Valid};
 ghost use Rattle.orders.specs.Follows.{Follows};
-use engine::able;
-use engine::setup;
-use engine::turn;
-use state::Tally;
+use state::Control;
+use steps::able;
+use steps::turn;
 
-// Where an order was refused, if it was, and the tally of the job that scratch then holds.
+// Where an order was refused, if it was, and the control block of the job that scratch then holds.
 pub struct Walk {
     pub refused: bool,
     pub at: usize,
-    pub tally: Tally,
+    pub control: Control,
 }
 
 pub fn follow(s: &[u8], order: &[u8], c: &mut [u8]) -> Walk
-    requires { ⌜ Laid (now s) × Good (sheet-in (now s)) × (scratch-size ≤ length (now c)) ⌝ }
+    requires { ⌜ Laid (now s) × Valid (sheet-in (now s)) × (scratch-size ≤ length (now c)) ⌝ }
     ensures { λ w. ⌜ ((lent : List ℕ) → inbox-total (sheet-in (now (s .entry))) ≤ length lent → Follows (now (s .entry)) (now (order .entry)) lent (now (c .exit)) w) ⌝ }
 {
     let mut t = setup::start(s, c);
@@ -31,7 +30,7 @@ pub fn follow(s: &[u8], order: &[u8], c: &mut [u8]) -> Walk
             return Walk {
                 refused: true,
                 at: k,
-                tally: t,
+                control: t,
             };
         }
         t = turn::take(s, c, t, r);
@@ -40,6 +39,6 @@ pub fn follow(s: &[u8], order: &[u8], c: &mut [u8]) -> Walk
     Walk {
         refused: false,
         at: 0,
-        tally: t,
+        control: t,
     }
 }

@@ -6,19 +6,18 @@ ghost use Rattle.rules.specs.Limits.{scratch-size, order-room};
 ghost use Rattle.rules.specs.Sheet.{sheet-in, N-of, inbox-total};
 ghost use Rattle.rules.specs.Job.{Job};
 ghost use Rattle.laws.specs.Laid.{Laid};
-ghost use Rattle.invariant.specs.sheet.Valid.{Good};
-ghost use Rattle.engine.specs.Stands.{Stands, Standing};
+ghost use Rattle.invariant.specs.sheet.Valid.{Valid};
+ghost use Rattle.simulation.specs.Represents.{Represents, Represented};
 ghost use Rattle.orders.specs.Runs.{Lowest, Runs};
-use engine::able;
-use engine::setup;
-use engine::turn;
 use sheet::header;
-use state::Tally;
+use state::Control;
+use steps::able;
+use steps::turn;
 
 // The lowest rank that is able, P if none is.
-fn lowest(s: &[u8], c: &[u8], t: Tally) -> usize
-    requires { ⌜ Standing (now s) (now c) t ⌝ }
-    ensures { λ r. ⌜ ((lent : List ℕ) (x : Job) → Stands (now (s .entry)) lent (now (c .entry)) t x → Lowest (sheet-in (now (s .entry))) x r) ⌝ }
+fn lowest(s: &[u8], c: &[u8], t: Control) -> usize
+    requires { ⌜ Represented (now s) (now c) t ⌝ }
+    ensures { λ r. ⌜ ((lent : List ℕ) (x : Job) → Represents (now (s .entry)) lent (now (c .entry)) t x → Lowest (sheet-in (now (s .entry))) x r) ⌝ }
 {
     let p = header::boards(s);
     let mut r = 0;
@@ -31,8 +30,8 @@ fn lowest(s: &[u8], c: &[u8], t: Tally) -> usize
     r
 }
 
-pub fn run(s: &[u8], c: &mut [u8], out: &mut [u8]) -> Tally
-    requires { ⌜ Laid (now s) × Good (sheet-in (now s)) × (scratch-size ≤ length (now c)) × (order-room (N-of (sheet-in (now s))) ≤ length (now out)) ⌝ }
+pub fn run(s: &[u8], c: &mut [u8], out: &mut [u8]) -> Control
+    requires { ⌜ Laid (now s) × Valid (sheet-in (now s)) × (scratch-size ≤ length (now c)) × (order-room (N-of (sheet-in (now s))) ≤ length (now out)) ⌝ }
     ensures { λ t. ⌜ ((lent : List ℕ) → inbox-total (sheet-in (now (s .entry))) ≤ length lent → Runs (now (s .entry)) lent (now (out .entry)) (now (c .exit)) (now (out .exit)) t) ⌝ }
 {
     let mut t = setup::start(s, c);

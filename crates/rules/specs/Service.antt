@@ -14,12 +14,12 @@ use Rattle.rules.specs.Job.{Job}
 use Rattle.rules.specs.Order.{follow, run}
 use Rattle.rules.specs.Report.{report}
 
-unfoldable pub told : Refusal → (number place : ℕ) → Type 0
-told f n p = (n ≡ f .number) × (p ≡ f .place)
+unfoldable pub answers : Refusal → (number place : ℕ) → Type 0
+answers f n p = (n ≡ f .number) × (p ≡ f .place)
 
 -- CHECK: refusals 1 to 7, or number 0 and place 0
 unfoldable pub Check-says : (sheet : List ℕ) → (number place : ℕ) → Type 0
-Check-says bs n p = told (sheet-refusal bs) n p
+Check-says bs n p = answers (sheet-refusal bs) n p
 
 -- 8: a lent room is short: place 1 inbox, 2 report, 3 order out (run only), 4 scratch
 unfoldable pub room-refusal : Sheet → (inbox report order scratch : ℕ) → Refusal
@@ -56,7 +56,7 @@ unfoldable pub Follow-says : (sheet order : List ℕ) → (number place : ℕ) �
 Follow-says bs o n p i i-now r r-now c c-now =
     let f = follow-refusal bs o i (length r) (length c) in
     let x = follow (sheet-in bs) o i .left in
-    told f n p
+    answers f n p
     × (i-now ≡ kept-or (f .number) (x .memory) i)
     × (r-now ≡ kept-or (f .number) (in-front (report (sheet-in bs) x) r) r)
     × (c-now ≡ scratch-left (f .number) c)
@@ -69,7 +69,7 @@ unfoldable pub Run-says : (sheet : List ℕ) → (number place : ℕ) → (inbox
 Run-says bs n p i i-now r r-now o o-now c c-now =
     let f = run-refusal bs (length i) (length r) (length o) (length c) in
     let e = run (sheet-in bs) i in
-    told f n p
+    answers f n p
     × (i-now ≡ kept-or (f .number) (e .end .memory) i)
     × (r-now ≡ kept-or (f .number) (in-front (report (sheet-in bs) (e .end)) r) r)
     × (o-now ≡ kept-or (f .number) (in-front (e .order) o) o)

@@ -1,10 +1,7 @@
 // Checking a job sheet: refusals 1 to 7 of document 01, and the field readers that the engine shares.
 pub mod boards;
-pub mod check;
-pub mod crc;
 pub mod header;
 pub mod ops;
-pub mod requests;
 
 // What a service answers: number 0 and place 0, or the number of a refusal and its place.
 #[repr(C)]

@@ -1,19 +1,9 @@
-// Operations: field readers, and refusal 6 (document 01, "The sheet, byte by byte"). An operation is named here by the place
+// Operations: field readers (document 01, "The sheet, byte by byte"). An operation is named here by the place
 // where its sixteen bytes start.
 ghost use mathlib.Core.Path.{_≡_};
-ghost use Prim.Native.Nat.{_+_, _*_, _<_, _≤_};
+ghost use Prim.Native.Nat.{_+_, _<_};
 ghost use lib.ListN.{length};
-ghost use Rattle.rules.specs.Limits.{ops-at};
-ghost use mathlib.Core.Bool.{cond};
-ghost use Rattle.rules.specs.Sheet.{sheet-in, op-in, P-in, is-receive};
-ghost use Rattle.rules.specs.Refusal.{envelope-good, extent-good, wait-good, fields-good, op-good, ops-refusal};
-ghost use Rattle.rules.specs.Service.{told};
-ghost use Rattle.laws.specs.Laid.{Laid};
-ghost use Rattle.laws.specs.Tabled.{Tabled};
-ghost use Rattle.laws.specs.Scripts.{script-broken};
-use crate::Answer;
-use crate::boards;
-use crate::header;
+ghost use Rattle.rules.specs.Sheet.{op-in};
 
 pub fn kind(s: &[u8], at: usize) -> usize
     requires { ⌜ at + 15 < length (now s) ⌝ }
@@ -77,100 +67,4 @@ pub fn slot(s: &[u8], at: usize) -> usize
     ensures { λ v. ⌜ (v ≡ op-in (now (s .entry)) at .slot) × (v < 65536) ⌝ }
 {
     words::two_at(s, at + 14)
-}
-
-// Peer, communicator and tag of a send or a receive.
-fn envelope_is_good(s: &[u8], at: usize, p: usize, c: usize) -> bool
-    requires { ⌜ at + 15 < length (now s) ⌝ }
-    ensures { λ r. ⌜ r ≡ envelope-good p c (op-in (now (s .entry)) at) ⌝ }
-{
-    let receive = kind(s, at) == 5;
-    let from = peer(s, at);
-    let label = tag(s, at);
-    (((from < p) | (receive & (from == 65535))) & (comm(s, at) < c))
-        & ((label < 32768) | (receive & (label == 65535)))
-}
-
-// Flag, zero, length, area and slot of a send or a receive.
-fn extent_is_good(s: &[u8], at: usize, room: usize) -> bool
-    requires { ⌜ at + 15 < length (now s) ⌝ }
-    ensures { λ r. ⌜ r ≡ extent-good room (op-in (now (s .entry)) at) ⌝ }
-{
-    let f = flag(s, at);
-    let blocking = f == 0;
-    let size = long(s, at);
-    let end = offset(s, at) + size;
-    let held = slot(s, at);
-    (((f <= 1) & (zero_field(s, at) == 0)) & ((size <= 4096) & (end <= room)))
-        & ((blocking & (held == 0)) | (!blocking & (held < 32)))
-}
-
-// A wait names a slot and nothing else.
-fn wait_is_good(s: &[u8], at: usize) -> bool
-    requires { ⌜ at + 15 < length (now s) ⌝ }
-    ensures { λ r. ⌜ r ≡ wait-good (op-in (now (s .entry)) at) ⌝ }
-{
-    (((flag(s, at) == 0) & (peer(s, at) == 0)) & ((comm(s, at) == 0) & (zero_field(s, at) == 0)))
-        & (((tag(s, at) == 0) & (offset(s, at) == 0)) & ((long(s, at) == 0) & (slot(s, at) < 32)))
-}
-
-// The fields of one operation, among p boards and c communicators. A receive's room is the inbox, a send's the payload.
-fn fields_are_good(s: &[u8], at: usize, p: usize, c: usize, inbox: usize, payload: usize) -> bool
-    requires { ⌜ at + 15 < length (now s) ⌝ }
-    ensures { λ r. ⌜ r ≡ fields-good p c (cond (is-receive (op-in (now (s .entry)) at)) inbox payload) (op-in (now (s .entry)) at) ⌝ }
-{
-    let k = kind(s, at);
-    if k == 6 {
-        return wait_is_good(s, at);
-    }
-    if k == 5 {
-        return envelope_is_good(s, at, p, c) & extent_is_good(s, at, inbox);
-    }
-    ((1 <= k) & (k <= 4)) & (envelope_is_good(s, at, p, c) & extent_is_good(s, at, payload))
-}
-
-// Refusal 6 in the script of board r.
-fn script_refusal(s: &[u8], r: usize) -> Answer
-    requires { ⌜ Laid (now s) × Tabled (sheet-in (now s)) × (r < P-in (now s)) ⌝ }
-    ensures { λ a. ⌜ told (script-broken 6 (op-good (sheet-in (now (s .entry)))) (sheet-in (now (s .entry))) r) (a .number) (a .place) ⌝ }
-{
-    let p = header::boards(s);
-    let c = header::comms(s);
-    let payload = header::payload(s);
-    let inbox = boards::inbox(s, r);
-    let mut i = boards::first(s, r);
-    let end = i + boards::count(s, r);
-    while i < end {
-        if !fields_are_good(s, 16 + 8 * p + 16 * i, p, c, inbox, payload) {
-            return Answer {
-                number: 6,
-                place: i as u64,
-            };
-        }
-        i += 1;
-    }
-    Answer {
-        number: 0,
-        place: 0,
-    }
-}
-
-// Refusal 6: the first operation with a wrong field.
-pub fn refusal(s: &[u8]) -> Answer
-    requires { ⌜ Laid (now s) × Tabled (sheet-in (now s)) ⌝ }
-    ensures { λ a. ⌜ told (ops-refusal (sheet-in (now (s .entry)))) (a .number) (a .place) ⌝ }
-{
-    let p = header::boards(s);
-    let mut r = 0;
-    while r < p {
-        let a = script_refusal(s, r);
-        if a.number != 0 {
-            return a;
-        }
-        r += 1;
-    }
-    Answer {
-        number: 0,
-        place: 0,
-    }
 }

@@ -1,4 +1,4 @@
--- Scratch and its tally hold a job. Each change of scratch is the change of the job that rules names, so that an engine above
+-- Scratch and its control block hold a job. Each change of scratch is the change of the job that rules names, so that an engine above
 -- never speaks of bytes. Nothing is held of the inbox memory: deliveries are made at the end, from the rows. Assumes nothing.
 use mathlib.Core.Path.{_≡_, refl, sym, _∙_, ap, subst}
 use mathlib.Core.Bool.{false}
@@ -15,7 +15,7 @@ use Rattle.rules.specs.Report.{low-two, op-row, op-rows}
 use Rattle.words.specs.Splice.{Apart, splice-length, splice-apart, splice-take, splice-take-before}
 use Rattle.words.specs.Putting.{part-length}
 use Rattle.words.specs.Tab.{drop-at}
-use Rattle.state.specs.declared.Tally.{Tally}
+use Rattle.state.specs.declared.Control.{Control}
 use Rattle.state.specs.Layout.{row-at, seat-at, word-at, places-at, messages-at, receives-at, ranks-at}
 use Rattle.state.specs.Decoded.{entry-in, entries-in, place-in, places-in, place-row, words-in, Fits-row, Fits-place}
 use Rattle.state.specs.Rows.{row-length, entries-same, entries-put, entries-at, entries-length}
@@ -23,9 +23,9 @@ use Rattle.state.specs.Written.{rows-put}
 use Rattle.state.specs.Places.{seat-length, places-same, places-put, places-at-rank}
 use Rattle.state.specs.Lists.{behind, words-same, words-at, words-length, words-append, words-remove, First-at, without-at}
 use Rattle.state.specs.Indexed.{Indexed, indexed-kept}
-use Rattle.state.specs.Tallied.{stop-of, stop-some, tally, counted, stepped, halted}
+use Rattle.state.specs.Controls.{stop-of, stop-some, control, counted, stepped, halted}
 
-pub record Decodes (s : Sheet) (c : List ℕ) (t : Tally) (x : Job) : Type 0 where
+pub record Decodes (s : Sheet) (c : List ℕ) (t : Control) (x : Job) : Type 0 where
   pub few-ops : N-of s ≤ most-ops
   pub few-boards : P-of s ≤ most-boards
   pub few-messages : t .messages ≤ most-ops
@@ -41,12 +41,12 @@ pub record Decodes (s : Sheet) (c : List ℕ) (t : Tally) (x : Job) : Type 0 whe
   pub indexed : Indexed s c
 
 -- the same bytes and numbers under other names
-pub decodes-as : (s : Sheet) (b c : List ℕ) (u t : Tally) (x : Job) → b ≡ c → u ≡ t → Decodes s c t x → Decodes s b u x
+pub decodes-as : (s : Sheet) (b c : List ℕ) (u t : Control) (x : Job) → b ≡ c → u ≡ t → Decodes s c t x → Decodes s b u x
 decodes-as s b c u t x e f d =
-    subst (λ (l : List ℕ). Decodes s l u x) (sym e) (subst (λ (q : Tally). Decodes s c q x) (sym f) d)
+    subst (λ (l : List ℕ). Decodes s l u x) (sym e) (subst (λ (q : Control). Decodes s c q x) (sym f) d)
 
 -- GETTERS: what a reader reads is the job's
-module _ (s : Sheet) (c : List ℕ) (t : Tally) (x : Job) (d : Decodes s c t x) where
+module _ (s : Sheet) (c : List ℕ) (t : Control) (x : Job) (d : Decodes s c t x) where
   pub entry-is : (i : ℕ) → i < N-of s → entry-in c (row-at i) ≡ entry-at x i
   unfolding entry-at
   entry-is i l = sym (ap (λ (es : List Entry). getD es i (bare-entry 0)) (d .entries-are) ∙ entries-at c (N-of s) i l)
@@ -78,7 +78,7 @@ module _ (c : List ℕ) (at : ℕ) (vs : List ℕ) (h : at + length vs ≤ lengt
   words-kept : (base n : ℕ) → n ≤ most-ops → Apart base (base + 2 * most-ops) at (length vs) → words-in (splice c at vs) base n ≡ words-in c base n
   words-kept base n m a = words-same (splice c at vs) c base n (λ j l u. splice-apart c at vs h base (base + 2 * most-ops) a j l (omega arith))
 
-module _ (s : Sheet) (c : List ℕ) (t : Tally) (x : Job) (d : Decodes s c t x) where
+module _ (s : Sheet) (c : List ℕ) (t : Control) (x : Job) (d : Decodes s c t x) where
   -- a splice, with what each part then decodes to
   spliced : (at : ℕ) (vs : List ℕ) (m r : ℕ) (es : List Entry) (ps : List Place) (ms rs : List ℕ) → at + length vs ≤ ranks-at → m ≤ most-ops →
       r ≤ most-ops → entries-in (splice c at vs) (N-of s) ≡ es → take (row-at (N-of s)) (splice c at vs) ≡ op-rows es →
@@ -225,7 +225,7 @@ module _ (s : Sheet) (c : List ℕ) (t : Tally) (x : Job) (d : Decodes s c t x) 
       ∙ (ap (λ (rs : List ℕ). drop-at k rs) (sym (d .receives-are)) ∙ sym (without-at (x .receives) k v f))))
 
   -- what is kept beside scratch, and the memory, which is kept nowhere
-  beside : (m : List ℕ) (o : Option Stop) (j k v r i : ℕ) → o ≡ stop-of v r i → j ≡ k → Decodes s c (tally (t .messages) (t .receives) k v r i) (job (x .entries) (x .places) (x .messages) (x .receives) m o j)
+  beside : (m : List ℕ) (o : Option Stop) (j k v r i : ℕ) → o ≡ stop-of v r i → j ≡ k → Decodes s c (control (t .messages) (t .receives) k v r i) (job (x .entries) (x .places) (x .messages) (x .receives) m o j)
   unfolding job
   beside m o j k v r i e f =
       record {

@@ -6,9 +6,9 @@
 --   Places   board places put and read
 --   Lists    the waiting lists: searched, an entry appended, an entry removed
 --   Indexed  the tables of ranks and of waits
---   Tallied  the numbers that are kept beside scratch
---   Decodes  scratch and its tally hold a job; what each change of them does to the job, in the words of rules
---   Steps    changes in two places, and a place changed by a function
+--   Controls  the numbers that are kept beside scratch
+--   Decodes  scratch and its control block hold a job; what each change of them does to the job, in the words of rules
+--   Changes  changes in two places, and a place changed by a function
 --   Start    the start of a job
 pub mod Layout
 pub mod Decoded
@@ -17,7 +17,7 @@ pub mod Written
 pub mod Places
 pub mod Lists
 pub mod Indexed
-pub mod Tallied
+pub mod Controls
 pub mod Decodes
-pub mod Steps
+pub mod Changes
 pub mod Start

@@ -20,7 +20,7 @@ use Rattle.state.specs.Decoded.{entry-in, entries-in, place-in, places-i
 use Rattle.state.specs.Rows.{row-length, row-put, entries-same}
 use Rattle.state.specs.Indexed.{Indexed, indexed-kept}
 use Rattle.state.specs.Written.{rows-length}
-use Rattle.state.specs.Tallied.{stop-of, no-tally}
+use Rattle.state.specs.Controls.{stop-of, no-control}
 use Rattle.state.specs.Decodes.{Decodes}
 
 -- n bare rows
@@ -121,7 +121,7 @@ places-zero c p m h =
 abbrev pub started-bytes : List ℕ → (p n : ℕ) → List ℕ
 started-bytes c p n = splice (splice c 0 (bare-rows n)) places-at (replicate (8 * p) 0)
 
-pub started-decodes : (s : Sheet) (c inboxes : List ℕ) → N-of s ≤ most-ops → P-of s ≤ most-boards → scratch-size ≤ length c → Indexed s c → Decodes s (started-bytes c (P-of s) (N-of s)) no-tally (started s inboxes)
+pub started-decodes : (s : Sheet) (c inboxes : List ℕ) → N-of s ≤ most-ops → P-of s ≤ most-boards → scratch-size ≤ length c → Indexed s c → Decodes s (started-bytes c (P-of s) (N-of s)) no-control (started s inboxes)
 unfolding splice started job stop-of words-in Rattle.words.specs.Tab.tab bare-entry entry
 started-decodes s c inboxes n p h x =
     let rows = filled-length (N-of s) (bare-entry 0) in

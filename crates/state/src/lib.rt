@@ -1,12 +1,12 @@
 // A job kept in a lent scratch buffer. The layout is that of specs/Layout; everything above this crate speaks of the job that
 // scratch decodes to (specs/Decodes) and not of bytes.
+pub mod changes;
+pub mod controls;
 pub mod lists;
 pub mod places;
 pub mod ranks;
 pub mod rows;
 pub mod start;
-pub mod steps;
-pub mod tallies;
 pub mod waits;
 
 // Another limit changes these two numbers; the layout follows.
@@ -26,7 +26,7 @@ const WAITS: usize = RANKS + MOST_OPS;
 
 // The numbers of a job that are kept beside scratch: lengths of the two waiting lists, steps taken, and why and where the job
 // stopped (verdict 0 while nothing stopped it).
-pub struct Tally {
+pub struct Control {
     pub messages: usize,
     pub receives: usize,
     pub steps: usize,

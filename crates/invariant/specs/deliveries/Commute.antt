@@ -19,7 +19,7 @@ use borrow.Author.Tests.{ltb-false}
 use Rattle.rules.specs.Sheet.{Sheet, op, rank-of, inbox-total, is-send, is-receive}
 use Rattle.rules.specs.Refusal.{share}
 use Rattle.rules.specs.Step.{area-start, is-cut, copied, delivered}
-use Rattle.invariant.specs.sheet.Valid.{Good}
+use Rattle.invariant.specs.sheet.Valid.{Valid}
 use Rattle.laws.specs.SpliceOrder.{within, within-low, within-high, splice-length, splice-at, splice-swap}
 use Rattle.invariant.specs.sheet.Extents.{send-extent, area-inside, areas-disjoint}
 use Rattle.invariant.specs.sheet.Areas.{held-apart}
@@ -42,7 +42,7 @@ copied-most s m r = go (ltb (op s r .long) (op s m .long)) refl
 copied-short : (s : Sheet) (m r : ℕ) → length (copied-bytes s m r) ≤ op s r .long
 copied-short s m r = omega (arith, length-take (copied s m r) (drop (op s m .offset) (s .payload)), copied-most s m r .0)
 
-pub copied-length : (s : Sheet) → Good s → (m r : ℕ) → is-send (op s m) ≡ true → length (copied-bytes s m r) ≡ copied s m r
+pub copied-length : (s : Sheet) → Valid s → (m r : ℕ) → is-send (op s m) ≡ true → length (copied-bytes s m r) ≡ copied s m r
 copied-length s g m r h =
     omega (
       arith,
@@ -53,7 +53,7 @@ copied-length s g m r h =
       send-extent s g m h,
     )
 
-module _ (s : Sheet) (g : Good s) (m r : ℕ) (receives : is-receive (op s r) ≡ true) (bs : List ℕ)
+module _ (s : Sheet) (g : Valid s) (m r : ℕ) (receives : is-receive (op s r) ≡ true) (bs : List ℕ)
     (room : inbox-total s ≤ length bs) where
   delivered-room : area-start s r + length (copied-bytes s m r) ≤ length bs
   delivered-room = omega (arith, area-inside s g r receives, copied-short s m r)
@@ -82,7 +82,7 @@ module _ (s : Sheet) (g : Good s) (m r : ℕ) (receives : is-receive (op s r) �
           ∙ getD-drop (op s m .offset) (s .payload) (i - area-start s r) 0
       go false e = refl
 
-pub delivered-swap : (s : Sheet) → Good s → (m r k q : ℕ) (bs : List ℕ) → is-receive (op s r) ≡ true →
+pub delivered-swap : (s : Sheet) → Valid s → (m r k q : ℕ) (bs : List ℕ) → is-receive (op s r) ≡ true →
     is-receive (op s q) ≡ true →
     (rank-of s r ≡ rank-of s q → share (op s r) (op s q) ≡ false) → inbox-total s ≤ length bs →
     delivered s m r (delivered s k q bs) ≡ delivered s k q (delivered s m r bs)
@@ -95,7 +95,7 @@ delivered-swap s g m r k q bs receives receives-too apart room =
     (omega (arith, copied-short s k q))))
 
 -- GROUND
-pub ground : (s : Sheet) → Good s → Ground s
+pub ground : (s : Sheet) → Valid s → Ground s
 ground s g =
     record {
       held-apart =

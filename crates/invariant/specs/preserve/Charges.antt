@@ -67,7 +67,7 @@ pub charging-enters : (s : Sheet) {x y : Job} {i : ℕ} (r q n : ℕ) → Enters
     rank-of s i ≡ r → is-send (op s i) ≡ true →
     n ≡ sum-below (N-of s) (charge-in s x q) → use-charged s r i q n ≡ sum-below (N-of s) (charge-in s y q)
 unfolding use-charged
-charging-enters s {x} {y} {i} r q n E l mine e told =
+charging-enters s {x} {y} {i} r q n E l mine e answers =
     go (eqb q r) refl (is-buffered (op s i)) refl
     (sum-change (N-of s) i (charge-in s x q) (charge-in s y q) l (λ j k d. charge-same s x y q j (state-same (E .other j d))))
     (charge-none s x q i (λ c. omega (arith, E .fresh)))
@@ -87,15 +87,15 @@ charging-enters s {x} {y} {i} r q n E l mine e told =
         sum-below (N-of s) (charge-in s x q) + charge-in s y q i ≡ sum-below (N-of s) (charge-in s y q) + charge-in s x q i →
         charge-in s x q i ≡ 0 →
         cond (a && b) (n + charge-of (op s i)) n ≡ sum-below (N-of s) (charge-in s y q)
-    go true ea true eb sums zero-before = omega (arith, sums, zero-before, charge-now true ea true eb, told)
-    go true ea false eb sums zero-before = omega (arith, sums, zero-before, charge-now true ea false eb, told)
-    go false ea b eb sums zero-before = omega (arith, sums, zero-before, charge-now false ea b eb, told)
+    go true ea true eb sums zero-before = omega (arith, sums, zero-before, charge-now true ea true eb, answers)
+    go true ea false eb sums zero-before = omega (arith, sums, zero-before, charge-now true ea false eb, answers)
+    go false ea b eb sums zero-before = omega (arith, sums, zero-before, charge-now false ea b eb, answers)
 
 -- message m was matched with receive r, which has no charge
 pub charging-matches : {s : Sheet} {x y : Job} {m r i : ℕ} (q n : ℕ) → Matches s x y m r i → Shaped s x → m < N-of s →
     n ≡ sum-below (N-of s) (charge-in s x q) → use-released s x m q n ≡ sum-below (N-of s) (charge-in s y q)
 unfolding use-released
-charging-matches {s} {x} {y} {m} {r} {i} q n M h l told =
+charging-matches {s} {x} {y} {m} {r} {i} q n M h l answers =
     go (eqb q (rank-of s m)) refl (eqb (state-at x m) 2) refl
     (sum-change (N-of s) m (charge-in s x q) (charge-in s y q) l (λ j k d. at j d (ℕ-discrete j r)))
     (charge-none s y q m (λ c. omega (arith, matches-message-state M)))
@@ -118,6 +118,6 @@ charging-matches {s} {x} {y} {m} {r} {i} q n M h l told =
         sum-below (N-of s) (charge-in s x q) + charge-in s y q m ≡ sum-below (N-of s) (charge-in s y q) + charge-in s x q m →
         charge-in s y q m ≡ 0 →
         cond (a && b) (n - charge-of (op s m)) n ≡ sum-below (N-of s) (charge-in s y q)
-    go true ea true eb sums none-now = omega (arith, sums, none-now, charge-was s x q m true true (rank-test true ea) eb, told)
-    go true ea false eb sums none-now = omega (arith, sums, none-now, charge-was s x q m true false (rank-test true ea) eb, told)
-    go false ea b eb sums none-now = omega (arith, sums, none-now, charge-was s x q m false b (rank-test false ea) eb, told)
+    go true ea true eb sums none-now = omega (arith, sums, none-now, charge-was s x q m true true (rank-test true ea) eb, answers)
+    go true ea false eb sums none-now = omega (arith, sums, none-now, charge-was s x q m true false (rank-test true ea) eb, answers)
+    go false ea b eb sums none-now = omega (arith, sums, none-now, charge-was s x q m false b (rank-test false ea) eb, answers)

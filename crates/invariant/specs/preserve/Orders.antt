@@ -17,13 +17,13 @@ use Rattle.rules.specs.Step.{able, step, next-op, is-none}
 use Rattle.rules.specs.Order.{followed, follow-from, follow}
 use Rattle.rules.specs.Claims.{left-by}
 use Rattle.laws.specs.Tests.{true-not-false}
-use Rattle.invariant.specs.sheet.Valid.{Good}
+use Rattle.invariant.specs.sheet.Valid.{Valid}
 use Rattle.invariant.specs.deliveries.Assumed.{Ground}
 use Rattle.laws.specs.Sums.{sum-zero}
 use Rattle.invariant.specs.Invariant.{Entered, state-at, partner-at, reach, steps-done, steps-of, charge-in, row-of, Reached}
 use Rattle.invariant.specs.preserve.Charges.{charge-none}
 use Rattle.invariant.specs.preserve.Rows.{row-bare}
-use Rattle.invariant.specs.preserve.Memory.{painted-none}
+use Rattle.invariant.specs.preserve.Memory.{replayed-none}
 use Rattle.invariant.specs.step.Position.{position}
 use Rattle.invariant.specs.preserve.Step.{step-sound}
 
@@ -33,7 +33,7 @@ getD-replicate-same zero j a = refl
 getD-replicate-same (suc n) zero a = refl
 getD-replicate-same (suc n) (suc j) a = getD-replicate-same n j a
 
-module _ {s : Sheet} (g : Good s) (lent : List ℕ) where
+module _ {s : Sheet} (g : Valid s) (lent : List ℕ) where
   abbrev pub x₀ : Job
   x₀ = started s lent
 
@@ -141,13 +141,13 @@ module _ {s : Sheet} (g : Good s) (lent : List ℕ) where
             (sum-zero (N-of s) (charge-in s x₀ r) (λ j k. charge-none s x₀ r j (λ c. omega (arith, start-state j))));
         in-use-peak = λ r. omega (arith, start-in-use r);
         peak-attached = λ r l. omega (arith, start-peak r);
-        memory-painted = sym (painted-none s x₀ (N-of s) lent (λ j c. omega (arith, start-state j)));
+        memory-replayed = sym (replayed-none s x₀ (N-of s) lent (λ j c. omega (arith, start-state j)));
         memory-long = refl;
         steps-sum = omega (arith, sum-zero (N-of s) (steps-done s x₀) start-steps);
         stop-at = λ t e. absurd (let z : _≡_ {A = ℕ} 0 1 = cc in omega arith);
       }
 
-pub start-position : {s : Sheet} → Good s → (lent : List ℕ) (r : ℕ) → position (started s lent) r ≡ 0
+pub start-position : {s : Sheet} → Valid s → (lent : List ℕ) (r : ℕ) → position (started s lent) r ≡ 0
 unfolding position
 start-position {s} g lent r =
     ap (λ (b : Bool). 2 * place-at (started s lent) r .finished + cond b 1 0) (start-waiting g lent r)
@@ -173,7 +173,7 @@ pub left-keeps : (s : Sheet) (P : Job → Type 0) → ((x : Job) (r : ℕ) → P
 unfolding left-by follow
 left-keeps s P keeps rs lent h = follow-from-keeps s P keeps 0 rs (started s lent) h
 
-pub left-reached : {s : Sheet} → Good s → Ground s → {lent : List ℕ} → inbox-total s ≤ length lent → (rs : List ℕ) →
+pub left-reached : {s : Sheet} → Valid s → Ground s → {lent : List ℕ} → inbox-total s ≤ length lent → (rs : List ℕ) →
     Reached s lent (left-by s rs lent)
 left-reached {s} g A {lent} room rs =
     left-keeps s (Reached s lent) (λ x r R a. step-sound g A room R r a .reached) rs lent (start-reached g lent)

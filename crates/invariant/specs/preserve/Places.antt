@@ -17,7 +17,7 @@ use Rattle.rules.specs.Sheet.{Sheet, op, board, P-of, N-of, rank-of, is-wait, i
 use Rattle.rules.specs.Job.{Job, place-at}
 use Rattle.rules.specs.Step.{next-op, half-complete, complete, complete-if, waited}
 use Rattle.laws.specs.Tests.{true-not-false}
-use Rattle.invariant.specs.sheet.Valid.{Good}
+use Rattle.invariant.specs.sheet.Valid.{Valid}
 use Rattle.invariant.specs.Invariant.{Entered, state-at, Placed, reach, steps-of}
 use Rattle.invariant.specs.step.Places.{Next, Moved, moved-finished, moved-waiting, moved-finished-other, moved-waiting-other}
 
@@ -59,7 +59,7 @@ prefix s x p j i h l e =
     let only = p .entered-only i h in
     p .entered-if j (omega (arith, only .0)) (omega (arith, only .1, ap (λ (z : ℕ). reach s x z) e))
 
-module _ {s : Sheet} {x y : Job} {r : ℕ} {last : Bool} (g : Good s) (p : Placed s x) (T : Turn s x y r last) where
+module _ {s : Sheet} {x y : Job} {r : ℕ} {last : Bool} (g : Valid s) (p : Placed s x) (T : Turn s x y r last) where
   abbrev pub here : ℕ
   here = next-op s x r
 

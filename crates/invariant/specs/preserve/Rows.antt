@@ -62,7 +62,7 @@ shaped-same {s} {x} y h e =
     at j = ap (λ (z : List Entry). getD z j (bare-entry 0)) e
 
 pub shaped-enters : {s : Sheet} {x y : Job} {i v : ℕ} → Shaped s x → Enters x y i v → v ≡ unmatched-state (op s i) → Shaped s y
-shaped-enters {s} {x} {y} {i} {v} h E told =
+shaped-enters {s} {x} {y} {i} {v} h E answers =
     record {
       row = λ j. row j (ℕ-discrete j i);
       unmatched = λ j l d. unmatched j l d (ℕ-discrete j i);
@@ -80,7 +80,7 @@ shaped-enters {s} {x} {y} {i} {v} h E told =
     unmatched j l d (no c) =
         let same = state-same (E .other j c) in
         same ∙ h .unmatched j (omega (arith, same)) (λ k. d (same ∙ k))
-    unmatched j l d (yes e) = state-name y e ∙ enters-state E ∙ told ∙ ap (λ (z : ℕ). unmatched-state (op s z)) (sym e)
+    unmatched j l d (yes e) = state-name y e ∙ enters-state E ∙ answers ∙ ap (λ (z : ℕ). unmatched-state (op s z)) (sym e)
 
     waits : (j : ℕ) → is-wait (op s j) ≡ true → state-at y j ≡ 3 → Dec (j ≡ i) → ⊥
     waits j w c (no d) = h .wait-unmatched j w (sym (state-same (E .other j d)) ∙ c)

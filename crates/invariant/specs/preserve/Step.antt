@@ -17,12 +17,12 @@ use Rattle.rules.specs.Sheet.{Sheet, op, board, P-of, N-of, rank-of, inbox-tota
 use Rattle.rules.specs.Job.{Job, Stop, place-at}
 use Rattle.rules.specs.Step.{able, step, next-op, first-message, first-receive, fits-with, delivered, is-none, fits-buffer, charge-of}
 use Rattle.laws.specs.Tests.{not-so, true-not-false}
-use Rattle.invariant.specs.sheet.Valid.{Good}
+use Rattle.invariant.specs.sheet.Valid.{Valid}
 use Rattle.invariant.specs.deliveries.Assumed.{Ground}
 use Rattle.invariant.specs.sheet.Kinds.{send-no-wait, receive-no-wait, receive-no-send, send-no-receive}
 use Rattle.laws.specs.Sums.{sum-below, sum-same}
 use Rattle.laws.specs.WaitingLists.{Holds, first-by-none, first-by-some}
-use Rattle.invariant.specs.Invariant.{Entered, state-at, unmatched-state, steps-done, charge-in, painted, Pending-message, Pending-receive, Stable, Arrived, Placed, Shaped, Posted-before, Came-before, Reached, Extended}
+use Rattle.invariant.specs.Invariant.{Entered, state-at, unmatched-state, steps-done, charge-in, replayed, Pending-message, Pending-receive, Stable, Arrived, Placed, Shaped, Posted-before, Came-before, Reached, Extended}
 use Rattle.invariant.specs.matching.RowChanges.{Grows, Enters, Matches, state-same, state-name, enters-grows, matches-grows}
 use Rattle.invariant.specs.matching.Stable.{Later, First, enter-stable, match-stable}
 use Rattle.invariant.specs.step.Places.{Next, moved-peak, able-next}
@@ -36,7 +36,7 @@ use Rattle.invariant.specs.preserve.Rows.{shaped-same, shaped-enters, sh
 use Rattle.invariant.specs.preserve.WaitingLists.{queue-message, queue-message-other, queue-receive, queue-receive-other, queue-message-match, queue-receive-match}
 use Rattle.invariant.specs.preserve.Charges.{charge-same, charging-other, charging-enters, charging-matches}
 use Rattle.invariant.specs.matching.UnmatchedState.{unmatched-receive, unmatched-wait}
-use Rattle.invariant.specs.preserve.Memory.{painted-length, painted-rows, painted-enters, painted-matches}
+use Rattle.invariant.specs.preserve.Memory.{replayed-length, replayed-rows, replayed-enters, replayed-matches}
 use Rattle.invariant.specs.preserve.SameRows.{Same-rows, rows-same, stable-same, arrived-same, messages-same, receives-same}
 use Rattle.invariant.specs.matching.Earliest.{first-for-receive, first-for-message}
 use Rattle.invariant.specs.preserve.Stop.{stops-extended}
@@ -53,9 +53,9 @@ record Parts {s : Sheet} {lent : List ℕ} {x : Job} (R : Reached s lent x) (y :
   receives : Holds (Posted-before s) (Pending-receive s y) (y .receives)
   in-use-sum : (q : ℕ) → q < P-of s → place-at y q .in-use ≡ sum-below (N-of s) (charge-in s y q)
   attached : (q : ℕ) → q < P-of s → place-at y q .in-use ≤ board s q .attached
-  memory : y .memory ≡ painted s y (N-of s) lent
+  memory : y .memory ≡ replayed s y (N-of s) lent
 
-module _ {s : Sheet} (g : Good s) (A : Ground s) {lent : List ℕ} (room : inbox-total s ≤ length lent) {x : Job}
+module _ {s : Sheet} (g : Valid s) (A : Ground s) {lent : List ℕ} (room : inbox-total s ≤ length lent) {x : Job}
     (R : Reached s lent x) where
   extended-turn : {y : Job} {r : ℕ} {last : Bool} {came : ℕ → ℕ} → Turn s x y r last → Parts R y (next-op s x r) came →
       Extended R y (next-op s x r)
@@ -73,10 +73,10 @@ module _ {s : Sheet} (g : Good s) (A : Ground s) {lent : List ℕ} (room : inbox
               in-use-sum = parts .in-use-sum;
               in-use-peak = λ q. omega (arith, moved-peak (T .moved) q);
               peak-attached = λ q l. omega (arith, moved-peak (T .moved) q, parts .attached q l, R .peak-attached q l);
-              memory-painted = parts .memory;
+              memory-replayed = parts .memory;
               memory-long =
                   ap (λ (z : List ℕ). length z) (parts .memory)
-                  ∙ painted-length g A (parts .stable) placed (parts .shaped) (N-of s) lent room;
+                  ∙ replayed-length g A (parts .stable) placed (parts .shaped) (N-of s) lent room;
               steps-sum =
                   T .moved .steps-more ∙ ap suc (R .steps-sum)
                   ∙ ap (λ (o : Option Stop). suc (sum-below (N-of s) (steps-done s x) + cond (is-none o) 0 1)) (T .next .going)
@@ -135,7 +135,7 @@ module _ {s : Sheet} (g : Good s) (A : Ground s) {lent : List ℕ} (room : inbox
               h .uses q ∙ R .in-use-sum q l
               ∙ sum-same (N-of s) (charge-in s x q) (charge-in s y q) (λ j k. charge-same s x y q j (state-same (same j)));
           attached = attached-less y (λ q. omega (arith, h .uses q));
-          memory = h .memory ∙ R .memory-painted ∙ sym (painted-rows s x y (N-of s) lent same);
+          memory = h .memory ∙ R .memory-replayed ∙ sym (replayed-rows s x y (N-of s) lent same);
         })
       where
         same : Same-rows x y
@@ -168,7 +168,7 @@ module _ {s : Sheet} (g : Good s) (A : Ground s) {lent : List ℕ} (room : inbox
             receives = receives;
             in-use-sum = uses;
             attached = attached;
-            memory = memory ∙ R .memory-painted ∙ sym (painted-enters s (N-of s) lent E);
+            memory = memory ∙ R .memory-replayed ∙ sym (replayed-enters s (N-of s) lent E);
           })
 
       -- one that is not charged
@@ -268,8 +268,8 @@ module _ {s : Sheet} (g : Good s) (A : Ground s) {lent : List ℕ} (room : inbox
               released-less (eqb o (rank-of s m) && eqb (state-at x m) 2) (place-at x o .in-use) (charge-of (op s m))
               (h .uses o));
           memory =
-              h .memory ∙ ap (λ (z : List ℕ). delivered s m q z) (R .memory-painted)
-              ∙ sym (painted-matches g A (R .stable) (R .placed) (R .shaped) M inside-m inside-q (N-of s) lent inside-q room);
+              h .memory ∙ ap (λ (z : List ℕ). delivered s m q z) (R .memory-replayed)
+              ∙ sym (replayed-matches g A (R .stable) (R .placed) (R .shaped) M inside-m inside-q (N-of s) lent inside-q room);
         })
       where
         M : Matches s x y m q i

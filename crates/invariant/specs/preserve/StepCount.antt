@@ -16,35 +16,35 @@ use borrow.Author.Tests.{lt-ltb, le-ltb}
 use Rattle.rules.specs.Sheet.{Sheet, Op, op, N-of, rank-of, is-wait, is-nonblocking}
 use Rattle.rules.specs.Job.{Job, Stop, place-at}
 use Rattle.rules.specs.Step.{able, next-op, is-none}
-use Rattle.invariant.specs.sheet.Valid.{Good}
+use Rattle.invariant.specs.sheet.Valid.{Valid}
 use Rattle.laws.specs.Sums.{sum-below, sum-change, sum-gap, sum-most}
 use Rattle.invariant.specs.Invariant.{state-at, Placed, Reached, reach, steps-of, steps-done}
 use Rattle.invariant.specs.step.Places.{Next, able-next}
 use Rattle.invariant.specs.preserve.Places.{Turn, waits, waits-most, next-other, reach-other, reach-mine, reach-mine-before, next-mine, next-mine-before}
 
 -- the steps of operation j, where its board has finished those below a and entered those below b
-unfoldable told : (j a b all : ℕ) → ℕ
-told j a b all = cond (ltb j a) all (cond (ltb j b) 1 0)
+unfoldable answers : (j a b all : ℕ) → ℕ
+answers j a b all = cond (ltb j a) all (cond (ltb j b) 1 0)
 
-told-finished : (j a b all : ℕ) → j < a → told j a b all ≡ all
-unfolding told
+told-finished : (j a b all : ℕ) → j < a → answers j a b all ≡ all
+unfolding answers
 told-finished j a b all l = ap (λ (c : Bool). cond c all (cond (ltb j b) 1 0)) (lt-ltb j a l)
 
-told-entered : (j a b all : ℕ) → a ≤ j → j < b → told j a b all ≡ 1
-unfolding told
+told-entered : (j a b all : ℕ) → a ≤ j → j < b → answers j a b all ≡ 1
+unfolding answers
 told-entered j a b all l h =
     ap (λ (c : Bool). cond c all (cond (ltb j b) 1 0)) (le-ltb j a l)
     ∙ ap (λ (c : Bool). cond c 1 0) (lt-ltb j b h)
 
-told-none : (j a b all : ℕ) → a ≤ j → b ≤ j → told j a b all ≡ 0
-unfolding told
+told-none : (j a b all : ℕ) → a ≤ j → b ≤ j → answers j a b all ≡ 0
+unfolding answers
 told-none j a b all l h =
     ap (λ (c : Bool). cond c all (cond (ltb j b) 1 0)) (le-ltb j a l)
     ∙ ap (λ (c : Bool). cond c 1 0) (le-ltb j b h)
 
-steps-told : (s : Sheet) (x : Job) (j : ℕ) → steps-done s x j ≡ told j (next-op s x (rank-of s j)) (reach s x (rank-of s j))
+steps-told : (s : Sheet) (x : Job) (j : ℕ) → steps-done s x j ≡ answers j (next-op s x (rank-of s j)) (reach s x (rank-of s j))
     (steps-of (op s j))
-unfolding steps-done told
+unfolding steps-done answers
 steps-told s x j = refl
 
 -- AT MOST TWO
@@ -69,7 +69,7 @@ pub steps-most : (s : Sheet) (x : Job) → sum-below (N-of s) (steps-done s x) �
 steps-most s x = sum-most (N-of s) 2 (steps-done s x) (λ j l. steps-done-most s x j)
 
 -- ONE MORE
-module _ {s : Sheet} {x y : Job} {r : ℕ} {last : Bool} (g : Good s) (p : Placed s x) (T : Turn s x y r last) where
+module _ {s : Sheet} {x y : Job} {r : ℕ} {last : Bool} (g : Valid s) (p : Placed s x) (T : Turn s x y r last) where
   abbrev mine : ℕ
   mine = next-op s x r
 
@@ -95,10 +95,10 @@ module _ {s : Sheet} {x y : Job} {r : ℕ} {last : Bool} (g : Good s) (p : Place
       next-near true e = (omega (arith, e), omega (arith, e))
       next-near false e = (omega (arith, e), omega (arith, e))
 
-      go : Dec (rank-of s j ≡ r) → Dec (j < mine) → told j a b all ≡ told j a-now b-now all
+      go : Dec (rank-of s j ≡ r) → Dec (j < mine) → answers j a b all ≡ answers j a-now b-now all
       go (no c) _ =
-          ap (λ (k : ℕ). told j k b all) (sym (next-other g p T (rank-of s j) c))
-          ∙ ap (λ (k : ℕ). told j a-now k all) (sym (reach-other g p T (rank-of s j) c))
+          ap (λ (k : ℕ). answers j k b all) (sym (next-other g p T (rank-of s j) c))
+          ∙ ap (λ (k : ℕ). answers j a-now k all) (sym (reach-other g p T (rank-of s j) c))
       go (yes e) (yes l) =
           told-finished j a b all (omega (arith, next-mine-before g p T j e))
           ∙ sym (told-finished j a-now b-now all (omega (arith, next-near last (next-mine g p T j e) .0)))
@@ -112,7 +112,7 @@ module _ {s : Sheet} {x y : Job} {r : ℕ} {last : Bool} (g : Good s) (p : Place
   steps-here-before = steps-told s x mine ∙ go (place-at x r .waiting) (reach-mine-before g p T mine (T .next .ranked))
     where
       go : (b : Bool) → reach s x (rank-of s mine) ≡ mine + cond b 1 0 →
-          told mine (next-op s x (rank-of s mine)) (reach s x (rank-of s mine)) (steps-of (op s mine)) ≡ cond b 1 0
+          answers mine (next-op s x (rank-of s mine)) (reach s x (rank-of s mine)) (steps-of (op s mine)) ≡ cond b 1 0
       go true e =
           told-entered mine _ (reach s x (rank-of s mine)) (steps-of (op s mine))
           (omega (arith, next-mine-before g p T mine (T .next .ranked))) (omega (arith, e))
@@ -129,7 +129,7 @@ module _ {s : Sheet} {x y : Job} {r : ℕ} {last : Bool} (g : Good s) (p : Place
       b : ℕ
       b = reach s y (rank-of s mine)
 
-      go : (c : Bool) → last ≡ c → a ≡ cond last (suc mine) mine → told mine a b (steps-of (op s mine)) ≡ suc (waits g p T)
+      go : (c : Bool) → last ≡ c → a ≡ cond last (suc mine) mine → answers mine a b (steps-of (op s mine)) ≡ suc (waits g p T)
       go true q e =
           told-finished mine a b (steps-of (op s mine)) (omega (arith, e, ap (λ (c : Bool). cond c (suc mine) mine) q))
           ∙ omega (arith, T .steps-left q)
@@ -176,7 +176,7 @@ module _ {s : Sheet} {lent : List ℕ} {x : Job} (R : Reached s lent x) where
       go true = omega arith
       go false = omega arith
 
-  pub able-room : Good s → (r : ℕ) → able s x r ≡ true → x .steps < 2 * N-of s
+  pub able-room : Valid s → (r : ℕ) → able s x r ≡ true → x .steps < 2 * N-of s
   unfolding is-none
   able-room g r a =
       omega (

@@ -15,7 +15,7 @@ use Rattle.invariant.specs.Invariant.{steps-done, charge-in, reach, Stop
 use Rattle.invariant.specs.step.Places.{Next, next-fresh}
 use Rattle.invariant.specs.preserve.Places.{half-complete-on}
 use Rattle.invariant.specs.preserve.Rows.{shaped-same}
-use Rattle.invariant.specs.preserve.Memory.{painted-rows}
+use Rattle.invariant.specs.preserve.Memory.{replayed-rows}
 use Rattle.invariant.specs.preserve.SameRows.{Same-rows, stable-same, arrived-same, messages-same, receives-same}
 
 pub stops-extended : {s : Sheet} {lent : List ℕ} {x : Job} (R : Reached s lent x) (v r : ℕ) → Next s x r → (v ≡ 3) ⊎ (v ≡ 4) →
@@ -48,7 +48,7 @@ stops-extended {s} {lent} {x} R v r n reason w =
             in-use-sum = R .in-use-sum;
             in-use-peak = R .in-use-peak;
             peak-attached = R .peak-attached;
-            memory-painted = R .memory-painted ∙ sym (painted-rows s x y (N-of s) lent same);
+            memory-replayed = R .memory-replayed ∙ sym (replayed-rows s x y (N-of s) lent same);
             memory-long = R .memory-long;
             steps-sum =
                 ap suc (R .steps-sum)
@@ -68,15 +68,15 @@ stops-extended {s} {lent} {x} R v r n reason w =
     same : Same-rows x y
     same = λ j. refl
 
-    told : Stop
-    told =
+    answers : Stop
+    answers =
         record {
           verdict = v;
           rank = r;
           at-op = next-op s x r;
         }
 
-    known : Stopped s y told
+    known : Stopped s y answers
     known =
         record {
           reason = reason;
@@ -85,5 +85,5 @@ stops-extended {s} {lent} {x} R v r n reason w =
           not-entered = next-fresh s x r (R .placed) n w;
         }
 
-    at : (t : Stop) → some told ≡ some t → Stopped s y t
-    at t e = subst (λ (z : Stop). Stopped s y z) (let q : told ≡ t = cc in q) known
+    at : (t : Stop) → some answers ≡ some t → Stopped s y t
+    at t e = subst (λ (z : Stop). Stopped s y z) (let q : answers ≡ t = cc in q) known

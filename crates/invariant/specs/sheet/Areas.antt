@@ -19,7 +19,7 @@ use Rattle.rules.specs.Refusal.{freed, holds, slot-held, share, area-taken, req
 use Rattle.rules.specs.Step.{waited-below, waited}
 use Rattle.laws.specs.Tests.{and-left, and-right, and-both, not-so, true-not-false, cond-true, cond-false}
 use Rattle.laws.specs.Below.{below-some}
-use Rattle.invariant.specs.sheet.Valid.{Good}
+use Rattle.invariant.specs.sheet.Valid.{Valid}
 use Rattle.invariant.specs.sheet.Kinds.{receive-no-wait, wait-blocking}
 
 -- operation j took the slot that wait i names
@@ -66,7 +66,7 @@ unfreed-holds s j i l same taken unfreed =
     (and-both taken (ap not (freed-none s (op s j .slot) (i - suc j) (suc j) (λ w a b. unfreed w a (omega arith)))))
 
 -- RULE 7, read at an operation that is no wait
-module _ (s : Sheet) (g : Good s) (i : ℕ) (l : i < N-of s) (no-wait : is-wait (op s i) ≡ false) where
+module _ (s : Sheet) (g : Valid s) (i : ℕ) (l : i < N-of s) (no-wait : is-wait (op s i) ≡ false) where
   rule-read : not (is-nonblocking (op s i) && slot-held s i (op s i .slot)) && not (is-receive (op s i) && area-taken s i) ≡ true
   unfolding request-good
   rule-read =
@@ -100,7 +100,7 @@ module _ (s : Sheet) (g : Good s) (i : ℕ) (l : i < N-of s) (no-wait : is-wait 
       (not (is-receive (op s i) && area-taken s i)) rule-read)))
 
 -- RECEIVES r AND q of one board, r nonblocking, no wait between them waiting for r
-module _ (s : Sheet) (g : Good s) (r q : ℕ) (l : r < q) (inside : q < N-of s) (same : rank-of s r ≡ rank-of s q)
+module _ (s : Sheet) (g : Valid s) (r q : ℕ) (l : r < q) (inside : q < N-of s) (same : rank-of s r ≡ rank-of s q)
     (taken : is-nonblocking (op s r) ≡ true)
     (never : (w : ℕ) → r < w → w < q → rank-of s w ≡ rank-of s r → is-wait (op s w) ≡ true → waited s w ≡ some r → ⊥) where
   between-inside : (j : ℕ) → j < q → j < N-of s

@@ -17,7 +17,7 @@ use Rattle.rules.specs.Refusal.{op-good, room-for, share}
 use Rattle.rules.specs.Step.{area-start}
 use Rattle.laws.specs.Tests.{and-both, cond-true, cond-false, true-not-false}
 use Rattle.laws.specs.Fields.{fields-end}
-use Rattle.invariant.specs.sheet.Valid.{Good}
+use Rattle.invariant.specs.sheet.Valid.{Valid}
 use Rattle.invariant.specs.sheet.Kinds.{send-no-receive, send-kind, receive-kind}
 use Rattle.laws.specs.SpliceOrder.{Disjoint}
 
@@ -41,18 +41,18 @@ receive-inside s r h = go (decLt r (N-of s))
     go (no d) = absurd (omega (arith, receive-kind (op s r) h, kind-past s r (omega arith)))
 
 -- INSIDE ITS ROOM
-op-extent : (s : Sheet) → Good s → (i : ℕ) → i < N-of s → op s i .offset + op s i .long ≤ room-for s i
+op-extent : (s : Sheet) → Valid s → (i : ℕ) → i < N-of s → op s i .offset + op s i .long ≤ room-for s i
 unfolding op-good
 op-extent s g i l = fields-end (P-of s) (s .comms) (room-for s i) (op s i) (g .ops-good i l)
 
-pub send-extent : (s : Sheet) → Good s → (m : ℕ) → is-send (op s m) ≡ true → op s m .offset + op s m .long ≤ length (s .payload)
+pub send-extent : (s : Sheet) → Valid s → (m : ℕ) → is-send (op s m) ≡ true → op s m .offset + op s m .long ≤ length (s .payload)
 unfolding room-for
 send-extent s g m h =
     subst (λ (k : ℕ). op s m .offset + op s m .long ≤ k)
     (cond-false (is-receive (op s m)) (board s (rank-of s m) .inbox) (length (s .payload)) (send-no-receive (op s m) h))
     (op-extent s g m (send-inside s m h))
 
-pub receive-extent : (s : Sheet) → Good s → (r : ℕ) → is-receive (op s r) ≡ true →
+pub receive-extent : (s : Sheet) → Valid s → (r : ℕ) → is-receive (op s r) ≡ true →
     op s r .offset + op s r .long ≤ board s (rank-of s r) .inbox
 unfolding room-for
 receive-extent s g r h =
@@ -61,7 +61,7 @@ receive-extent s g r h =
     (op-extent s g r (receive-inside s r h))
 
 -- AREAS
-pub area-inside : (s : Sheet) → Good s → (r : ℕ) → is-receive (op s r) ≡ true → area-start s r + op s r .long ≤ inbox-total s
+pub area-inside : (s : Sheet) → Valid s → (r : ℕ) → is-receive (op s r) ≡ true → area-start s r + op s r .long ≤ inbox-total s
 unfolding area-start inbox-total
 area-inside s g r h =
     let small = g .rank-small r (receive-inside s r h) in
@@ -81,14 +81,14 @@ share-disjoint s r q same h i a b c d =
     (lt-ltb (op s q .offset) (op s r .offset + op s r .long) (omega arith))))
     h
 
-boards-disjoint : (s : Sheet) → Good s → (r q : ℕ) → is-receive (op s r) ≡ true → is-receive (op s q) ≡ true →
+boards-disjoint : (s : Sheet) → Valid s → (r q : ℕ) → is-receive (op s r) ≡ true → is-receive (op s q) ≡ true →
     rank-of s r < rank-of s q → Areas-disjoint s r q
 unfolding area-start
 boards-disjoint s g r q hr hq l i a b c d =
     let small = g .rank-small q (receive-inside s q hq) in
     omega (arith, receive-extent s g r hr, g .inbox-order (rank-of s r) (rank-of s q) l (omega arith))
 
-pub areas-disjoint : (s : Sheet) → Good s → (r q : ℕ) → is-receive (op s r) ≡ true → is-receive (op s q) ≡ true →
+pub areas-disjoint : (s : Sheet) → Valid s → (r q : ℕ) → is-receive (op s r) ≡ true → is-receive (op s q) ≡ true →
     (rank-of s r ≡ rank-of s q → share (op s r) (op s q) ≡ false) → Areas-disjoint s r q
 areas-disjoint s g r q hr hq apart = go (ℕ-discrete (rank-of s r) (rank-of s q)) (decLt (rank-of s r) (rank-of s q))
   where

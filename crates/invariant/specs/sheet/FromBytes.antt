@@ -1,6 +1,6 @@
--- Bytes that pass check decode to a good sheet: each number of the refusal table settles its part of `Good`.
+-- Bytes that pass check decode to a good sheet: each number of the refusal table settles its part of `Valid`.
 --   Accepted          the tests that bytes with no refusal have passed
---   good-from-bytes   passes bs gives Good (sheet-in bs)
+--   good-from-bytes   passes bs gives Valid (sheet-in bs)
 -- Assumes nothing.
 use mathlib.Core.Path.{_≡_, refl, sym, subst}
 use mathlib.Core.Bool.{Bool, true, false, _&&_, not, cond}
@@ -21,7 +21,7 @@ use Rattle.laws.specs.Laid.{Laid, laid}
 use Rattle.laws.specs.Ranks.{inbox-start-more, sum-before-grows, rank-in-script, rank-lies}
 use Rattle.laws.specs.Scripts.{script-inside}
 use Rattle.laws.specs.Tabled.{Tabled, tabled, or-else-first, or-else-second}
-use Rattle.invariant.specs.sheet.Valid.{Good}
+use Rattle.invariant.specs.sheet.Valid.{Valid}
 
 -- ACCEPTED
 pub record Accepted (bs : List ℕ) : Type 0 where
@@ -132,7 +132,7 @@ module _ (s : Sheet) (h : tables-refusal s .number ≡ 0) where
 pub accepted-laid : (bs : List ℕ) → Accepted bs → Laid bs
 accepted-laid bs A = laid bs (A .sizes) (A .layout)
 
-pub good-from-accepted : (bs : List ℕ) → Accepted bs → Good (sheet-in bs)
+pub good-from-accepted : (bs : List ℕ) → Accepted bs → Valid (sheet-in bs)
 unfolding sheet-in
 good-from-accepted bs A =
     record {
@@ -162,5 +162,5 @@ good-from-accepted bs A =
     L : Laid bs
     L = accepted-laid bs A
 
-pub good-from-bytes : (bs : List ℕ) → passes bs ≡ true → Good (sheet-in bs)
+pub good-from-bytes : (bs : List ℕ) → passes bs ≡ true → Valid (sheet-in bs)
 good-from-bytes bs h = good-from-accepted bs (passed-accepted bs h)

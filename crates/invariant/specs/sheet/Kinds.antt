@@ -15,7 +15,7 @@ use Rattle.rules.specs.Sheet.{Sheet, Op, op, P-of, N-of, rank-of, is-send, is-r
 use Rattle.rules.specs.Refusal.{op-good, fields-good, envelope-good, extent-good, wait-good, room-for}
 use Rattle.rules.specs.Step.{fits-with}
 use Rattle.laws.specs.Tests.{true-not-false, and-left, and-right, or-cases, not-so}
-use Rattle.invariant.specs.sheet.Valid.{Good}
+use Rattle.invariant.specs.sheet.Valid.{Valid}
 
 -- a test is true where its being false is absurd
 pub is-true : (b : Bool) → (b ≡ false → ⊥) → b ≡ true
@@ -59,7 +59,7 @@ receive-no-buffered o e = ne-eqb (o .kind) 2 (λ h. omega (arith, receive-kind o
 pub send-receive-differ : (s : Sheet) (m r : ℕ) → is-send (op s m) ≡ true → is-receive (op s r) ≡ true → m ≢ r
 send-receive-differ s m r p q e = true-not-false (ap (λ (z : ℕ). is-send (op s z)) (sym e) ∙ p) (receive-no-send (op s r) q)
 
-module _ (s : Sheet) (g : Good s) (i : ℕ) (l : i < N-of s) where
+module _ (s : Sheet) (g : Valid s) (i : ℕ) (l : i < N-of s) where
   -- what is neither a receive nor a wait is a send
   pub kind-send : is-wait (op s i) ≡ false → is-receive (op s i) ≡ false → is-send (op s i) ≡ true
   unfolding op-good fields-good

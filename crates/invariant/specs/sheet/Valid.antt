@@ -1,14 +1,17 @@
 -- What a sheet that passes check is known to be. Everything proved about jobs starts from this record and from nothing else
--- about the sheet's bytes. Assumes nothing: this is a definition.
+-- about the sheet's bytes. Assumes nothing.
 use mathlib.Core.Path.{_≡_}
-use mathlib.Core.Bool.{true}
+use mathlib.Core.Bool.{true, _&&_}
 use Prim.Native.Nat.{ℕ, suc, _+_, _≤_, _<_}
+use lib.Dec.{eqb, leb}
 use lib.ListN.{length}
-use Rattle.rules.specs.Limits.{most-boards, most-comms, most-ops, most-payload, most-inbox}
+use borrow.Author.Tests.{eqb-true}
+use Rattle.rules.specs.Limits.{most-boards, most-comms, most-ops, most-payload, most-attached, most-inbox}
 use Rattle.rules.specs.Sheet.{Sheet, board, P-of, N-of, rank-of, counts-before, inbox-start, inbox-total}
 use Rattle.rules.specs.Refusal.{board-good, op-good, request-good}
+use Rattle.laws.specs.Tests.{and-left}
 
-pub record Good (s : Sheet) : Type 0 where
+pub record Valid (s : Sheet) : Type 0 where
   -- P, C, N and L in their ranges (number 2)
   pub some-board : 1 ≤ P-of s
   pub boards-few : P-of s ≤ most-boards
@@ -34,3 +37,10 @@ pub record Good (s : Sheet) : Type 0 where
   pub inbox-next : (r : ℕ) → r < P-of s → inbox-start s (suc r) ≡ inbox-start s r + board s r .inbox
   pub inbox-order : (r q : ℕ) → r < q → q ≤ P-of s → inbox-start s r + board s r .inbox ≤ inbox-start s q
   pub inbox-small : inbox-total s ≤ most-inbox
+
+-- scripts lie one after another
+pub good-first : (s : Sheet) → Valid s → (r : ℕ) → r < P-of s → board s r .first ≡ counts-before s r
+unfolding board-good
+good-first s g r l =
+    eqb-true (board s r .first) (counts-before s r)
+    (and-left (eqb (board s r .first) (counts-before s r)) (leb (board s r .attached) most-attached && leb (inbox-start s (suc r)) most-inbox) (g .boards-good r l))

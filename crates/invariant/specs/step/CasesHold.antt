@@ -13,7 +13,7 @@ use Rattle.rules.specs.Sheet.{Sheet, op, N-of, rank-of, is-send, is-receive, is
 use Rattle.rules.specs.Job.{Job, Entry, job, entry, bare-entry, entry-at, place-at, with-entries, with-places, with-messages, with-receives, with-steps}
 use Rattle.rules.specs.Step.{step, next-op, in-waiting-half, one-finished, first-message, first-receive, fits-with, is-cut, without, delivered, with-place, charge, matched, with-state, pend-message, pend-receive, stopped, initiated, fits-buffer, unmatched, sent, received, initiating, ended}
 use Rattle.laws.specs.Tests.{true-not-false}
-use Rattle.invariant.specs.sheet.Valid.{Good}
+use Rattle.invariant.specs.sheet.Valid.{Valid}
 use Rattle.invariant.specs.sheet.Kinds.{kind-send, send-receive-differ}
 use Rattle.laws.specs.WaitingLists.{Found, first-by-some}
 use Rattle.invariant.specs.Invariant.{Entered, state-at, Posted-before, Came-before, Reached}
@@ -24,7 +24,7 @@ use Rattle.invariant.specs.step.BufferUse.{Use, use-kept, use-charged, u
 use Rattle.invariant.specs.step.Cases.{Finds, Outcome, ends-half, ends-wait, posts, pends, meets, stops}
 
 -- OUTCOMES of a step of board r, which is able, of a job that keeps the invariant
-module _ (s : Sheet) (g : Good s) (lent : List ℕ) (x : Job) (R : Reached s lent x) (r : ℕ) (n : Next s x r) where
+module _ (s : Sheet) (g : Valid s) (lent : List ℕ) (x : Job) (R : Reached s lent x) (r : ℕ) (n : Next s x r) where
   abbrev here : ℕ
   here = next-op s x r
 

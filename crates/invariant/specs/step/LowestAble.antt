@@ -14,7 +14,7 @@ use Rattle.rules.specs.Job.{Job}
 use Rattle.rules.specs.Step.{able, is-none}
 use Rattle.rules.specs.Order.{lowest-able, next-rank, none-able}
 use Rattle.laws.specs.Tests.{not-so, true-not-false}
-use Rattle.invariant.specs.sheet.Valid.{Good}
+use Rattle.invariant.specs.sheet.Valid.{Valid}
 use Rattle.invariant.specs.step.Places.{none-is, able-next}
 
 pub lowest-some : (k r q : ℕ) (s : Sheet) (x : Job) → lowest-able k r s x ≡ some q → able s x q ≡ true
@@ -47,7 +47,7 @@ next-able s x h = go (lowest-able (P-of s) 0 s x) refl h
     go none e h = true-not-false refl h
     go (some r) e h = (r, lowest-some (P-of s) 0 r s x e)
 
-pub next-none : (s : Sheet) → Good s → (x : Job) → none-able s x ≡ true → (r : ℕ) → able s x r ≡ false
+pub next-none : (s : Sheet) → Valid s → (x : Job) → none-able s x ≡ true → (r : ℕ) → able s x r ≡ false
 unfolding none-able next-rank
 next-none s g x h r =
     not-so (able s x r)

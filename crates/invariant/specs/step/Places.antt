@@ -20,7 +20,7 @@ use Rattle.rules.specs.Sheet.{Sheet, board, P-of, N-of, rank-of}
 use Rattle.rules.specs.Job.{Job, Place, place, place-at}
 use Rattle.rules.specs.Step.{able, next-op, is-finished, in-waiting-half, half-complete, is-none, one-finished, now-waiting}
 use Rattle.laws.specs.Tests.{and-left, and-right, or-cases, true-not-false}
-use Rattle.invariant.specs.sheet.Valid.{Good}
+use Rattle.invariant.specs.sheet.Valid.{Valid}
 use Rattle.invariant.specs.Invariant.{state-at, Placed, reach}
 
 -- NEXT: what able says
@@ -37,7 +37,7 @@ pub record Next (s : Sheet) (x : Job) (r : ℕ) : Type 0 where
   pub ranked : rank-of s (next-op s x r) ≡ r
   pub complete : in-waiting-half s x r ≡ true → half-complete s x (next-op s x r) ≡ true
 
-pub able-next : (s : Sheet) → Good s → (x : Job) (r : ℕ) → able s x r ≡ true → Next s x r
+pub able-next : (s : Sheet) → Valid s → (x : Job) (r : ℕ) → able s x r ≡ true → Next s x r
 unfolding able is-finished next-op
 able-next s g x r a =
     record {

@@ -5,7 +5,7 @@ use native.Mathlib.Omega.{arith}
 use lib.ListN.{length}
 use Rattle.rules.specs.Limits.{order-room}
 use Rattle.rules.specs.Sheet.{sheet-in, N-of}
-use Rattle.rules.specs.Service.{told, room-refusal}
+use Rattle.rules.specs.Service.{answers, room-refusal}
 use Rattle.jamturret.specs.Rooms.{roomy}
 use Rattle.jamturret.specs.Outcomes.{Settled, settled, check-told, number-of, rooms-as, follow-sheet, follow-rooms, follow-done}
 use borrow.Author.Needs.{needs}
@@ -15,14 +15,12 @@ use Rattle.jamturret.proofs.jamturret_follow.Reads as reads
 use Rattle.jamturret.proofs.jamturret_follow.Lts as lts
 use Rattle.jamturret.proofs.jobs.follow.Reads as follow-reads
 use Rattle.jamturret.proofs.rooms.refusal.Reads as refusal-reads
-use Rattle.sheet.proofs.check.check.Reads as check-reads
+use Rattle.refusals.proofs.check.check.Reads as check-reads
 use Rattle.sheet.proofs.header.ops.Reads as ops-reads
 
--- src/lib.rt:28:9
 check-requires : tie.Need-check-requires
 check-requires c κs = search needs
 
--- src/lib.rt:30:9
 returns : tie.Need-returns
 returns c =
     let a = c .before .before .before .before .before .before .before .before .args in
@@ -30,22 +28,19 @@ returns c =
     follow-sheet (a .sheet .now) (a .order .now) (a .inbox .now) (a .report .now) (a .scratch .now) (k .result .number) (k .result .place)
     (check-told (a .sheet .now) (k .result .number) (k .result .place) (k .ensures)) (c .if1 .taken)
 
--- src/lib.rt:32:70
 ops-requires : tie.Need-ops-requires
 ops-requires c κs =
     let q = settled (c .before .before .before .before .before .before .before .before .args .sheet .now) (c .before .before .check .result .number) (c .before .before .check .result .place) (c .before .before .check .ensures) (c .if1 .left) in
     omega (arith, q .laid .whole)
 
--- src/lib.rt:32:66
 mul-refusal : tie.Need-mul-refusal
 mul-refusal c = search needs
 
--- src/lib.rt:32:9
 refusal-requires : tie.Need-refusal-requires
 refusal-requires c κs = settled (c .before .before .before .before .before .before .before .before .before .args .sheet .now) (c .before .before .before .check .result .number) (c .before .before .before .check .result .place) (c .before .before .before .check .ensures) (c .before .if1 .left) .laid
 
 -- the rooms' refusal, with the order's own room
-short : (c : tie.After-refusal) → told (room-refusal (sheet-in (c .before .before .before .before .before .before .before .before .before .before .args .sheet .now)) (length (c .before .before .before .before .before .before .before .before .before .before .args .inbox .now)) (length (c .before .before .before .before .before .before .before .before .before .before .args .report .now)) (order-room (N-of (sheet-in (c .before .before .before .before .before .before .before .before .before .before .args .sheet .now)))) (length (c .before .before .before .before .before .before .before .before .before .before .args .scratch .now))) (c .refusal .result .number) (c .refusal .result .place)
+short : (c : tie.After-refusal) → answers (room-refusal (sheet-in (c .before .before .before .before .before .before .before .before .before .before .args .sheet .now)) (length (c .before .before .before .before .before .before .before .before .before .before .args .inbox .now)) (length (c .before .before .before .before .before .before .before .before .before .before .args .report .now)) (order-room (N-of (sheet-in (c .before .before .before .before .before .before .before .before .before .before .args .sheet .now)))) (length (c .before .before .before .before .before .before .before .before .before .before .args .scratch .now))) (c .refusal .result .number) (c .refusal .result .place)
 short c =
     let a = c .before .before .before .before .before .before .before .before .before .before .args in
     rooms-as (a .sheet .now) (length (a .inbox .now)) (length (a .report .now)) (c .before .ops .result) (length (a .scratch .now)) (c .refusal .result .number) (c .refusal .result .place) (c .before .ops .ensures .0) (c .refusal .ensures)
@@ -55,7 +50,6 @@ enough c z =
     let a = c .before .before .before .before .before .before .before .before .before .before .args in
     sym (number-of (room-refusal (sheet-in (a .sheet .now)) (length (a .inbox .now)) (length (a .report .now)) (order-room (N-of (sheet-in (a .sheet .now)))) (length (a .scratch .now))) (c .refusal .result .number) (c .refusal .result .place) (short c)) ∙ z
 
--- src/lib.rt:34:9
 returns-2 : tie.Need-returns-2
 returns-2 c =
     let a = c .before .before .before .before .before .before .before .before .before .before .before .before .args in
@@ -63,26 +57,21 @@ returns-2 c =
     let k = c .before .before .refusal in
     follow-rooms (a .sheet .now) (a .order .now) (a .inbox .now) (a .report .now) (a .scratch .now) (q .unrefused) (k .result .number) (k .result .place) (short (c .before .before)) (c .if2 .taken)
 
--- src/lib.rt:36:5
 follow-requires : tie.Need-follow-requires
 follow-requires c κs =
     let a = c .before .before .before .before .before .before .before .before .before .before .before .before .before .before .before .args in
     let q = settled (a .sheet .now) (c .before .before .before .before .before .before .before .before .before .check .result .number) (c .before .before .before .before .before .before .before .before .before .check .result .place) (c .before .before .before .before .before .before .before .before .before .check .ensures) (c .before .before .before .before .before .before .before .if1 .left) in
     (q .laid, q .good, roomy (sheet-in (a .sheet .now)) (length (a .inbox .now)) (length (a .report .now)) (order-room (N-of (sheet-in (a .sheet .now)))) (length (a .scratch .now)) (enough (c .before .before .before .before .before) (c .before .before .before .if2 .left)))
 
--- src/lib.rt:24:1
 same-length : tie.Need-same-length
 same-length c = search needs
 
--- src/lib.rt:24:1
 same-length-2 : tie.Need-same-length-2
 same-length-2 c = search needs
 
--- src/lib.rt:24:1
 same-length-3 : tie.Need-same-length-3
 same-length-3 c = search needs
 
--- src/lib.rt:24:1
 returns-3 : tie.Need-returns-3
 returns-3 c =
     let a = c .before .before .before .before .before .before .before .before .before .before .before .before .before .before .before .before .before .before .before .before .before .before .args in

@@ -4,7 +4,7 @@ use Prim.Native.Nat.{ℕ}
 use native.Mathlib.Omega.{arith}
 use lib.ListN.{length}
 use Rattle.rules.specs.Sheet.{sheet-in}
-use Rattle.rules.specs.Service.{told, room-refusal}
+use Rattle.rules.specs.Service.{answers, room-refusal}
 use Rattle.jamturret.specs.Rooms.{roomy, rooms-enough}
 use Rattle.jamturret.specs.Outcomes.{Settled, settled, check-told, number-of, run-sheet, run-short, run-done}
 use borrow.Author.Needs.{needs}
@@ -14,13 +14,11 @@ use Rattle.jamturret.proofs.jamturret_run.Reads as reads
 use Rattle.jamturret.proofs.jamturret_run.Lts as lts
 use Rattle.jamturret.proofs.jobs.run.Reads as run-reads
 use Rattle.jamturret.proofs.rooms.refusal.Reads as refusal-reads
-use Rattle.sheet.proofs.check.check.Reads as check-reads
+use Rattle.refusals.proofs.check.check.Reads as check-reads
 
--- src/lib.rt:45:9
 check-requires : tie.Need-check-requires
 check-requires c κs = search needs
 
--- src/lib.rt:47:9
 returns : tie.Need-returns
 returns c =
     let a = c .before .before .before .before .before .before .before .before .args in
@@ -28,11 +26,9 @@ returns c =
     run-sheet (a .sheet .now) (a .inbox .now) (a .report .now) (a .order .now) (a .scratch .now) (k .result .number) (k .result .place)
     (check-told (a .sheet .now) (k .result .number) (k .result .place) (k .ensures)) (c .if1 .taken)
 
--- src/lib.rt:49:9
 refusal-requires : tie.Need-refusal-requires
 refusal-requires c κs = settled (c .before .before .before .before .before .before .before .before .args .sheet .now) (c .before .before .check .result .number) (c .before .before .check .result .place) (c .before .before .check .ensures) (c .if1 .left) .laid
 
--- src/lib.rt:51:9
 returns-2 : tie.Need-returns-2
 returns-2 c =
     let a = c .before .before .before .before .before .before .before .before .before .before .before .args in
@@ -46,30 +42,24 @@ enough c z =
     let a = c .before .before .before .before .before .before .before .before .before .args in
     sym (number-of (room-refusal (sheet-in (a .sheet .now)) (length (a .inbox .now)) (length (a .report .now)) (length (a .order .now)) (length (a .scratch .now))) (c .refusal .result .number) (c .refusal .result .place) (c .refusal .ensures)) ∙ z
 
--- src/lib.rt:53:5
 run-requires : tie.Need-run-requires
 run-requires c κs =
     let a = c .before .before .before .before .before .before .before .before .before .before .before .before .before .before .before .args in
     let q = settled (a .sheet .now) (c .before .before .before .before .before .before .before .before .before .check .result .number) (c .before .before .before .before .before .before .before .before .before .check .result .place) (c .before .before .before .before .before .before .before .before .before .check .ensures) (c .before .before .before .before .before .before .before .if1 .left) in
     (q .laid, q .good, roomy (sheet-in (a .sheet .now)) (length (a .inbox .now)) (length (a .report .now)) (length (a .order .now)) (length (a .scratch .now)) (enough (c .before .before .before .before .before .before) (c .before .before .before .before .if2 .left)))
 
--- src/lib.rt:41:1
 same-length : tie.Need-same-length
 same-length c = search needs
 
--- src/lib.rt:41:1
 same-length-2 : tie.Need-same-length-2
 same-length-2 c = search needs
 
--- src/lib.rt:41:1
 same-length-3 : tie.Need-same-length-3
 same-length-3 c = search needs
 
--- src/lib.rt:41:1
 same-length-4 : tie.Need-same-length-4
 same-length-4 c = search needs
 
--- src/lib.rt:41:1
 returns-3 : tie.Need-returns-3
 returns-3 c =
     let a = c .before .before .before .before .before .before .before .before .before .before .before .before .before .before .before .before .before .before .before .before .before .before .before .before .args in

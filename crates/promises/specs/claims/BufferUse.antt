@@ -15,7 +15,7 @@ use Rattle.rules.specs.Job.{Job, Place, place, place-at}
 use Rattle.rules.specs.Step.{able, step}
 use Rattle.rules.specs.Order.{follow-from, followed}
 use Rattle.promises.specs.Statements.{pending-charges, most-in-use}
-use Rattle.invariant.specs.sheet.Valid.{Good}
+use Rattle.invariant.specs.sheet.Valid.{Valid}
 use Rattle.invariant.specs.deliveries.Assumed.{Ground}
 use Rattle.laws.specs.Sums.{sum-below}
 use Rattle.invariant.specs.Invariant.{charge-in, Reached}
@@ -34,7 +34,7 @@ pub in-use-reached : {s : Sheet} {i : List ℕ} {x : Job} → Reached s i x → 
 in-use-reached {s} {i} {x} R r l = R .in-use-sum r l ∙ charges-summed s x r (N-of s)
 
 -- PEAKS
-pub step-peak : {s : Sheet} (g : Good s) {i : List ℕ} {x : Job} → Reached s i x → (q : ℕ) → able s x q ≡ true → (r : ℕ) →
+pub step-peak : {s : Sheet} (g : Valid s) {i : List ℕ} {x : Job} → Reached s i x → (q : ℕ) → able s x q ≡ true → (r : ℕ) →
     place-at (step s q x) r .peak ≡ max (place-at x r .peak) (place-at (step s q x) r .in-use)
 unfolding place-at
 step-peak {s} g {i} {x} R q a r = go (step-after g R q a)
@@ -51,7 +51,7 @@ step-peak {s} g {i} {x} R q a r = go (step-after g R q a)
         use-in : List Place → ℕ
         use-in ps = getD ps r (place 0 false 0 0) .in-use
 
-pub follow-peak : {s : Sheet} (g : Good s) → Ground s → {i : List ℕ} → inbox-total s ≤ length i →
+pub follow-peak : {s : Sheet} (g : Valid s) → Ground s → {i : List ℕ} → inbox-total s ≤ length i →
     (r k : ℕ) (rs : List ℕ) {x : Job} → Reached s i x →
     place-at (follow-from k s rs x .left) r .peak ≡ max (place-at x r .peak) (most-in-use s rs x r)
 unfolding follow-from followed most-in-use

@@ -22,7 +22,7 @@ use Rattle.rules.specs.Refusal.{Refusal, refusal, accepted, or-else, sheet-refu
 use Rattle.rules.specs.Step.{is-none}
 use Rattle.rules.specs.Order.{follow, run}
 use Rattle.rules.specs.Report.{report}
-use Rattle.rules.specs.Service.{told, room-refusal, order-refusal, in-front, kept-or, follow-refusal, Follow-says, run-refusal, Run-says}
+use Rattle.rules.specs.Service.{answers, room-refusal, order-refusal, in-front, kept-or, follow-refusal, Follow-says, run-refusal, Run-says}
 use Rattle.rules.specs.Claims.{all-bytes, passes, accepts, left-by}
 use Rattle.laws.specs.Tests.{and-right, cond-true, cond-false}
 use Rattle.promises.specs.Statements.{Follow-call, Run-call}
@@ -108,7 +108,7 @@ module _ {bs o : List ℕ} (p : passes bs ≡ true) (f : Follow-call bs o) where
   abbrev follow-number : Refusal
   follow-number = follow-refusal bs o (f .inbox) (length (f .report)) (length (f .scratch))
 
-  follow-told : told follow-number (f .number) (f .place)
+  follow-told : answers follow-number (f .number) (f .place)
   unfolding Follow-says
   follow-told = f .said .0
 
@@ -118,7 +118,7 @@ module _ {bs o : List ℕ} (p : passes bs ≡ true) (f : Follow-call bs o) where
 
   follow-enough : Rooms (sheet-in bs) (length (f .inbox)) (length (f .report)) (order-room (N-of (sheet-in bs)))
       (length (f .scratch))
-  unfolding told
+  unfolding answers
   follow-enough =
       rooms (sheet-in bs) (length (f .inbox)) (length (f .report)) (order-room (N-of (sheet-in bs))) (length (f .scratch))
       (λ e. f .not-short (follow-told .0 ∙ ap (λ (z : Refusal). z .number)
@@ -131,7 +131,7 @@ module _ {bs o : List ℕ} (p : passes bs ≡ true) (f : Follow-call bs o) where
       (ap (λ (z : Refusal). z .number) (follow-enough .accepts-all))
 
   pub follow-answer : Follow-answer f
-  unfolding told
+  unfolding answers
   follow-answer =
       record {
         inbox-room = follow-enough .inbox;
@@ -142,7 +142,7 @@ module _ {bs o : List ℕ} (p : passes bs ≡ true) (f : Follow-call bs o) where
   -- success
   module _ (success : f .number ≡ 0) where
     number-zero : follow-number .number ≡ 0
-    unfolding told
+    unfolding answers
     number-zero = sym (follow-told .0) ∙ success
 
     pub follow-accepted : accepts (sheet-in bs) o (f .inbox) ≡ true
@@ -169,7 +169,7 @@ pub record Run-answer {bs : List ℕ} (f : Run-call bs) : Type 0 where
   pub report-is : f .report-now ≡ in-front (report (sheet-in bs) (run (sheet-in bs) (f .inbox) .end)) (f .report)
 
 pub run-answer : {bs : List ℕ} → passes bs ≡ true → (f : Run-call bs) → Run-answer f
-unfolding Run-says told run-refusal refusal
+unfolding Run-says answers run-refusal refusal
 run-answer {bs} p f =
     record {
       inbox-room = enough .inbox;

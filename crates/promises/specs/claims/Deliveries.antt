@@ -1,4 +1,4 @@
--- Memory, byte by byte: what the deliveries in script order have painted is what `byte-told` tells.
+-- Memory, byte by byte: what the deliveries in script order have replayed is what `byte-due` tells.
 --   deliveries-reached    the statement Deliveries, of one job that keeps the invariant
 -- Assumes nothing.
 use mathlib.Core.Path.{_≡_, refl, ap, _∙_}
@@ -13,22 +13,22 @@ use Rattle.rules.specs.Sheet.{Sheet, op, N-of, inbox-total, is-receive}
 use Rattle.rules.specs.Job.{Job}
 use Rattle.rules.specs.Step.{area-start, copied, delivered}
 use Rattle.laws.specs.Tests.{and-left, and-right}
-use Rattle.promises.specs.Statements.{covers, byte-told}
-use Rattle.invariant.specs.sheet.Valid.{Good}
+use Rattle.promises.specs.Statements.{covers, byte-due}
+use Rattle.invariant.specs.sheet.Valid.{Valid}
 use Rattle.laws.specs.SpliceOrder.{within}
 use Rattle.invariant.specs.deliveries.Commute.{delivered-at, ground}
-use Rattle.invariant.specs.Invariant.{state-at, partner-at, paint, painted, Reached}
-use Rattle.invariant.specs.preserve.Memory.{painted-length}
+use Rattle.invariant.specs.Invariant.{state-at, partner-at, replay, replayed, Reached}
+use Rattle.invariant.specs.preserve.Memory.{replayed-length}
 
-module _ (s : Sheet) (g : Good s) (lent : List ℕ) (x : Job) (R : Reached s lent x) (room : inbox-total s ≤ length lent) where
+module _ (s : Sheet) (g : Valid s) (lent : List ℕ) (x : Job) (R : Reached s lent x) (room : inbox-total s ≤ length lent) where
   -- the message's byte that receive j would have put at `at`
   abbrev message-byte : (j at : ℕ) → ℕ
   message-byte j at = getD (s .payload) (op s (partner-at x j) .offset + (at - area-start s j)) 0
 
-  paint-told : (j at : ℕ) (bs : List ℕ) → inbox-total s ≤ length bs →
-      getD (paint s x j bs) at 0 ≡ cond (covers s x j at) (message-byte j at) (getD bs at 0)
-  unfolding paint covers
-  paint-told j at bs l = go (is-receive (op s j) && eqb (state-at x j) 3) refl
+  replay-is-byte-at : (j at : ℕ) (bs : List ℕ) → inbox-total s ≤ length bs →
+      getD (replay s x j bs) at 0 ≡ cond (covers s x j at) (message-byte j at) (getD bs at 0)
+  unfolding replay covers
+  replay-is-byte-at j at bs l = go (is-receive (op s j) && eqb (state-at x j) 3) refl
     where
       go : (b : Bool) → is-receive (op s j) && eqb (state-at x j) 3 ≡ b →
           getD (cond b (delivered s (partner-at x j) j bs) bs) at 0 ≡
@@ -39,15 +39,15 @@ module _ (s : Sheet) (g : Good s) (lent : List ℕ) (x : Job) (R : Reached s len
           delivered-at s g (partner-at x j) j receives bs l (R .stable .receive-met j receives matched .sends) at
       go false e = refl
 
-  painted-told : (n at : ℕ) → getD (painted s x n lent) at 0 ≡ byte-told n s x lent at
-  unfolding painted byte-told
-  painted-told zero at = refl
-  painted-told (suc n) at =
-      paint-told n at (painted s x n lent) (omega
-      (arith, painted-length g (ground s g) (R .stable) (R .placed) (R .shaped) n lent room))
-      ∙ ap (λ (z : ℕ). cond (covers s x n at) (message-byte n at) z) (painted-told n at)
+  replayed-is-byte-at : (n at : ℕ) → getD (replayed s x n lent) at 0 ≡ byte-due n s x lent at
+  unfolding replayed byte-due
+  replayed-is-byte-at zero at = refl
+  replayed-is-byte-at (suc n) at =
+      replay-is-byte-at n at (replayed s x n lent) (omega
+      (arith, replayed-length g (ground s g) (R .stable) (R .placed) (R .shaped) n lent room))
+      ∙ ap (λ (z : ℕ). cond (covers s x n at) (message-byte n at) z) (replayed-is-byte-at n at)
 
   pub deliveries-reached : (length (x .memory) ≡ length lent)
-      × ((at : ℕ) → getD (x .memory) at 0 ≡ byte-told (N-of s) s x lent at)
+      × ((at : ℕ) → getD (x .memory) at 0 ≡ byte-due (N-of s) s x lent at)
   deliveries-reached =
-      (R .memory-long, λ at. ap (λ (bs : List ℕ). getD bs at 0) (R .memory-painted) ∙ painted-told (N-of s) at)
+      (R .memory-long, λ at. ap (λ (bs : List ℕ). getD bs at 0) (R .memory-replayed) ∙ replayed-is-byte-at (N-of s) at)

@@ -10,7 +10,7 @@ use Rattle.rules.specs.Sheet.{sheet-in}
 use Rattle.rules.specs.Order.{follow}
 use Rattle.rules.specs.Claims.{left-by}
 use Rattle.promises.specs.Statements.{Lent, Deliveries, Verdicts, In-use, Peaks}
-use Rattle.invariant.specs.sheet.Valid.{Good}
+use Rattle.invariant.specs.sheet.Valid.{Valid}
 use Rattle.invariant.specs.sheet.FromBytes.{good-from-bytes}
 use Rattle.invariant.specs.Invariant.{Reached}
 use Rattle.invariant.specs.deliveries.Commute.{ground}
@@ -19,7 +19,7 @@ use Rattle.promises.specs.claims.Deliveries.{deliveries-reached}
 use Rattle.promises.specs.claims.Verdicts.{verdict-reached}
 use Rattle.promises.specs.claims.BufferUse.{in-use-reached, follow-peak}
 
-pub lent-good : {bs i : List ℕ} → Lent bs i → Good (sheet-in bs)
+pub lent-good : {bs i : List ℕ} → Lent bs i → Valid (sheet-in bs)
 lent-good {bs} h = good-from-bytes bs (h .passing)
 
 pub lent-reached : {bs i : List ℕ} (h : Lent bs i) (rs : List ℕ) → Reached (sheet-in bs) i (left-by (sheet-in bs) rs i)

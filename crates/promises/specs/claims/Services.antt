@@ -20,7 +20,7 @@ use Rattle.promises.specs.Statements.{Lent, Ends, Run-ends, Ends-alike, 
 use Rattle.laws.specs.SpliceOrder.{Near}
 use Rattle.promises.specs.compare.ReportBytes.{report-length}
 use Rattle.promises.specs.compare.PeaksAside.{level-report, level-none-able}
-use Rattle.invariant.specs.sheet.Valid.{Good}
+use Rattle.invariant.specs.sheet.Valid.{Valid}
 use Rattle.invariant.specs.Invariant.{Reached}
 use Rattle.invariant.specs.deliveries.Commute.{ground}
 use Rattle.promises.specs.compare.SamePositions.{Like, like-level}
@@ -43,7 +43,7 @@ front-alike {s} h =
     }
 
 -- like jobs on rooms that start with the same bytes
-front-like : {s : Sheet} → Good s → {i j : List ℕ} {x y : Job} {X : Reached s i x} {Y : Reached s j y} → Like X Y →
+front-like : {s : Sheet} → Valid s → {i j : List ℕ} {x y : Job} {X : Reached s i x} {Y : Reached s j y} → Like X Y →
     Near (inbox-total s) i j → Alike-front s x y
 front-like {s} g {i} {j} {x} {y} K h =
     record {

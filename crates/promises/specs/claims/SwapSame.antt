@@ -16,7 +16,7 @@ use Rattle.rules.specs.Order.{Followed, follow, follow-from}
 use Rattle.rules.specs.Claims.{accepts, left-by, calm, Alike}
 use Rattle.laws.specs.Tests.{true-not-false}
 use Rattle.promises.specs.Statements.{Lent, Harmless, Swap-general, Swap-same, Follow-swaps}
-use Rattle.invariant.specs.sheet.Valid.{Good}
+use Rattle.invariant.specs.sheet.Valid.{Valid}
 use Rattle.invariant.specs.deliveries.Assumed.{Ground}
 use Rattle.invariant.specs.Invariant.{Reached}
 use Rattle.invariant.specs.deliveries.Commute.{ground}
@@ -34,7 +34,7 @@ module _ {bs i : List ℕ} (h : Lent bs i) (before : List ℕ) (p q : ℕ) (d : 
   abbrev x : Job
   x = left-by s before i
 
-  g : Good s
+  g : Valid s
   g = lent-good h
 
   A : Ground s

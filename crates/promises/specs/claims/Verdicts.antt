@@ -18,7 +18,7 @@ use Rattle.rules.specs.Order.{none-able}
 use Rattle.rules.specs.Report.{all-finished, verdict-of}
 use Rattle.laws.specs.Tests.{and-left, and-right, true-not-false}
 use Rattle.promises.specs.Statements.{Verdict-exact}
-use Rattle.invariant.specs.sheet.Valid.{Good}
+use Rattle.invariant.specs.sheet.Valid.{Valid}
 use Rattle.invariant.specs.Invariant.{Stopped}
 use Rattle.invariant.specs.step.Places.{able-next}
 use Rattle.invariant.specs.step.LowestAble.{next-able, next-none}
@@ -58,7 +58,7 @@ this e q = (λ h. q, λ h. e)
 other : {v w : ℕ} {Q : Type 0} → v ≢ w → (Q → ⊥) → (v ≡ w) ↔ Q
 other d n = (λ h. absurd (d h), λ h. absurd (n h))
 
-module _ (s : Sheet) (g : Good s) (x : Job) (stop-at : (t : Stop) → x .stop ≡ some t → Stopped s x t) where
+module _ (s : Sheet) (g : Valid s) (x : Job) (stop-at : (t : Stop) → x .stop ≡ some t → Stopped s x t) where
   -- what each verdict says
   abbrev Some-able : Type 0
   Some-able = (r : ℕ) × (able s x r ≡ true)

@@ -13,7 +13,7 @@ use native.Mathlib.Omega.{arith}
 use Rattle.rules.specs.Sheet.{Sheet, op, board, is-receive, is-wait, is-ready, is-buffered, is-nonblocking}
 use Rattle.rules.specs.Job.{Job, Stop, Place, place, job, place-at, with-entries, with-places, with-messages, with-receives, with-stop, with-steps}
 use Rattle.rules.specs.Step.{able, step, next-op, in-waiting-half, is-none, first-message, first-receive, matched, with-place, with-state, charge, pend-message, pend-receive, stopped, initiated, fits-buffer, unmatched, sent, received, initiating, ended}
-use Rattle.invariant.specs.sheet.Valid.{Good}
+use Rattle.invariant.specs.sheet.Valid.{Valid}
 use Rattle.invariant.specs.sheet.Kinds.{send-no-wait, receive-no-wait}
 use Rattle.invariant.specs.Invariant.{Reached}
 use Rattle.invariant.specs.step.Places.{Next, Moved, able-next, moved-finished, moved-waiting, moved-finished-other, moved-waiting-other}
@@ -154,12 +154,12 @@ module _ {s : Sheet} {x y : Job} {r : ℕ} (n : Next s x r) where
       (ap (λ (z : Job). z .stop) (h .is-told)) (ap (λ (z : Job). z .places) (h .is-told))
       (ap (λ (z : Job). z .steps) (h .is-told))
 
-pub step-after : {s : Sheet} (g : Good s) {lent : List ℕ} {x : Job} → Reached s lent x → (r : ℕ) → able s x r ≡ true →
+pub step-after : {s : Sheet} (g : Valid s) {lent : List ℕ} {x : Job} → Reached s lent x → (r : ℕ) → able s x r ≡ true →
     After s x (step s r x) r
 step-after {s} g {lent} {x} R r a = let n = able-next s g x r a in after n (outcome s g lent x R r n)
 
 -- every step is counted
-pub step-counted : {s : Sheet} (g : Good s) {lent : List ℕ} {x : Job} → Reached s lent x → (r : ℕ) → able s x r ≡ true →
+pub step-counted : {s : Sheet} (g : Valid s) {lent : List ℕ} {x : Job} → Reached s lent x → (r : ℕ) → able s x r ≡ true →
     step s r x .steps ≡ suc (x .steps)
 step-counted {s} g {lent} {x} R r a = go (step-after g R r a)
   where

@@ -19,7 +19,7 @@ use Rattle.rules.specs.Sheet.{Sheet, op, board, P-of, rank-of, is-receive, is-w
 use Rattle.rules.specs.Job.{Job, bare-entry, entry-at, place-at}
 use Rattle.rules.specs.Step.{able, next-op, is-finished, in-waiting-half, half-complete, is-none}
 use Rattle.laws.specs.Tests.{and-both, and-left, and-right}
-use Rattle.invariant.specs.sheet.Valid.{Good}
+use Rattle.invariant.specs.sheet.Valid.{Valid}
 use Rattle.invariant.specs.sheet.Kinds.{kind-send}
 use Rattle.invariant.specs.Invariant.{Entered, state-at, partner-at, reach, row-of, Met, Placed, Reached}
 use Rattle.invariant.specs.matching.Monotone.{Same-order, keep}
@@ -43,7 +43,7 @@ pub record Behind {s : Sheet} {i j : List ℕ} {x y : Job} (X : Reached s i x) (
   pub order : Same-order s (X .came) x (Y .came) y
 
 -- what is entered goes by the places
-pub places-entered : {s : Sheet} → Good s → {x y : Job} → Placed s x → Placed s y →
+pub places-entered : {s : Sheet} → Valid s → {x y : Job} → Placed s x → Placed s y →
     ((r : ℕ) → r < P-of s → position x r ≤ position y r) →
     (k : ℕ) → Entered x k → Entered y k
 places-entered {s} g {x} {y} p q l k h =
@@ -55,7 +55,7 @@ places-entered {s} g {x} {y} p q l k h =
           (l (rank-of s k) (g .rank-small k (only .0))),
     ))
 
-module _ {s : Sheet} (g : Good s) {i j : List ℕ} {x y : Job} (X : Reached s i x) (Y : Reached s j y) (B : Behind X Y) where
+module _ {s : Sheet} (g : Valid s) {i j : List ℕ} {x y : Job} (X : Reached s i x) (Y : Reached s j y) (B : Behind X Y) where
   pub behind-entered : (k : ℕ) → Entered x k → Entered y k
   behind-entered = places-entered g (X .placed) (Y .placed) (B .places)
 
@@ -131,18 +131,18 @@ module _ {s : Sheet} (g : Good s) {i j : List ℕ} {x y : Job} (X : Reached s i 
       last-part : (b : Bool) → place-at x r .waiting || is-wait (op s k) ≡ b → not b || half-complete s x k ≡ true →
           not (place-at y r .waiting || is-wait (op s (board s r .first + place-at y r .finished))) || half-complete s y
           (board s r .first + place-at y r .finished) ≡ true
-      last-part b told h =
+      last-part b answers h =
           ap (λ (w : Bool). not (w || is-wait (op s (board s r .first + place-at y r .finished))) || half-complete s y
           (board s r .first + place-at y r .finished)) same-waiting
           ∙ ap (λ (n : ℕ). not (place-at x r .waiting || is-wait (op s n)) || half-complete s y n) same-next
-          ∙ ap (λ (w : Bool). not w || half-complete s y k) told ∙ go b h
+          ∙ ap (λ (w : Bool). not w || half-complete s y k) answers ∙ go b h
         where
           go : (b : Bool) → not b || half-complete s x k ≡ true → not b || half-complete s y k ≡ true
           go true h = half-complete-on s x y behind-complete k h
           go false h = refl
 
 -- BEHIND BOTH WAYS
-module _ {s : Sheet} (g : Good s) {i j : List ℕ} {x y : Job} (X : Reached s i x) (Y : Reached s j y) (B : Behind X Y)
+module _ {s : Sheet} (g : Valid s) {i j : List ℕ} {x y : Job} (X : Reached s i x) (Y : Reached s j y) (B : Behind X Y)
     (C : Behind Y X) where
   level-row : (k : ℕ) → (state-at y k ≡ state-at x k)
       × (row-of s k (state-at y k) (partner-at y k) ≡ row-of s k (state-at x k) (partner-at x k))

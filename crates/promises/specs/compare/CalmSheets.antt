@@ -24,7 +24,7 @@ use Rattle.rules.specs.Job.{Job, place-at}
 use Rattle.rules.specs.Step.{able, step, next-op, in-waiting-half, is-none, first-receive, fits-buffer, fits-with, charge-of}
 use Rattle.rules.specs.Claims.{calm, none-wild, is-any-source, all-charges, script, all-covered}
 use Rattle.laws.specs.Tests.{and-both, and-left, and-right, or-false-left, true-not-false}
-use Rattle.invariant.specs.sheet.Valid.{Good}
+use Rattle.invariant.specs.sheet.Valid.{Valid}
 use Rattle.invariant.specs.sheet.Kinds.{fit-source}
 use Rattle.laws.specs.Sums.{sum-below, sum-gap, sum-rest, sum-more, sum-zero}
 use Rattle.invariant.specs.Invariant.{Entered, state-at, charge-in, unmatched-state, Reached}
@@ -96,7 +96,7 @@ covered-mine : (s : Sheet) (r j : ℕ) → rank-of s j ≡ r → covered s r j �
 unfolding covered
 covered-mine s r j e = ap (λ (b : Bool). cond (b && is-buffered (op s j)) (charge-of (op s j)) 0) (eq-eqb (rank-of s j) r e)
 
-module _ (s : Sheet) (g : Good s) (r : ℕ) (l : r < P-of s) where
+module _ (s : Sheet) (g : Valid s) (r : ℕ) (l : r < P-of s) where
   abbrev from : ℕ
   from = board s r .first
 
@@ -160,7 +160,7 @@ module _ (s : Sheet) (g : Good s) (r : ℕ) (l : r < P-of s) where
       split = omega (arith, g .script-inside r l)
 
 -- NEVER STOPS
-module _ {s : Sheet} (g : Good s) (c : calm s ≡ true) {lent : List ℕ} {x : Job} (R : Reached s lent x) (r : ℕ)
+module _ {s : Sheet} (g : Valid s) (c : calm s ≡ true) {lent : List ℕ} {x : Job} (R : Reached s lent x) (r : ℕ)
     (a : able s x r ≡ true) where
   n : Next s x r
   n = able-next s g x r a
@@ -238,11 +238,11 @@ unfolding is-any-source
 calm-order {s} c {i} {j} {x} {y} X Y k m r sk sm rr fk fm hm hk l = go (decLt k m) (decLt m k)
   where
     source : (q : ℕ) → fits-with s q r ≡ true → op s r .peer ≡ rank-of s q
-    source q f = told (fit-source s q r f)
+    source q f = answers (fit-source s q r f)
       where
-        told : (op s r .peer ≡ any) ⊎ (op s r .peer ≡ rank-of s q) → op s r .peer ≡ rank-of s q
-        told (inl e) = true-not-false (and-both rr (eq-eqb (op s r .peer) any e)) (calm-tame-all s c r)
-        told (inr e) = e
+        answers : (op s r .peer ≡ any) ⊎ (op s r .peer ≡ rank-of s q) → op s r .peer ≡ rank-of s q
+        answers (inl e) = true-not-false (and-both rr (eq-eqb (op s r .peer) any e)) (calm-tame-all s c r)
+        answers (inr e) = e
 
     same : rank-of s k ≡ rank-of s m
     same = sym (source k fk) ∙ source m fm

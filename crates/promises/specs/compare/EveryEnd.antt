@@ -16,7 +16,7 @@ use Rattle.rules.specs.Job.{Job, Stop, place-at, started, job}
 use Rattle.rules.specs.Step.{able, step, next-op, in-waiting-half, is-none}
 use Rattle.rules.specs.Claims.{calm, left-by}
 use Rattle.laws.specs.Tests.{true-not-false}
-use Rattle.invariant.specs.sheet.Valid.{Good}
+use Rattle.invariant.specs.sheet.Valid.{Valid}
 use Rattle.invariant.specs.deliveries.Assumed.{Ground}
 use Rattle.laws.specs.Sums.{sum-below, sum-same}
 use Rattle.invariant.specs.Invariant.{reach, steps-done, Reached}
@@ -36,7 +36,7 @@ record Catching (s : Sheet) (i : List ℕ) (y x : Job) : Type 0 where
   places : (r : ℕ) → r < P-of s → position x r ≤ position y r
 
 -- ONE STEP, of a calm sheet
-module _ {s : Sheet} (g : Good s) (A : Ground s) (c : calm s ≡ true) (i : List ℕ) {j : List ℕ} (room : inbox-total s ≤ length i)
+module _ {s : Sheet} (g : Valid s) (A : Ground s) (c : calm s ≡ true) (i : List ℕ) {j : List ℕ} (room : inbox-total s ≤ length i)
     {y : Job} (Y : Reached s j y) (going : y .stop ≡ none) (end : (r : ℕ) → able s y r ≡ false) where
   module _ {x : Job} (C : Catching s i y x) (r : ℕ) (a : able s x r ≡ true) where
     X : Reached s i x
@@ -132,7 +132,7 @@ module _ {s : Sheet} (g : Good s) (A : Ground s) (c : calm s ≡ true) (i : List
           }
 
 -- on a calm sheet nothing stops
-pub calm-left : {s : Sheet} → Good s → Ground s → calm s ≡ true → (rs lent : List ℕ) → inbox-total s ≤ length lent →
+pub calm-left : {s : Sheet} → Valid s → Ground s → calm s ≡ true → (rs lent : List ℕ) → inbox-total s ≤ length lent →
     Reached s lent (left-by s rs lent) × (left-by s rs lent .stop ≡ none)
 unfolding started job
 calm-left {s} g A c rs lent room =
@@ -140,7 +140,7 @@ calm-left {s} g A c rs lent room =
     (λ x r h a. (step-sound g A room (h .0) r a .reached, calm-going g c (h .0) r a)) rs lent (start-reached g lent, refl)
 
 -- STEPS by where the boards position
-steps-same : {s : Sheet} → Good s → (x y : Job) → ((r : ℕ) → r < P-of s → position x r ≡ position y r) →
+steps-same : {s : Sheet} → Valid s → (x y : Job) → ((r : ℕ) → r < P-of s → position x r ≡ position y r) →
     sum-below (N-of s) (steps-done s x) ≡ sum-below (N-of s) (steps-done s y)
 unfolding steps-done reach next-op
 steps-same {s} g x y same = sum-same (N-of s) (steps-done s x) (steps-done s y) at
@@ -152,7 +152,7 @@ steps-same {s} g x y same = sum-same (N-of s) (steps-done s x) (steps-done s y) 
         cc (position-finished x y r e, position-waiting x y r e)
 
 -- TWO ENDS
-pub ends-like : {s : Sheet} (g : Good s) (A : Ground s) (c : calm s ≡ true) (a b lent : List ℕ) → inbox-total s ≤ length lent →
+pub ends-like : {s : Sheet} (g : Valid s) (A : Ground s) (c : calm s ≡ true) (a b lent : List ℕ) → inbox-total s ≤ length lent →
     ((r : ℕ) → able s (left-by s a lent) r ≡ false) → ((r : ℕ) → able s (left-by s b lent) r ≡ false) →
     (X : Reached s lent (left-by s a lent)) (Y : Reached s lent (left-by s b lent)) → Like X Y
 unfolding is-none

@@ -21,7 +21,7 @@ use Rattle.rules.specs.Step.{able, step, next-op, in-waiting-half, fits-with}
 use Rattle.rules.specs.Claims.{is-any-source}
 use Rattle.laws.specs.Tests.{and-both}
 use Rattle.promises.specs.Statements.{Harmless}
-use Rattle.invariant.specs.sheet.Valid.{Good}
+use Rattle.invariant.specs.sheet.Valid.{Valid}
 use Rattle.invariant.specs.deliveries.Assumed.{Ground}
 use Rattle.invariant.specs.sheet.Kinds.{send-no-wait, fit-source}
 use Rattle.invariant.specs.Invariant.{Entered, reach, Reached, Extended}
@@ -35,7 +35,7 @@ use Rattle.promises.specs.compare.AfterStep.{After, goes-on, halts, step
 use Rattle.promises.specs.compare.SamePositions.{Like}
 
 -- A STEP of p, after which the job goes on
-module _ {s : Sheet} (g : Good s) (A : Ground s) {lent : List ℕ} (room : inbox-total s ≤ length lent) {x : Job}
+module _ {s : Sheet} (g : Valid s) (A : Ground s) {lent : List ℕ} (room : inbox-total s ≤ length lent) {x : Job}
     (X : Reached s lent x)
     (p : ℕ) (a : able s x p ≡ true) (going : step s p x .stop ≡ none) where
   abbrev pub E : Extended X (step s p x) (next-op s x p)
@@ -65,7 +65,7 @@ module _ {s : Sheet} (g : Good s) (A : Ground s) {lent : List ℕ} (room : inbox
   swap-able q d b = still-able g X (E .reached) step-ahead q (sym (moved-position-other step-moved q d)) b going
 
 -- BOTH STEPS, in both orders
-module _ {s : Sheet} (g : Good s) (A : Ground s) {lent : List ℕ} (room : inbox-total s ≤ length lent) {x : Job}
+module _ {s : Sheet} (g : Valid s) (A : Ground s) {lent : List ℕ} (room : inbox-total s ≤ length lent) {x : Job}
     (X : Reached s lent x)
     (p q : ℕ) (d : p ≢ q) (a : able s x p ≡ true) (b : able s x q ≡ true) (H : Harmless s x p q) where
   -- a step after which the next one does not stop the job did not stop it

@@ -19,7 +19,7 @@ use Rattle.rules.specs.Sheet.{Sheet, op, board, P-of, N-of, inbox-total}
 use Rattle.rules.specs.Job.{Job, Stop, bare-entry, entry-at, place-at}
 use Rattle.rules.specs.Step.{able, step, next-op, is-none, first-by, first-receive, fits-with, fits-buffer, charge-of}
 use Rattle.laws.specs.Tests.{true-not-false}
-use Rattle.invariant.specs.sheet.Valid.{Good}
+use Rattle.invariant.specs.sheet.Valid.{Valid}
 use Rattle.invariant.specs.deliveries.Assumed.{Ground}
 use Rattle.laws.specs.Sums.{sum-same}
 use Rattle.laws.specs.WaitingLists.{first-by-none, first-by-some}
@@ -59,7 +59,7 @@ is-none-same none (some v) f h = absurd (let z : some v ≡ none = f refl in let
 is-none-same (some v) none f h = absurd (let z : some v ≡ none = h refl in let y : _≡_ {A = ℕ} 0 1 = cc in omega arith)
 is-none-same (some v) (some w) f h = refl
 
-module _ {s : Sheet} (g : Good s) {i j : List ℕ} {x y : Job} {X : Reached s i x} {Y : Reached s j y} (K : Like X Y) where
+module _ {s : Sheet} (g : Valid s) {i j : List ℕ} {x y : Job} {X : Reached s i x} {Y : Reached s j y} (K : Like X Y) where
   pub like-behind : Behind X Y
   like-behind =
       record {

@@ -13,23 +13,23 @@ use Rattle.rules.specs.Sheet.{Sheet, op, N-of, inbox-total, is-receive}
 use Rattle.rules.specs.Job.{Job, job, started}
 use Rattle.rules.specs.Step.{delivered}
 use Rattle.rules.specs.Order.{follow}
-use Rattle.invariant.specs.sheet.Valid.{Good}
+use Rattle.invariant.specs.sheet.Valid.{Valid}
 use Rattle.invariant.specs.deliveries.Assumed.{Ground}
-use Rattle.invariant.specs.Invariant.{state-at, partner-at, paint, painted, Reached}
+use Rattle.invariant.specs.Invariant.{state-at, partner-at, replay, replayed, Reached}
 use Rattle.invariant.specs.matching.Monotone.{Same-order}
 use Rattle.laws.specs.SpliceOrder.{Near, splice-near}
-use Rattle.invariant.specs.preserve.Memory.{painted-rows}
+use Rattle.invariant.specs.preserve.Memory.{replayed-rows}
 use Rattle.invariant.specs.preserve.Orders.{start-reached, start-position, none-entered}
 use Rattle.promises.specs.compare.SamePositions.{Like, like-rows}
 use Rattle.promises.specs.compare.WholeOrders.{Left-like, like-follow}
 
 -- ONE ORDER, TWO ROOMS
 -- nothing is entered at the start, so there is no order of arrival to differ in
-start-order : {s : Sheet} (g : Good s) (i j : List ℕ) →
+start-order : {s : Sheet} (g : Valid s) (i j : List ℕ) →
     Same-order s (start-reached g i .came) (started s i) (start-reached g j .came) (started s j)
 start-order g i j k m r sk sm rr fk fm there-m = none-entered g i m there-m
 
-start-like : {s : Sheet} (g : Good s) (i j : List ℕ) → Like (start-reached g i) (start-reached g j)
+start-like : {s : Sheet} (g : Valid s) (i j : List ℕ) → Like (start-reached g i) (start-reached g j)
 unfolding started job
 start-like g i j =
     record {
@@ -40,33 +40,33 @@ start-like g i j =
       order-back = start-order g j i;
     }
 
-pub rooms-like : {s : Sheet} → Good s → Ground s → {i j : List ℕ} → inbox-total s ≤ length i → inbox-total s ≤ length j →
+pub rooms-like : {s : Sheet} → Valid s → Ground s → {i j : List ℕ} → inbox-total s ≤ length i → inbox-total s ≤ length j →
     (rs : List ℕ) → Left-like s i j (follow s rs i) (follow s rs j)
 unfolding follow
 rooms-like g A {i} {j} room-i room-j rs = like-follow g A room-i room-j 0 rs (start-like g i j)
 
 -- THE SAME FIRST BYTES
-paint-near : {n : ℕ} {bs cs : List ℕ} (s : Sheet) (x : Job) (k : ℕ) → Near n bs cs → Near n (paint s x k bs) (paint s x k cs)
-unfolding paint delivered
-paint-near {n} {bs} {cs} s x k h = go (is-receive (op s k) && eqb (state-at x k) 3)
+replay-near : {n : ℕ} {bs cs : List ℕ} (s : Sheet) (x : Job) (k : ℕ) → Near n bs cs → Near n (replay s x k bs) (replay s x k cs)
+unfolding replay delivered
+replay-near {n} {bs} {cs} s x k h = go (is-receive (op s k) && eqb (state-at x k) 3)
   where
     go : (b : Bool) →
         Near n (cond b (delivered s (partner-at x k) k bs) bs) (cond b (delivered s (partner-at x k) k cs) cs)
     go true = splice-near h _ _
     go false = h
 
-painted-near : {n : ℕ} {bs cs : List ℕ} (s : Sheet) (x : Job) (k : ℕ) → Near n bs cs →
-    Near n (painted s x k bs) (painted s x k cs)
-unfolding painted
-painted-near s x zero h = h
-painted-near s x (suc k) h = paint-near s x k (painted-near s x k h)
+replayed-near : {n : ℕ} {bs cs : List ℕ} (s : Sheet) (x : Job) (k : ℕ) → Near n bs cs →
+    Near n (replayed s x k bs) (replayed s x k cs)
+unfolding replayed
+replayed-near s x zero h = h
+replayed-near s x (suc k) h = replay-near s x k (replayed-near s x k h)
 
-pub like-near : {s : Sheet} → Good s → {n : ℕ} {i j : List ℕ} {x y : Job} {X : Reached s i x} {Y : Reached s j y} → Like X Y →
+pub like-near : {s : Sheet} → Valid s → {n : ℕ} {i j : List ℕ} {x y : Job} {X : Reached s i x} {Y : Reached s j y} → Like X Y →
     Near n i j → Near n (x .memory) (y .memory)
 like-near {s} g {n} {i} {j} {x} {y} {X} {Y} K h =
-    subst (λ (z : List ℕ). Near n z (y .memory)) (sym (X .memory-painted))
-    (subst (λ (z : List ℕ). Near n (painted s x (N-of s) i) z) (painted-rows-back ∙ sym (Y .memory-painted))
-    (painted-near s x (N-of s) h))
+    subst (λ (z : List ℕ). Near n z (y .memory)) (sym (X .memory-replayed))
+    (subst (λ (z : List ℕ). Near n (replayed s x (N-of s) i) z) (replayed-rows-back ∙ sym (Y .memory-replayed))
+    (replayed-near s x (N-of s) h))
   where
-    painted-rows-back : painted s x (N-of s) j ≡ painted s y (N-of s) j
-    painted-rows-back = sym (painted-rows s x y (N-of s) j (like-rows g K))
+    replayed-rows-back : replayed s x (N-of s) j ≡ replayed s y (N-of s) j
+    replayed-rows-back = sym (replayed-rows s x y (N-of s) j (like-rows g K))

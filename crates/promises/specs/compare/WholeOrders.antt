@@ -17,7 +17,7 @@ use Rattle.rules.specs.Step.{able, step, is-none}
 use Rattle.rules.specs.Order.{Followed, followed, follow-from, follow}
 use Rattle.rules.specs.Claims.{accepts, left-by}
 use Rattle.laws.specs.Tests.{true-not-false}
-use Rattle.invariant.specs.sheet.Valid.{Good}
+use Rattle.invariant.specs.sheet.Valid.{Valid}
 use Rattle.invariant.specs.deliveries.Assumed.{Ground}
 use Rattle.invariant.specs.Invariant.{Reached}
 use Rattle.promises.specs.compare.SamePositions.{Like, like-able, like-step}
@@ -28,7 +28,7 @@ pub record Left-like (s : Sheet) (i j : List ℕ) (a b : Followed) : Type 0 wher
   pub reached-y : Reached s j (b .left)
   pub like : Like reached-x reached-y
 
-pub like-follow : {s : Sheet} → Good s → Ground s → {i j : List ℕ} → inbox-total s ≤ length i → inbox-total s ≤ length j →
+pub like-follow : {s : Sheet} → Valid s → Ground s → {i j : List ℕ} → inbox-total s ≤ length i → inbox-total s ≤ length j →
     (k : ℕ) (rs : List ℕ) →
     {x y : Job} {X : Reached s i x} {Y : Reached s j y} → Like X Y → Left-like s i j (follow-from k s rs x) (follow-from k s rs y)
 unfolding follow-from followed

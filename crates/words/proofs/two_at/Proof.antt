@@ -8,35 +8,27 @@ use Rattle.words.proofs.two_at.Reads as reads
 use Rattle.words.proofs.two_at.Lts as lts
 use Rattle.words.proofs.wide.Reads as wide-reads
 
--- src/lib.rt:27:10
 shared-slice-read-wide : tie.Need-shared-slice-read-wide
 shared-slice-read-wide c = search needs
 
--- src/lib.rt:27:5
 wide-requires : tie.Need-wide-requires
 wide-requires c κs = search needs
 
--- src/lib.rt:27:32
 add-wide : tie.Need-add-wide
 add-wide c = search needs
 
--- src/lib.rt:27:30
 shared-slice-read-wide-2 : tie.Need-shared-slice-read-wide-2
 shared-slice-read-wide-2 c = search needs
 
--- src/lib.rt:27:25
 wide-requires-2 : tie.Need-wide-requires-2
 wide-requires-2 c κs = search needs
 
--- src/lib.rt:27:19
 mul-result : tie.Need-mul-result
 mul-result c = search needs
 
--- src/lib.rt:27:5
 add-result : tie.Need-add-result
 add-result c = search needs
 
--- src/lib.rt:23:1
 returns : tie.Need-returns
 unfolding two
 returns c = omega arith

@@ -9,8 +9,8 @@ use native.Mathlib.Omega.{arith}
 use lib.ListN.{length, replicate}
 use Rattle.rules.specs.Sheet.{sheet-in, inbox-total}
 use Rattle.rules.specs.Order.{follow, followed}
-use Rattle.engine.specs.Stands.{Stands, Standing}
-use Rattle.engine.specs.Deliveries.{deliverable}
+use Rattle.simulation.specs.Represents.{Represents, Represented}
+use Rattle.deliveries.specs.Deliveries.{deliverable}
 use Rattle.orders.specs.Follows.{Follows}
 use Rattle.jamturret.specs.Outcomes.{does-refused, does-followed}
 use borrow.Author.Needs.{needs}
@@ -18,24 +18,20 @@ use Rattle.jamturret.proofs.jobs.follow.Statement.{statement}
 use Rattle.jamturret.proofs.jobs.follow.Tie as tie
 use Rattle.jamturret.proofs.jobs.follow.Reads as reads
 use Rattle.jamturret.proofs.jobs.follow.Lts as lts
-use Rattle.engine.proofs.deliveries.deliver.Reads as deliver-reads
-use Rattle.engine.proofs.report.write.Reads as write-reads
+use Rattle.deliveries.proofs.deliver.Reads as deliver-reads
+use Rattle.report.proofs.write.Reads as write-reads
 use Rattle.orders.proofs.follow.follow.Reads as follow-reads
 use Rattle.words.proofs.zero.Reads as zero-reads
 
--- src/jobs.rt:22:9
 follow-requires : tie.Need-follow-requires
 follow-requires c κs = search needs
 
--- src/jobs.rt:24:9
 zero-requires : tie.Need-zero-requires
 zero-requires c κs = search needs
 
--- src/jobs.rt:25:9
 same-length : tie.Need-same-length
 same-length c = search needs
 
--- src/jobs.rt:25:9
 returns : tie.Need-returns
 returns c =
     let a = c .before .before .before .before .before .before .before .before .before .before .before .before .before .before .args in
@@ -46,44 +42,37 @@ returns c =
     (c .before .before .zero .ensures ∙ ap (λ (n : ℕ). replicate n 0) (c .before .before .before .before .before .before .before .follow .kept .1 .1 .0))
 
 -- the followed job stands in scratch
-stood : (c : tie.After-follow) → Standing (c .before .before .before .before .before .before .before .args .sheet .now) (c .follow .last .1 .1 .0) (c .follow .result .tally)
+stood : (c : tie.After-follow) → Represented (c .before .before .before .before .before .before .before .args .sheet .now) (c .follow .last .1 .1 .0) (c .follow .result .control)
 stood c =
     let w = c .follow .ensures (c .before .before .before .before .before .before .before .args .inbox .now) (c .before .before .before .before .before .before .before .pre .2 .inbox) in
     record {
       lent = c .before .before .before .before .before .before .before .args .inbox .now;
       job = w .job;
-      stands = w .stands;
+      represents = w .represents;
     }
 
--- src/jobs.rt:31:5
 deliver-requires : tie.Need-deliver-requires
 deliver-requires c κs =
     let a = c .before .before .before .before .before .before .before .before .before .before .before .before .before .args in
-    (deliverable (a .sheet .now) (c .before .before .before .before .before .before .follow .last .1 .1 .0) (c .before .before .before .before .before .before .follow .result .tally) (stood (c .before .before .before .before .before .before)), c .before .before .before .before .before .before .before .before .before .before .before .before .before .pre .2 .inbox)
+    (deliverable (a .sheet .now) (c .before .before .before .before .before .before .follow .last .1 .1 .0) (c .before .before .before .before .before .before .follow .result .control) (stood (c .before .before .before .before .before .before)), c .before .before .before .before .before .before .before .before .before .before .before .before .before .pre .2 .inbox)
 
--- src/jobs.rt:32:5
 write-requires : tie.Need-write-requires
 write-requires c κs =
     let a = c .before .before .before .before .before .before .before .before .before .before .before .before .before .before .before .before .before .before .args in
     (stood (c .before .before .before .before .before .before .before .before .before .before .before), c .before .before .before .before .before .before .before .before .before .before .before .before .before .before .before .before .before .before .pre .2 .report)
 
--- src/jobs.rt:33:5
 zero-requires-2 : tie.Need-zero-requires-2
 zero-requires-2 c κs = search needs
 
--- src/jobs.rt:18:1
 same-length-2 : tie.Need-same-length-2
 same-length-2 c = search needs
 
--- src/jobs.rt:18:1
 same-length-3 : tie.Need-same-length-3
 same-length-3 c = search needs
 
--- src/jobs.rt:18:1
 same-length-4 : tie.Need-same-length-4
 same-length-4 c = search needs
 
--- src/jobs.rt:18:1
 returns-2 : tie.Need-returns-2
 returns-2 c =
     let a = c .before .before .before .before .before .before .before .before .before .before .before .before .before .before .before .before .before .before .before .before .before .before .before .before .before .args in
@@ -91,7 +80,7 @@ returns-2 c =
     let accepted : follow (sheet-in (a .sheet .now)) (a .order .now) (a .inbox .now) ≡ followed none (w .job) =
     w .said ∙ ap (λ (b : Bool). followed (cond b (some (c .before .before .before .before .before .before .before .before .before .before .before .before .before .before .before .before .before .before .follow .result .at)) none) (w .job)) (c .before .before .before .before .before .before .before .before .before .before .before .before .before .before .before .if1 .left) in
     does-followed (a .sheet .now) (a .order .now) (a .inbox .now) (c .before .before .before .before .before .before .before .before .before .before .before .deliver .last .1 .1 .0) (a .out .now) (c .before .before .before .before .before .before .write .last .1 .1 .1 .0) (a .scratch .now) (c .before .before .zero2 .last .0) (w .job) accepted
-    (c .before .before .before .before .before .before .before .before .before .before .before .deliver .ensures (c .before .before .before .before .before .before .before .before .before .before .before .before .before .before .before .before .before .before .follow .result .tally) (w .job) (w .stands)) (c .before .before .before .before .before .before .write .ensures (a .inbox .now) (w .job) (w .stands))
+    (c .before .before .before .before .before .before .before .before .before .before .before .deliver .ensures (c .before .before .before .before .before .before .before .before .before .before .before .before .before .before .before .before .before .before .follow .result .control) (w .job) (w .represents)) (c .before .before .before .before .before .before .write .ensures (a .inbox .now) (w .job) (w .represents))
     (c .before .before .zero2 .ensures ∙ ap (λ (n : ℕ). replicate n 0) (c .before .before .before .before .before .before .before .before .before .before .before .before .before .before .before .before .before .before .follow .kept .1 .1 .0))
 
 pub follow-spec : {M : Type 1} → statement M

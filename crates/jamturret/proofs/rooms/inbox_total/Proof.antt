@@ -21,31 +21,24 @@ Inv-loop s p total₀ r₀ total r = (r ≤ p) × (total ≤ 65536 * r) × (tota
 abbrev μ-loop : tie.MeasureT-loop
 μ-loop s p total₀ r₀ total r = p - r
 
--- src/rooms.rt:16:9
 boards-requires : tie.Need-boards-requires Inv-loop μ-loop
 boards-requires c κs = search needs
 
--- src/rooms.rt:19:5
 loop-holds : tie.Need-loop-holds Inv-loop μ-loop
 loop-holds c = (omega arith, omega arith, sym (inbox-start-none (sheet-in (c .before .before .args .s .now))))
 
--- src/rooms.rt:20:18
 inbox-requires : tie.Need-inbox-requires Inv-loop μ-loop
 inbox-requires c κs = (c .before .before .before .before .pre, omega arith)
 
--- src/rooms.rt:20:9
 add-total : tie.Need-add-total Inv-loop μ-loop
 add-total c = omega (arith, c .before .before .before .before .before .pre .few-boards)
 
--- src/rooms.rt:21:9
 add-r : tie.Need-add-r Inv-loop μ-loop
 add-r c = omega arith
 
--- src/rooms.rt:19:5
 loop-less : tie.Need-loop-less Inv-loop μ-loop
 loop-less c = omega arith
 
--- src/rooms.rt:19:5
 loop-again : tie.Need-loop-again Inv-loop μ-loop
 loop-again c =
     let s = sheet-in (c .before .before .before .before .before .args .s .now) in
@@ -53,7 +46,6 @@ loop-again c =
     let next = inbox-start-more s (l .r) (omega (arith, P-decoded (c .before .before .before .before .before .args .s .now))) in
     (omega arith, omega (arith, c .inbox .ensures .1), subst (λ (n : ℕ). l .total + c .inbox .result ≡ inbox-start s n) (sym (add-one (l .r))) (omega (arith, next, l .inv .2, c .inbox .ensures .0)))
 
--- src/rooms.rt:12:1
 returns : tie.Need-returns Inv-loop μ-loop
 unfolding inbox-total
 returns c =

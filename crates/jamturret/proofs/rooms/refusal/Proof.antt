@@ -13,52 +13,41 @@ use Rattle.jamturret.proofs.rooms.inbox_total.Reads as inbox-total-read
 use Rattle.sheet.proofs.header.boards.Reads as boards-reads
 use Rattle.sheet.proofs.header.ops.Reads as ops-reads
 
--- src/rooms.rt:31:9
 ops-requires : tie.Need-ops-requires
 ops-requires c κs = search needs
 
--- src/rooms.rt:32:16
 inbox-total-requires : tie.Need-inbox-total-requires
 inbox-total-requires c κs = search needs
 
--- src/rooms.rt:33:9
 returns : tie.Need-returns
 returns c =
     let a = c .before .before .before .before .args in
     short-inbox (sheet-in (a .s .now)) (a .inbox) (a .report) (a .order) (a .scratch) (omega (arith, c .before .inbox-total .ensures, c .if1 .taken))
 
--- src/rooms.rt:38:26
 boards-requires : tie.Need-boards-requires
 boards-requires c κs = search needs
 
--- src/rooms.rt:38:22
 mul-if2 : tie.Need-mul-if2
 mul-if2 c = search needs
 
--- src/rooms.rt:38:17
 add-if2 : tie.Need-add-if2
 add-if2 c = search needs
 
--- src/rooms.rt:38:46
 mul-if2-2 : tie.Need-mul-if2-2
 mul-if2-2 c = search needs
 
--- src/rooms.rt:38:17
 add-if2-2 : tie.Need-add-if2-2
 add-if2-2 c = search needs
 
--- src/rooms.rt:39:9
 returns-2 : tie.Need-returns-2
 returns-2 c =
     let a = c .before .before .before .before .before .before .args in
     short-report (sheet-in (a .s .now)) (a .inbox) (a .report) (a .order) (a .scratch) (omega (arith, c .before .before .before .inbox-total .ensures, c .before .before .if1 .left))
     (omega (arith, P-decoded (a .s .now), N-decoded (a .s .now), c .before .boards .ensures .0, c .before .before .before .before .ops .ensures .0, c .if2 .taken))
 
--- src/rooms.rt:44:16
 mul-if3 : tie.Need-mul-if3
 mul-if3 c = search needs
 
--- src/rooms.rt:45:9
 returns-3 : tie.Need-returns-3
 returns-3 c =
     let a = c .before .before .before .before .before .before .before .args in
@@ -66,7 +55,6 @@ returns-3 c =
     (omega (arith, P-decoded (a .s .now), N-decoded (a .s .now), c .before .before .boards .ensures .0, c .before .before .before .before .before .ops .ensures .0, c .before .if2 .left))
     (omega (arith, N-decoded (a .s .now), c .before .before .before .before .before .ops .ensures .0, c .if3 .taken))
 
--- src/rooms.rt:51:9
 returns-4 : tie.Need-returns-4
 returns-4 c =
     let a = c .before .before .before .before .before .before .before .before .args in
@@ -74,7 +62,6 @@ returns-4 c =
     (omega (arith, P-decoded (a .s .now), N-decoded (a .s .now), c .before .before .before .boards .ensures .0, c .before .before .before .before .before .before .ops .ensures .0, c .before .before .if2 .left))
     (omega (arith, N-decoded (a .s .now), c .before .before .before .before .before .before .ops .ensures .0, c .before .if3 .left)) (c .if4 .taken)
 
--- src/rooms.rt:27:1
 returns-5 : tie.Need-returns-5
 returns-5 c =
     let a = c .before .before .before .before .before .before .before .before .args in

@@ -11,9 +11,9 @@ use Rattle.orders.proofs.follow.follow.Statement.{statement}
 use Rattle.orders.proofs.follow.follow.Tie as tie
 use Rattle.orders.proofs.follow.follow.Reads as reads
 use Rattle.orders.proofs.follow.follow.Lts as lts
-use Rattle.engine.proofs.able.is_able.Reads as is-able-reads
-use Rattle.engine.proofs.setup.start.Reads as start-reads
-use Rattle.engine.proofs.turn.take.Reads as take-reads
+use Rattle.steps.proofs.able.is_able.Reads as is-able-reads
+use Rattle.setup.proofs.start.Reads as start-reads
+use Rattle.steps.proofs.turn.take.Reads as take-reads
 use Rattle.words.proofs.wide.Reads as wide-reads
 
 abbrev Inv-loop : tie.InvT-loop
@@ -22,36 +22,29 @@ Inv-loop s order c₀ t₀ k₀ c t k = (length c ≡ length c₀) × (k ≤ len
 abbrev μ-loop : tie.MeasureT-loop
 μ-loop s order c₀ t₀ k₀ c t k = length order - k
 
--- src/follow.rt:27:9
 start-requires : tie.Need-start-requires Inv-loop μ-loop
 start-requires c κs = c .before .before .before .before .pre
 
--- src/follow.rt:29:5
 loop-holds : tie.Need-loop-holds Inv-loop μ-loop
 loop-holds c =
     let a = c .before .before .before .before .before .before .before .args in
     (search needs, omega arith, reaches-none (a .s .now) (a .order .now) (c .before .before .start .last .1 .0) (c .before .before .start .result) (c .before .before .start .ensures))
 
--- src/follow.rt:30:29
 shared-slice-read-wide : tie.Need-shared-slice-read-wide Inv-loop μ-loop
 shared-slice-read-wide c = omega arith
 
--- src/follow.rt:30:13
 wide-requires : tie.Need-wide-requires Inv-loop μ-loop
 wide-requires c κs = search needs
 
--- src/follow.rt:31:13
 is-able-requires : tie.Need-is-able-requires Inv-loop μ-loop
 is-able-requires c κs =
     let a = c .before .before .before .before .before .before .before .before .before .before .before .before .args in
     let l = c .before .before .before .before .loop in
     standing (a .s .now) (a .order .now) (l .c) (l .t) (l .k) (l .inv .2)
 
--- src/follow.rt:32:13
 same-length : tie.Need-same-length Inv-loop μ-loop
 same-length c = search needs
 
--- src/follow.rt:32:13
 returns : tie.Need-returns Inv-loop μ-loop
 returns c =
     let a = c .before .before .before .before .before .before .before .before .before .before .before .before .before .before .args in
@@ -59,7 +52,6 @@ returns c =
     reaches-refused (a .s .now) (a .order .now) (l .c) (l .t) (l .k) (c .before .before .before .wide .result) (l .inv .2) (c .before .before .before .before .before .loop-test .taken) (c .before .before .before .wide .ensures .0) (c .before .is-able .result)
     (c .before .is-able .ensures) (not-true _ (c .if1 .taken))
 
--- src/follow.rt:38:9
 take-requires : tie.Need-take-requires Inv-loop μ-loop
 take-requires c κs =
     let a = c .before .before .before .before .before .before .before .before .before .before .before .before .before .before .before .args in
@@ -67,15 +59,12 @@ take-requires c κs =
     able-there (a .s .now) (a .order .now) (l .c) (l .t) (l .k) (c .before .before .before .before .wide .result) (l .inv .2) (c .before .before .before .before .before .before .loop-test .taken) (c .before .before .before .before .wide .ensures .0) (c .before .before .is-able .result)
     (c .before .before .is-able .ensures) (not-false _ (c .before .if1 .left))
 
--- src/follow.rt:39:9
 add-k : tie.Need-add-k Inv-loop μ-loop
 add-k c = omega arith
 
--- src/follow.rt:29:5
 loop-less : tie.Need-loop-less Inv-loop μ-loop
 loop-less c = omega arith
 
--- src/follow.rt:29:5
 loop-again : tie.Need-loop-again Inv-loop μ-loop
 loop-again c =
     let a = c .before .before .before .before .before .before .before .before .before .before .before .before .before .before .before .before .before .before .args in
@@ -86,11 +75,9 @@ loop-again c =
           (c .before .before .before .before .before .is-able .result) (c .before .before .before .before .before .is-able .ensures) (not-false _ (c .before .before .before .before .if1 .left)) (c .before .before .take .last .1 .0) (c .before .before .take .result) (c .before .before .take .ensures),
     )
 
--- src/follow.rt:23:1
 same-length-2 : tie.Need-same-length-2 Inv-loop μ-loop
 same-length-2 c = search needs
 
--- src/follow.rt:23:1
 returns-2 : tie.Need-returns-2 Inv-loop μ-loop
 returns-2 c =
     let a = c .before .before .before .before .before .before .before .before .before .args in

@@ -10,7 +10,7 @@ use Rattle.orders.proofs.run.lowest.Statement.{statement}
 use Rattle.orders.proofs.run.lowest.Tie as tie
 use Rattle.orders.proofs.run.lowest.Reads as reads
 use Rattle.orders.proofs.run.lowest.Lts as lts
-use Rattle.engine.proofs.able.is_able.Reads as is-able-reads
+use Rattle.steps.proofs.able.is_able.Reads as is-able-reads
 use Rattle.sheet.proofs.header.boards.Reads as boards-reads
 
 abbrev Inv-loop : tie.InvT-loop
@@ -19,39 +19,31 @@ Inv-loop s c t p r₀ r = (r ≤ p) × Sought s c t r
 abbrev μ-loop : tie.MeasureT-loop
 μ-loop s c t p r₀ r = p - r
 
--- src/run.rt:24:9
 boards-requires : tie.Need-boards-requires Inv-loop μ-loop
 boards-requires c κs = search needs
 
--- src/run.rt:26:5
 loop-holds : tie.Need-loop-holds Inv-loop μ-loop
 loop-holds c = (omega arith, sought-none (c .before .before .before .args .s .now) (c .before .before .before .args .c .now) (c .before .before .before .args .t))
 
--- src/run.rt:27:12
 is-able-requires : tie.Need-is-able-requires Inv-loop μ-loop
 is-able-requires c κs = c .before .before .before .before .before .pre
 
--- src/run.rt:28:13
 returns : tie.Need-returns Inv-loop μ-loop
 returns c =
     let a = c .before .before .before .before .before .before .before .args in
     sought-found (a .s .now) (a .c .now) (a .t) (c .before .before .before .loop .r) (c .before .before .before .loop .inv .1) (omega (arith, P-decoded (a .s .now))) (c .before .is-able .result) (c .before .is-able .ensures) (c .if1 .taken)
 
--- src/run.rt:30:9
 add-r : tie.Need-add-r Inv-loop μ-loop
 add-r c = omega arith
 
--- src/run.rt:26:5
 loop-less : tie.Need-loop-less Inv-loop μ-loop
 loop-less c = omega arith
 
--- src/run.rt:26:5
 loop-again : tie.Need-loop-again Inv-loop μ-loop
 loop-again c =
     let a = c .before .before .before .before .before .before .before .args in
     (omega arith, sought-more (a .s .now) (a .c .now) (a .t) (c .before .before .before .loop .r) (c .before .before .before .loop .inv .1) (omega (arith, P-decoded (a .s .now))) (c .before .is-able .result) (c .before .is-able .ensures) (c .if1 .left))
 
--- src/run.rt:20:1
 returns-2 : tie.Need-returns-2 Inv-loop μ-loop
 returns-2 c =
     let a = c .before .before .before .before .before .args in

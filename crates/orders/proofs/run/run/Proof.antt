@@ -10,39 +10,35 @@ use Rattle.rules.specs.Limits.{order-room}
 use Rattle.rules.specs.Sheet.{sheet-in, P-of, N-of}
 use Rattle.rules.specs.Job.{Job}
 use Rattle.laws.specs.Decoded.{P-decoded}
-use Rattle.engine.specs.Stands.{Stands}
+use Rattle.simulation.specs.Represents.{Represents}
 use Rattle.orders.specs.Runs.{Lowest, Running-all, running-none, running-standing, running-room, running-able, running-more, running-done}
 use Rattle.orders.proofs.run.run.Statement.{statement}
 use Rattle.orders.proofs.run.run.Tie as tie
 use Rattle.orders.proofs.run.run.Reads as reads
 use Rattle.orders.proofs.run.run.Lts as lts
-use Rattle.engine.proofs.setup.start.Reads as start-reads
-use Rattle.engine.proofs.turn.take.Reads as take-reads
+use Rattle.setup.proofs.start.Reads as start-reads
+use Rattle.steps.proofs.turn.take.Reads as take-reads
 use Rattle.orders.proofs.run.lowest.Reads as lowest-reads
 use Rattle.sheet.proofs.header.boards.Reads as boards-reads
 
 abbrev Inv-loop : tie.InvT-loop
-Inv-loop s c₀ out₀ t₀ p k₀ r₀ c out t k r = (length c ≡ length c₀) × (length out ≡ length out₀) × Running-all s out₀ c out t k × ((lent : List ℕ) (x : Job) → Stands s lent c t x → Lowest (sheet-in s) x r)
+Inv-loop s c₀ out₀ t₀ p k₀ r₀ c out t k r = (length c ≡ length c₀) × (length out ≡ length out₀) × Running-all s out₀ c out t k × ((lent : List ℕ) (x : Job) → Represents s lent c t x → Lowest (sheet-in s) x r)
 
 abbrev μ-loop : tie.MeasureT-loop
 μ-loop s c₀ out₀ t₀ p k₀ r₀ c out t k r = order-room (N-of (sheet-in s)) - k
 
--- src/run.rt:39:9
 start-requires : tie.Need-start-requires Inv-loop μ-loop
 start-requires c κs = (c .before .before .before .before .pre .0, c .before .before .before .before .pre .1, c .before .before .before .before .pre .2)
 
--- src/run.rt:40:9
 boards-requires : tie.Need-boards-requires Inv-loop μ-loop
 boards-requires c κs = search needs
 
--- src/run.rt:42:9
 lowest-requires : tie.Need-lowest-requires Inv-loop μ-loop
 lowest-requires c κs =
     let a = c .before .before .before .before .before .before .before .before .before .args in
     running-standing (a .s .now) (a .out .now) (c .before .before .before .before .start .last .1 .0) (a .out .now) (c .before .before .before .before .start .result) 0
     (running-none (a .s .now) (a .out .now) (c .before .before .before .before .start .last .1 .0) (c .before .before .before .before .start .result) (c .before .before .before .before .start .ensures))
 
--- src/run.rt:43:5
 loop-holds : tie.Need-loop-holds Inv-loop μ-loop
 loop-holds c =
     let a = c .before .before .before .before .before .before .before .before .before .before .args in
@@ -52,25 +48,21 @@ loop-holds c =
 below : (c : tie.In-loop Inv-loop μ-loop) → c .before .loop .r < P-of (sheet-in (c .before .before .before .before .before .before .before .before .before .before .before .before .args .s .now))
 below c = omega (arith, P-decoded (c .before .before .before .before .before .before .before .before .before .before .before .before .args .s .now), c .before .before .before .before .boards .ensures .0, c .loop-test .taken)
 
--- src/run.rt:44:18
 cast-out : tie.Need-cast-out Inv-loop μ-loop
 cast-out c = omega arith
 
--- src/run.rt:44:9
 slice-write-out : tie.Need-slice-write-out Inv-loop μ-loop
 slice-write-out c =
     let z = c .before .before .before .before .before .before .before .before .before .before .before .before in
     let l = c .before .loop in
     omega (arith, l .inv .1, z .pre .3, running-room (z .args .s .now) (z .args .out .now) (l .c) (l .out) (l .t) (l .k) (l .r) (l .inv .2) (l .inv .3) (below c))
 
--- src/run.rt:45:9
 take-requires : tie.Need-take-requires Inv-loop μ-loop
 take-requires c κs =
     let z = c .before .before .before .before .before .before .before .before .before .before .before .before .before in
     let l = c .before .before .loop in
     running-able (z .args .s .now) (z .args .out .now) (l .c) (l .out) (l .t) (l .k) (l .r) (l .inv .2) (l .inv .3) (below (c .before))
 
--- src/run.rt:46:9
 add-k : tie.Need-add-k Inv-loop μ-loop
 add-k c =
     let z = c .before .before .before .before .before .before .before .before .before .before .before .before .before .before .before .before in
@@ -86,32 +78,26 @@ more c =
     subst (λ (n : ℕ). Running-all (z .args .s .now) (z .args .out .now) (c .take .last .1 .0) (set (l .out) (l .k) n) (c .take .result) (l .k + 1)) small
     (running-more (z .args .s .now) (z .args .out .now) (l .c) (l .out) (l .t) (l .k) (l .r) (l .inv .2) (l .inv .3) (below (c .before .before)) (z .pre .3) (c .take .last .1 .0) (c .take .result) (c .take .ensures))
 
--- src/run.rt:47:9
 lowest-requires-2 : tie.Need-lowest-requires-2 Inv-loop μ-loop
 lowest-requires-2 c κs =
     let z = c .before .before .before .before .before .before .before .before .before .before .before .before .before .before .before .before .before in
     running-standing (z .args .s .now) (z .args .out .now) (c .before .before .before .take .last .1 .0) (set (c .before .before .before .before .before .before .loop .out) (c .before .before .before .before .before .before .loop .k) (c .before .before .before .before .before .before .loop .r % 256)) (c .before .before .before .take .result) (c .before .before .before .before .before .before .loop .k + 1) (more (c .before .before .before))
 
--- src/run.rt:43:5
 loop-less : tie.Need-loop-less Inv-loop μ-loop
 loop-less c =
     let z = c .before .before .before .before .before .before .before .before .before .before .before .before .before .before .before .before .before .before in
     let l = c .before .before .before .before .before .before .before .loop in
     omega (arith, running-room (z .args .s .now) (z .args .out .now) (l .c) (l .out) (l .t) (l .k) (l .r) (l .inv .2) (l .inv .3) (below (c .before .before .before .before .before .before)))
 
--- src/run.rt:43:5
 loop-again : tie.Need-loop-again Inv-loop μ-loop
 loop-again c = (search needs, length-set (c .before .before .before .before .before .before .before .loop .out) (c .before .before .before .before .before .before .before .loop .k) (c .before .before .before .before .before .before .before .loop .r % 256) ∙ c .before .before .before .before .before .before .before .loop .inv .1, more (c .before .before .before .before), c .lowest2 .ensures)
 
--- src/run.rt:35:1
 same-length : tie.Need-same-length Inv-loop μ-loop
 same-length c = search needs
 
--- src/run.rt:35:1
 same-length-2 : tie.Need-same-length-2 Inv-loop μ-loop
 same-length-2 c = search needs
 
--- src/run.rt:35:1
 returns : tie.Need-returns Inv-loop μ-loop
 returns c =
     let z = c .before .before .before .before .before .before .before .before .before .before .before .before in

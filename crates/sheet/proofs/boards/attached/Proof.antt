@@ -9,23 +9,18 @@ use Rattle.sheet.proofs.boards.attached.Reads as reads
 use Rattle.sheet.proofs.boards.attached.Lts as lts
 use Rattle.words.proofs.two_at.Reads as two-at-reads
 
--- src/boards.rt:34:27
 mul-two-at : tie.Need-mul-two-at
 mul-two-at c = search needs
 
--- src/boards.rt:34:22
 add-two-at : tie.Need-add-two-at
 add-two-at c = search needs
 
--- src/boards.rt:34:22
 add-two-at-2 : tie.Need-add-two-at-2
 add-two-at-2 c = search needs
 
--- src/boards.rt:34:5
 two-at-requires : tie.Need-two-at-requires
 two-at-requires c κs = search needs
 
--- src/boards.rt:30:1
 returns : tie.Need-returns
 returns c =
     let a = c .before .before .args in

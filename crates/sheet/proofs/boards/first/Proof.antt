@@ -9,19 +9,15 @@ use Rattle.sheet.proofs.boards.first.Reads as reads
 use Rattle.sheet.proofs.boards.first.Lts as lts
 use Rattle.words.proofs.two_at.Reads as two-at-reads
 
--- src/boards.rt:18:27
 mul-two-at : tie.Need-mul-two-at
 mul-two-at c = search needs
 
--- src/boards.rt:18:22
 add-two-at : tie.Need-add-two-at
 add-two-at c = search needs
 
--- src/boards.rt:18:5
 two-at-requires : tie.Need-two-at-requires
 two-at-requires c κs = search needs
 
--- src/boards.rt:14:1
 returns : tie.Need-returns
 returns c =
     let a = c .before .before .args in

@@ -1,0 +1,80 @@
+-- `crc::crc_over` meets its contract. The loop's invariant: the CRC so far, carried on over what is left, is the whole
+-- CRC. The measure is what is left of the length. Assumes nothing.
+use mathlib.Core.Path.{_≡_, refl, _∙_, ap, sym, subst}
+use mathlib.Core.List.{List, []}
+use Prim.Native.Nat.{ℕ, _≤_, _<_, _-_, _+_, _/_}
+use native.Mathlib.Omega.{arith}
+use borrow.Author.Needs.{needs}
+use lib.ListN.{length, drop, getD, drop-of-length-le}
+use lib.Bits.{bitXor, xor-lt}
+use Rattle.rules.specs.Crc.{crc-from}
+use Rattle.laws.specs.CrcStep.{crc-turn}
+use Rattle.crc.proofs.crc_over.Statement.{statement}
+use Rattle.crc.proofs.crc_over.Tie as tie
+use Rattle.crc.proofs.crc_over.Reads as reads
+use Rattle.crc.proofs.crc_over.Lts as lts
+use Rattle.crc.proofs.entry.Reads as entry-reads
+use Rattle.words.proofs.wide.Reads as wide-reads
+
+abbrev Inv-loop : tie.InvT-loop
+Inv-loop table c s crc₀ i₀ crc i = (i ≤ length s) × (crc < 65536) × (crc-from c s ≡ crc-from crc (drop i s))
+
+abbrev μ-loop : tie.MeasureT-loop
+μ-loop table c s crc₀ i₀ crc i = length s - i
+
+loop-holds : tie.Need-loop-holds Inv-loop μ-loop
+loop-holds c = (search needs, c .before .pre .0, refl)
+
+shared-slice-read-wide : tie.Need-shared-slice-read-wide Inv-loop μ-loop
+shared-slice-read-wide c = search needs
+
+wide-requires : tie.Need-wide-requires Inv-loop μ-loop
+wide-requires c κs = search needs
+
+mul-crc : tie.Need-mul-crc Inv-loop μ-loop
+mul-crc c = search needs
+
+entry-requires : tie.Need-entry-requires Inv-loop μ-loop
+entry-requires c κs = xor-lt 8 (c .before .before .before .loop .crc / 256) (c .wide .result) (omega arith) (omega arith)
+
+add-i : tie.Need-add-i Inv-loop μ-loop
+add-i c = search needs
+
+loop-less : tie.Need-loop-less Inv-loop μ-loop
+loop-less c = search needs
+
+loop-again : tie.Need-loop-again Inv-loop μ-loop
+loop-again c =
+    let l = c .before .before .before .before .loop in
+    let s = c .before .before .before .before .before .before .args .s .now in
+    let k = bitXor (l .crc / 256) (c .before .wide .result) in
+    let below : k < 256 = xor-lt 8 (l .crc / 256) (c .before .wide .result) (omega arith) (omega arith) in
+    let read = c .before .before .before .before .before .before .pre .1 .at k below in
+    let turn =
+    crc-turn (l .crc) s (l .i) (c .before .wide .result) (c .entry .result) (l .inv .1) (omega arith)
+    (c .before .wide .ensures .0) (c .before .wide .ensures .1) (c .entry .ensures .0 ∙ read) in
+    (omega arith, turn .0, l .inv .2 ∙ turn .1)
+
+returns : tie.Need-returns Inv-loop μ-loop
+unfolding crc-from
+returns c =
+    let l = c .before .loop in
+    let s = c .before .before .before .args .s .now in
+    let done : drop (l .i) s ≡ [] = drop-of-length-le s {i = l .i} (omega arith) in
+    (sym (l .inv .2 ∙ ap (λ (xs : List ℕ). crc-from (l .crc) xs) done), l .inv .1)
+
+pub crc-over-spec : {M : Type 1} → statement M
+crc-over-spec =
+    tie.close
+    (tie.spec
+    Inv-loop
+    μ-loop
+    loop-holds
+    shared-slice-read-wide
+    wide-requires
+    mul-crc
+    entry-requires
+    add-i
+    loop-less
+    loop-again
+    returns)

@@ -1,0 +1,58 @@
+// The body of check: refusals 1 to 7, lowest number first, each over the whole sheet (document 01, "When the desk says no").
+ghost use mathlib.Core.Path.{_≡_};
+ghost use lib.ListN.{length};
+ghost use Rattle.rules.specs.Sheet.{sheet-in};
+ghost use Rattle.rules.specs.Refusal.{tables-refusal, sheet-refusal};
+ghost use Rattle.rules.specs.Service.{answers, Check-says};
+ghost use Rattle.laws.specs.Laid.{Laid};
+use crate::boards;
+use crate::header;
+use crate::ops;
+use sheet::Answer;
+
+// Refusals 5 to 7 of a sheet whose tables are in place.
+fn tables(s: &[u8]) -> Answer
+    requires { ⌜ Laid (now s) ⌝ }
+    ensures { λ a. ⌜ answers (tables-refusal (sheet-in (now (s .entry)))) (a .number) (a .place) ⌝ }
+{
+    let fifth = boards::refusal(s);
+    if fifth.number != 0 {
+        return fifth;
+    }
+    let sixth = ops::refusal(s);
+    if sixth.number != 0 {
+        return sixth;
+    }
+    requests::refusal(s)
+}
+
+// Any bytes at all are answered.
+pub fn check(s: &[u8]) -> Answer
+    ensures { λ a. ⌜ Check-says (now (s .entry)) (a .number) (a .place) ⌝ }
+{
+    if s.len() < 16 {
+        return Answer {
+            number: 1,
+            place: 0,
+        };
+    }
+    if !header::sizes_are_good(s) {
+        return Answer {
+            number: 2,
+            place: 0,
+        };
+    }
+    if !header::layout_is_good(s) {
+        return Answer {
+            number: 3,
+            place: 0,
+        };
+    }
+    if !header::crc_is_good(s) {
+        return Answer {
+            number: 4,
+            place: 0,
+        };
+    }
+    tables(s)
+}

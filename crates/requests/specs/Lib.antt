@@ -1,0 +1,5 @@
+-- Refusal 7 by a table of slots.
+--   Slots      what an operation asks of the table and changes in it
+--   Requests   the table is right, so its answer is rule 7's
+pub mod Slots
+pub mod Requests

@@ -1,0 +1,1 @@
+// How scratch stands for a job, in specs/. This crate has no code.

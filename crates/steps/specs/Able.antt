@@ -1,0 +1,147 @@
+-- Whether a board is able, test by test (document 01, "How a board steps"), of every job that stands in scratch.
+-- Assumes nothing.
+use mathlib.Core.Path.{_≡_, refl, sym, _∙_, ap, ap₂, subst}
+use mathlib.Core.Bool.{Bool, true, false, _&&_, _||_, not, cond, and-false}
+use mathlib.Core.List.{List}
+use mathlib.Core.Option.{Option, none, some}
+use Prim.Native.Nat.{ℕ, zero, suc, _+_, _*_, _<_, _≤_}
+use native.Mathlib.Omega.{arith}
+use lib.Dec.{ltb, leb, eqb}
+use lib.ListN.{length}
+use borrow.Author.Tests.{lt-ltb, le-ltb, le-leb, lt-leb, leb-false, eq-eqb, ne-eqb}
+use Rattle.rules.specs.Limits.{most-ops, most-boards, ops-at}
+use Rattle.rules.specs.Sheet.{Sheet, Op, sheet-in, op, op-in, board, P-of, N-of, P-in, N-in, rank-of, two, is-wait, is-nonblocking}
+use Rattle.rules.specs.Job.{Job, Entry, Place, Stop, entry-at, place-at}
+use Rattle.rules.specs.Step.{able, next-op, is-finished, complete, complete-if, waited, waited-below, half-complete, in-waiting-half, is-none}
+use Rattle.laws.specs.Laid.{Laid}
+use Rattle.laws.specs.Decoded.{op-by}
+use Rattle.invariant.specs.sheet.Valid.{Valid}
+use Rattle.state.specs.declared.Control.{Control}
+use Rattle.state.specs.Layout.{row-at, seat-at, word-at, waits-at}
+use Rattle.state.specs.Decoded.{entry-in, place-in}
+use Rattle.state.specs.Controls.{stop-of}
+use Rattle.state.specs.Decodes.{Decodes, entry-is, place-is}
+use Rattle.simulation.specs.Represents.{Represents, Represented}
+
+-- board r is there and unfinished, and operation i is its next
+pub record Next (s : Sheet) (x : Job) (r i : ℕ) : Type 0 where
+  pub there : r < P-of s
+  pub unfinished : is-finished s x r ≡ false
+  pub is-next : i ≡ next-op s x r
+
+pub record Represented-next (bs c : List ℕ) (t : Control) (r i : ℕ) : Type 0 where
+  pub lent : List ℕ
+  pub job : Job
+  pub represents : Represents bs lent c t job
+  pub next : Next (sheet-in bs) job r i
+
+pub next-of : (s : Sheet) (x : Job) (r i : ℕ) → r < P-of s → place-at x r .finished < board s r .count → i ≡ board s r .first + place-at x r .finished → Next s x r i
+unfolding is-finished next-op
+next-of s x r i l h e =
+    record {
+      there = l;
+      unfinished = lt-leb (board s r .count) (place-at x r .finished) h;
+      is-next = e;
+    }
+
+-- what a wait waits for stands before it
+pub waited-before : (s : Sheet) (n i k : ℕ) → waited-below n s i ≡ some k → k < n
+unfolding waited-below
+waited-before s zero i k e = absurd (let z : _≡_ {A = ℕ} 0 1 = cc in omega arith)
+waited-before s (suc n) i k e = go (eqb (rank-of s n) (rank-of s i) && (is-nonblocking (op s n) && eqb (op s n .slot) (op s i .slot))) e (λ q. waited-before s n i k q)
+  where
+    go : (b : Bool) → cond b (some n) (waited-below n s i) ≡ some k → (waited-below n s i ≡ some k → k < n) → k < suc n
+    go true q ih = let z : n ≡ k = cc in omega arith
+    go false q ih = let z = ih q in omega arith
+
+module _ (bs lent c : List ℕ) (t : Control) (x : Job) (d : Represents bs lent c t x) where
+  abbrev s : Sheet
+  s = sheet-in bs
+
+  -- fields as they are read from scratch are the job's
+  pub finished-is : (r : ℕ) → r < P-of s → place-in c (seat-at r) .finished ≡ place-at x r .finished
+  finished-is r l = ap (λ (q : Place). q .finished) (place-is s c t x (d .decodes) r l)
+
+  pub waiting-is : (r : ℕ) → r < P-of s → place-in c (seat-at r) .waiting ≡ place-at x r .waiting
+  waiting-is r l = ap (λ (q : Place). q .waiting) (place-is s c t x (d .decodes) r l)
+
+  pub state-is : (i : ℕ) → i < N-of s → entry-in c (row-at i) .state ≡ entry-at x i .state
+  state-is i l = ap (λ (e : Entry). e .state) (entry-is s c t x (d .decodes) i l)
+
+  -- the next operation of an unfinished board is one of the sheet
+  pub next-below : (r i : ℕ) → Next s x r i → i < N-of s
+  unfolding is-finished next-op
+  next-below r i n =
+      let f = leb-false (board s r .count) (place-at x r .finished) (n .unfinished) in
+      let e = n .is-next in
+      omega (arith, d .good .script-inside r (n .there))
+
+  -- its kind, as it was read
+  pub kind-here : (i p k : ℕ) → i < N-of s → p ≡ P-in bs → k ≡ op-in bs (ops-at p + 16 * i) .kind → k ≡ op s i .kind
+  kind-here i p k l e q = q ∙ ap (λ (o : Op). o .kind) (op-by bs i p l e)
+
+  pub wait-read : (i p k : ℕ) → i < N-of s → p ≡ P-in bs → k ≡ op-in bs (ops-at p + 16 * i) .kind → k ≡ 6 → is-wait (op s i) ≡ true
+  unfolding is-wait
+  wait-read i p k l e q h = eq-eqb (op s i .kind) 6 (sym (kind-here i p k l e q) ∙ h)
+
+  pub no-wait-read : (i p k : ℕ) → i < N-of s → p ≡ P-in bs → k ≡ op-in bs (ops-at p + 16 * i) .kind → (k ≡ 6 → ⊥) → is-wait (op s i) ≡ false
+  unfolding is-wait
+  no-wait-read i p k l e q h = ne-eqb (op s i .kind) 6 (λ z. h (kind-here i p k l e q ∙ z))
+
+  -- what a wait waits for is one of the sheet
+  pub wait-target : (i : ℕ) → is-wait (op s i) ≡ true → i < N-of s → two c (word-at waits-at i) < N-of s
+  unfolding waited
+  wait-target i w l = let b = waited-before s i i (two c (word-at waits-at i)) (d .decodes .indexed .wait-is i l w) in omega arith
+
+  -- NOT ABLE: stopped, no such board, finished
+  pub able-stopped : (r : ℕ) → (t .verdict ≡ 0 → ⊥) → false ≡ able s x r
+  unfolding able is-none stop-of
+  able-stopped r h = go (t .verdict) h (d .decodes .stop-is)
+    where
+      go : (v : ℕ) → (v ≡ 0 → ⊥) → x .stop ≡ stop-of v (t .rank) (t .op) → false ≡ able s x r
+      go zero q e = absurd (q refl)
+      go (suc v) q e = rw e
+
+  going-on : t .verdict ≡ 0 → is-none (x .stop) ≡ true
+  unfolding is-none stop-of
+  going-on h = let e : x .stop ≡ stop-of 0 (t .rank) (t .op) = d .decodes .stop-is ∙ ap (λ (v : ℕ). stop-of v (t .rank) (t .op)) h in rw e
+
+  pub able-outside : (r : ℕ) → t .verdict ≡ 0 → P-of s ≤ r → false ≡ able s x r
+  unfolding able
+  able-outside r v h = rw (going-on v, le-ltb r (P-of s) h)
+
+  pub able-finished : (r : ℕ) → t .verdict ≡ 0 → r < P-of s → board s r .count ≤ place-at x r .finished → false ≡ able s x r
+  unfolding able is-finished
+  able-finished r v l h = rw (going-on v, lt-ltb r (P-of s) l, le-leb (board s r .count) (place-at x r .finished) h)
+
+  -- else what comes next decides
+  pub able-next : (r : ℕ) → t .verdict ≡ 0 → r < P-of s → place-at x r .finished < board s r .count → (not (in-waiting-half s x r) || half-complete s x (next-op s x r)) ≡ able s x r
+  unfolding able is-finished
+  able-next r v l h = rw (going-on v, lt-ltb r (P-of s) l, lt-leb (board s r .count) (place-at x r .finished) h)
+
+  -- WHAT COMES NEXT: a wait, an initiating step, a waiting half
+  module _ (r i : ℕ) (n : Next s x r i) where
+    abbrev ready : Bool
+    ready = not (in-waiting-half s x r) || half-complete s x i
+
+    pub next-wait : is-wait (op s i) ≡ true → leb 2 (entry-in c (row-at (two c (word-at waits-at i))) .state) ≡ ready
+    unfolding in-waiting-half half-complete complete-if complete
+    next-wait w =
+        let j : ℕ = two c (word-at waits-at i) in
+        let target : waited s i ≡ some j = d .decodes .indexed .wait-is i (next-below r i n) w in
+        let w2 : is-wait (op s (next-op s x r)) ≡ true = ap (λ (k : ℕ). is-wait (op s k)) (sym (n .is-next)) ∙ w in
+        ap (λ (v : ℕ). leb 2 v) (state-is j (wait-target i w (next-below r i n))) ∙ rw (w, w2, target) (only (place-at x r .waiting) (leb 2 (entry-at x j .state)))
+      where
+        only : (a b : Bool) → b ≡ (not (a || true) || b)
+        only true b = refl
+        only false b = refl
+
+    pub next-initiating : is-wait (op s i) ≡ false → place-at x r .waiting ≡ false → true ≡ ready
+    unfolding in-waiting-half
+    next-initiating w h =
+        let w2 : is-wait (op s (next-op s x r)) ≡ false = ap (λ (k : ℕ). is-wait (op s k)) (sym (n .is-next)) ∙ w in
+        rw (h, w2)
+
+    pub next-half : is-wait (op s i) ≡ false → place-at x r .waiting ≡ true → leb 2 (entry-at x i .state) ≡ ready
+    unfolding in-waiting-half half-complete complete
+    next-half w h = rw (h, w)
