@@ -16,7 +16,7 @@ ghost use Rattle.simulation.specs.Represents.{Represents};
 ghost use Rattle.deliveries.specs.Deliveries.{Deliverable, replay-in, Script-delivered};
 use sheet::boards;
 use sheet::header;
-use sheet::ops;
+use sheet::op_bytes;
 use state::rows;
 
 // Message m to receive r, whose board's inbox starts at `start`. A message longer than the area is cut: nothing is copied.
@@ -30,13 +30,13 @@ fn deliver_message(s: &[u8], m: usize, r: usize, start: usize, inbox: &mut [u8])
     let table = 16 + 8 * header::boards(s);
     let message = table + 16 * m;
     let receive = table + 16 * r;
-    let size = ops::long(s, message);
-    let capacity = ops::long(s, receive);
+    let size = op_bytes::long(s, message);
+    let capacity = op_bytes::long(s, receive);
     if capacity < size {
         return;
     }
-    let from = table + 16 * header::ops(s) + ops::offset(s, message);
-    let area = start + ops::offset(s, receive);
+    let from = table + 16 * header::ops(s) + op_bytes::offset(s, message);
+    let area = start + op_bytes::offset(s, receive);
     let end = area + capacity;
     words::copy(&mut inbox[area..end], 0, s, from, size);
 }
@@ -49,7 +49,7 @@ fn deliver_one(s: &[u8], c: &[u8], i: usize, start: usize, inbox: &mut [u8])
     ensures { λ _. ⌜ now (inbox .exit) ≡ replay-in (sheet-in (now (s .entry))) (now (c .entry)) i (now (inbox .entry)) ⌝ }
 {
     let at = 16 + 8 * header::boards(s) + 16 * i;
-    if ops::kind(s, at) != 5 {
+    if op_bytes::kind(s, at) != 5 {
         return;
     }
     if rows::state_of(c, i) != 3 {

@@ -12,17 +12,17 @@ ghost use Rattle.laws.specs.Scripts.{script-broken};
 use sheet::Answer;
 use sheet::boards;
 use sheet::header;
-use sheet::ops;
+use sheet::op_bytes;
 
 // Peer, communicator and tag of a send or a receive.
 fn envelope_is_good(s: &[u8], at: usize, p: usize, c: usize) -> bool
     requires { ⌜ at + 15 < length (now s) ⌝ }
     ensures { λ r. ⌜ r ≡ envelope-good p c (op-in (now (s .entry)) at) ⌝ }
 {
-    let receive = ops::kind(s, at) == 5;
-    let from = ops::peer(s, at);
-    let label = ops::tag(s, at);
-    (((from < p) | (receive & (from == 65535))) & (ops::comm(s, at) < c))
+    let receive = op_bytes::kind(s, at) == 5;
+    let from = op_bytes::peer(s, at);
+    let label = op_bytes::tag(s, at);
+    (((from < p) | (receive & (from == 65535))) & (op_bytes::comm(s, at) < c))
         & ((label < 32768) | (receive & (label == 65535)))
 }
 
@@ -31,12 +31,12 @@ fn extent_is_good(s: &[u8], at: usize, room: usize) -> bool
     requires { ⌜ at + 15 < length (now s) ⌝ }
     ensures { λ r. ⌜ r ≡ extent-good room (op-in (now (s .entry)) at) ⌝ }
 {
-    let f = ops::flag(s, at);
+    let f = op_bytes::flag(s, at);
     let blocking = f == 0;
-    let size = ops::long(s, at);
-    let end = ops::offset(s, at) + size;
-    let held = ops::slot(s, at);
-    (((f <= 1) & (ops::zero_field(s, at) == 0)) & ((size <= 4096) & (end <= room)))
+    let size = op_bytes::long(s, at);
+    let end = op_bytes::offset(s, at) + size;
+    let held = op_bytes::slot(s, at);
+    (((f <= 1) & (op_bytes::zero_field(s, at) == 0)) & ((size <= 4096) & (end <= room)))
         & ((blocking & (held == 0)) | (!blocking & (held < 32)))
 }
 
@@ -45,10 +45,10 @@ fn wait_is_good(s: &[u8], at: usize) -> bool
     requires { ⌜ at + 15 < length (now s) ⌝ }
     ensures { λ r. ⌜ r ≡ wait-good (op-in (now (s .entry)) at) ⌝ }
 {
-    (((ops::flag(s, at) == 0) & (ops::peer(s, at) == 0))
-        & ((ops::comm(s, at) == 0) & (ops::zero_field(s, at) == 0)))
-        & (((ops::tag(s, at) == 0) & (ops::offset(s, at) == 0))
-            & ((ops::long(s, at) == 0) & (ops::slot(s, at) < 32)))
+    (((op_bytes::flag(s, at) == 0) & (op_bytes::peer(s, at) == 0))
+        & ((op_bytes::comm(s, at) == 0) & (op_bytes::zero_field(s, at) == 0)))
+        & (((op_bytes::tag(s, at) == 0) & (op_bytes::offset(s, at) == 0))
+            & ((op_bytes::long(s, at) == 0) & (op_bytes::slot(s, at) < 32)))
 }
 
 // The fields of one operation, among p boards and c communicators. A receive's room is the inbox, a send's the payload.
@@ -56,7 +56,7 @@ fn fields_are_good(s: &[u8], at: usize, p: usize, c: usize, inbox: usize, payloa
     requires { ⌜ at + 15 < length (now s) ⌝ }
     ensures { λ r. ⌜ r ≡ fields-good p c (cond (is-receive (op-in (now (s .entry)) at)) inbox payload) (op-in (now (s .entry)) at) ⌝ }
 {
-    let k = ops::kind(s, at);
+    let k = op_bytes::kind(s, at);
     if k == 6 {
         return wait_is_good(s, at);
     }

@@ -18,7 +18,7 @@ ghost use Rattle.report.specs.ReportCounts.{message-row, receive-row, cu
 ghost use Rattle.report.specs.ReportRows.{row-in, joined};
 use sheet::boards;
 use sheet::header;
-use sheet::ops;
+use sheet::op_bytes;
 use state::Control;
 use state::places;
 use state::rows;
@@ -159,7 +159,7 @@ fn message_at(s: &[u8], c: &[u8], at: usize, i: usize) -> usize
     requires { ⌜ Laid (now s) × (scratch-size ≤ length (now c)) × (i < N-in (now s)) × (at ≡ ops-at (P-in (now s)) + 16 * i) ⌝ }
     ensures { λ v. ⌜ v ≡ cond (message-row (sheet-in (now (s .entry))) (now (c .entry)) i) 1 0 ⌝ }
 {
-    let kind = ops::kind(s, at);
+    let kind = op_bytes::kind(s, at);
     let state = rows::state_of(c, i);
     if ((1 <= kind) & (kind <= 4)) & ((state == 1) | (state == 2)) {
         1
@@ -173,7 +173,7 @@ fn receive_at(s: &[u8], c: &[u8], at: usize, i: usize) -> usize
     requires { ⌜ Laid (now s) × (scratch-size ≤ length (now c)) × (i < N-in (now s)) × (at ≡ ops-at (P-in (now s)) + 16 * i) ⌝ }
     ensures { λ v. ⌜ v ≡ cond (receive-row (sheet-in (now (s .entry))) (now (c .entry)) i) 1 0 ⌝ }
 {
-    let kind = ops::kind(s, at);
+    let kind = op_bytes::kind(s, at);
     let state = rows::state_of(c, i);
     if (kind == 5) & (state == 1) { 1 } else { 0 }
 }

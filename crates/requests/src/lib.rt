@@ -15,7 +15,7 @@ ghost use Rattle.sheet.specs.Ops.{Fielded};
 use sheet::Answer;
 use sheet::boards;
 use sheet::header;
-use sheet::ops;
+use sheet::op_bytes;
 
 // Whether the stretch from `from` to before `to` shares a byte with the area of a held slot. Every row is compared and none
 // ends the loop, so that the compiler can compare several at once.
@@ -37,17 +37,17 @@ fn table_is_good(s: &[u8], at: usize, starts: &[u16; 32], ends: &[u16; 32]) -> b
     requires { ⌜ (at + 15 < length (now s)) × Slotted (op-in (now s) at) ⌝ }
     ensures { λ r. ⌜ r ≡ table-good (now (starts .entry)) (now (ends .entry)) (op-in (now (s .entry)) at) ⌝ }
 {
-    let k = ops::kind(s, at);
-    let slot = ops::slot(s, at);
+    let k = op_bytes::kind(s, at);
+    let slot = op_bytes::slot(s, at);
     let taken = starts[slot] != 65535;
     if k == 6 {
         return taken;
     }
-    if (ops::flag(s, at) == 1) & taken {
+    if (op_bytes::flag(s, at) == 1) & taken {
         return false;
     }
-    let from = ops::offset(s, at);
-    let capacity = ops::long(s, at);
+    let from = op_bytes::offset(s, at);
+    let capacity = op_bytes::long(s, at);
     if (k == 5) & (0 < capacity) {
         return !any_hit(starts, ends, from as u16, (from + capacity) as u16);
     }
@@ -59,18 +59,18 @@ fn note(s: &[u8], at: usize, starts: &mut [u16; 32], ends: &mut [u16; 32])
     requires { ⌜ (at + 15 < length (now s)) × Slotted (op-in (now s) at) ⌝ }
     ensures { λ _. ⌜ (now (starts .exit) ≡ starts-after (op-in (now (s .entry)) at) (now (starts .entry))) × (now (ends .exit) ≡ ends-after (op-in (now (s .entry)) at) (now (ends .entry))) ⌝ }
 {
-    let k = ops::kind(s, at);
-    let slot = ops::slot(s, at);
+    let k = op_bytes::kind(s, at);
+    let slot = op_bytes::slot(s, at);
     if k == 6 {
         starts[slot] = 65535;
         ends[slot] = 0;
         return;
     }
-    if ops::flag(s, at) != 1 {
+    if op_bytes::flag(s, at) != 1 {
         return;
     }
-    let from = ops::offset(s, at);
-    let size = ops::long(s, at);
+    let from = op_bytes::offset(s, at);
+    let size = op_bytes::long(s, at);
     if (k == 5) & (0 < size) {
         starts[slot] = from as u16;
         ends[slot] = (from + size) as u16;

@@ -6,7 +6,7 @@ use Prim.Native.Nat.{ℕ, zero, suc, _+_, _-_}
 use lib.Dec.{ltb, leb, eqb}
 use lib.ListN.{length}
 use Rattle.rules.specs.Limits.{most-boards, most-comms, most-ops, most-payload, most-attached, most-inbox, tag-limit, most-length, slot-limit, any, header-size, boards-at, ops-at, payload-at, sheet-size}
-use Rattle.rules.specs.Sheet.{Sheet, Op, op, board, P-of, N-of, rank-of, counts-before, inbox-start, is-send, is-receive, is-wait, is-nonblocking, two, P-in, C-in, N-in, L-in, sheet-in}
+use Rattle.rules.specs.Sheet.{Sheet, Op, op, board, P-of, N-of, rank-of, counts-before, inbox-start, is-send, is-receive, takes-slot, names-slot, frees-slot, two, P-in, C-in, N-in, L-in, sheet-in}
 use Rattle.rules.specs.Crc.{crc}
 
 -- an answer: number 0 and place 0 is success
@@ -77,7 +77,7 @@ extent-good room o =
     ((leb (o .flag) 1 && eqb (o .zero-field) 0) && (leb (o .long) most-length && leb (o .offset + o .long) room))
     && slot-good o
 
--- a wait's other fields are 0
+-- an operation that names a slot: its other fields are 0
 unfoldable pub wait-good : Op → Bool
 wait-good o =
     ((eqb (o .flag) 0 && eqb (o .peer) 0) && (eqb (o .comm) 0 && eqb (o .zero-field) 0))
@@ -85,7 +85,7 @@ wait-good o =
 
 unfoldable pub fields-good : (p c room : ℕ) → Op → Bool
 fields-good p c room o =
-    cond (is-wait o) (wait-good o) ((is-send o || is-receive o) && (envelope-good p c o && extent-good room o))
+    cond (names-slot o) (wait-good o) ((is-send o || is-receive o) && (envelope-good p c o && extent-good room o))
 
 -- a receive's room is its board's inbox, a send's the payload
 unfoldable pub room-for : Sheet → (i : ℕ) → ℕ
@@ -97,16 +97,16 @@ op-good s i = fields-good (P-of s) (s .comms) (room-for s i) (op s i)
 unfoldable pub ops-refusal : Sheet → Refusal
 ops-refusal s = first-broken 6 (op-good s) (N-of s) 0
 
--- 7: slots and areas. A wait among the `left` operations from j on names the slot k
+-- 7: slots and areas. One of the `left` operations from j on frees the slot k
 unfoldable pub freed : Sheet → (left j k : ℕ) → Bool
 freed s zero j k = false
-freed s (suc l) j k = (is-wait (op s j) && eqb (op s j .slot) k) || freed s l (suc j) k
+freed s (suc l) j k = (frees-slot (op s j) && eqb (op s j .slot) k) || freed s l (suc j) k
 
--- operation j is an earlier one of i's board that took its slot, and no wait between them freed it
+-- operation j is an earlier one of i's board that took its slot, and none between them freed it
 unfoldable pub holds : Sheet → (j i : ℕ) → Bool
 holds s j i =
     (ltb j i && eqb (rank-of s j) (rank-of s i))
-    && (is-nonblocking (op s j) && not (freed s (i - suc j) (suc j) (op s j .slot)))
+    && (takes-slot (op s j) && not (freed s (i - suc j) (suc j) (op s j .slot)))
 
 -- a test holds of one of the numbers below i
 unfoldable pub some-below : (i : ℕ) → (ℕ → Bool) → Bool
@@ -130,8 +130,8 @@ area-taken s i = some-below i (λ j. holds s j i && (is-receive (op s j) && shar
 unfoldable pub request-good : Sheet → (i : ℕ) → Bool
 request-good s i =
     let o = op s i in
-    cond (is-wait o) (slot-held s i (o .slot))
-    (not (is-nonblocking o && slot-held s i (o .slot)) && not (is-receive o && area-taken s i))
+    cond (names-slot o) (slot-held s i (o .slot))
+    (not (takes-slot o && slot-held s i (o .slot)) && not (is-receive o && area-taken s i))
 
 unfoldable pub requests-refusal : Sheet → Refusal
 requests-refusal s = first-broken 7 (request-good s) (N-of s) 0

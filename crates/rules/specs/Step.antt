@@ -7,7 +7,7 @@ use Prim.Native.Nat.{ℕ, zero, suc, _+_, _-_, max}
 use lib.Dec.{ltb, leb, eqb}
 use lib.ListN.{length, set, take, drop}
 use Rattle.rules.specs.Limits.{any, absent}
-use Rattle.rules.specs.Sheet.{Sheet, Op, op, board, P-of, rank-of, inbox-start, is-buffered, is-ready, is-receive, is-wait, is-nonblocking}
+use Rattle.rules.specs.Sheet.{Sheet, Op, op, board, P-of, rank-of, inbox-start, is-buffered, is-ready, is-receive, only-half, no-half, takes-slot, frees-slot}
 use Rattle.rules.specs.Job.{Job, Place, Stop, place, entry, bare-entry, entry-at, place-at, with-entries, with-places, with-messages, with-receives, with-memory, with-stop, with-steps}
 
 -- the operation that is next on a board
@@ -27,7 +27,7 @@ complete x i = leb 2 (entry-at x i .state)
 unfoldable pub waited-below : (j : ℕ) → Sheet → (i : ℕ) → Option ℕ
 waited-below zero s i = none
 waited-below (suc j) s i =
-    cond (eqb (rank-of s j) (rank-of s i) && (is-nonblocking (op s j) && eqb (op s j .slot) (op s i .slot)))
+    cond (eqb (rank-of s j) (rank-of s i) && (takes-slot (op s j) && eqb (op s j .slot) (op s i .slot)))
     (some j) (waited-below j s i)
 
 unfoldable pub waited : Sheet → (i : ℕ) → Option ℕ
@@ -37,13 +37,13 @@ unfoldable pub complete-if : Job → Option ℕ → Bool
 complete-if x none = false
 complete-if x (some j) = complete x j
 
--- what must be complete for operation i's waiting half: a wait's operation, else the operation itself
+-- what must be complete for operation i's waiting half: the operation whose slot it frees, else the operation itself
 unfoldable pub half-complete : Sheet → Job → (i : ℕ) → Bool
-half-complete s x i = cond (is-wait (op s i)) (complete-if x (waited s i)) (complete x i)
+half-complete s x i = cond (frees-slot (op s i)) (complete-if x (waited s i)) (complete x i)
 
 -- each operation but wait has an initiating step; a blocking one then has a waiting half, a wait is only a waiting half
 unfoldable pub in-waiting-half : Sheet → Job → (r : ℕ) → Bool
-in-waiting-half s x r = place-at x r .waiting || is-wait (op s (next-op s x r))
+in-waiting-half s x r = place-at x r .waiting || only-half (op s (next-op s x r))
 
 unfoldable pub is-none : {A : Type 0} → Option A → Bool
 is-none none = true
@@ -166,7 +166,7 @@ now-waiting q = place (q .finished) true (q .in-use) (q .peak)
 -- after an initiating step a nonblocking operation is finished, a blocking one is in its waiting half
 unfoldable pub initiated : Sheet → (r i : ℕ) → Job → Job
 initiated s r i x =
-    with-place r (cond (is-nonblocking (op s i)) (one-finished (place-at x r)) (now-waiting (place-at x r))) x
+    with-place r (cond (no-half (op s i)) (one-finished (place-at x r)) (now-waiting (place-at x r))) x
 
 -- a send that no posted receive fits. Ready: the job stops, not ready. Buffered: charged where its board's attached buffer
 -- has room, else the job stops, overflow. Standard and synchronous: pending, not complete
@@ -193,9 +193,9 @@ initiating s r i x =
     cond (is-receive (op s i)) (received s r i (first-message s i (x .messages)) x)
     (sent s r i (first-receive s i (x .receives)) x)
 
--- A WAITING HALF ends its operation; a wait's row then says so
+-- A WAITING HALF ends its operation; the row of one that is only a waiting half then says so
 unfoldable pub ended : Sheet → (r i : ℕ) → Job → Job
-ended s r i x = with-place r (one-finished (place-at x r)) (cond (is-wait (op s i)) (with-state i 5 x) x)
+ended s r i x = with-place r (one-finished (place-at x r)) (cond (only-half (op s i)) (with-state i 5 x) x)
 
 -- a step of board r, counted, stopping or not
 unfoldable pub step : Sheet → (r : ℕ) → Job → Job

@@ -13,7 +13,7 @@ ghost use Rattle.simulation.specs.Represents.{Represents};
 ghost use Rattle.setup.specs.SetupTables.{last-after, op-put, Filled};
 use sheet::boards;
 use sheet::header;
-use sheet::ops;
+use sheet::op_bytes;
 use state::Control;
 use state::controls;
 use state::ranks;
@@ -26,10 +26,10 @@ fn note(s: &[u8], at: usize, i: usize, last: &mut [usize; 32])
     requires { ⌜ (at + 15 < length (now s)) × (op-in (now s) at .slot < slot-limit) × (i < most-ops) ⌝ }
     ensures { λ _. ⌜ now (last .exit) ≡ last-after (op-in (now (s .entry)) at) i (now (last .entry)) ⌝ }
 {
-    if ops::flag(s, at) != 1 {
+    if op_bytes::flag(s, at) != 1 {
         return;
     }
-    let slot = ops::slot(s, at);
+    let slot = op_bytes::slot(s, at);
     last[slot] = i;
 }
 
@@ -40,10 +40,10 @@ fn put_op(s: &[u8], at: usize, c: &mut [u8], i: usize, r: usize, last: &[usize; 
     ensures { λ _. ⌜ now (c .exit) ≡ op-put (op-in (now (s .entry)) at) i r (now (last .entry)) (now (c .entry)) ⌝ }
 {
     ranks::put_rank(c, i, r as u8);
-    if ops::kind(s, at) != 6 {
+    if op_bytes::kind(s, at) != 6 {
         return;
     }
-    let slot = ops::slot(s, at);
+    let slot = op_bytes::slot(s, at);
     waits::put_waited(c, i, last[slot]);
 }
 

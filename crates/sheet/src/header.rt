@@ -2,7 +2,7 @@
 ghost use mathlib.Core.Path.{_≡_};
 ghost use Prim.Native.Nat.{_<_};
 ghost use lib.ListN.{length};
-ghost use Rattle.rules.specs.Sheet.{P-in, C-in, N-in, L-in};
+ghost use Rattle.rules.specs.Sheet.{two, P-in, C-in, N-in, L-in};
 
 // P, the number of boards.
 pub fn boards(s: &[u8]) -> usize
@@ -34,4 +34,36 @@ pub fn payload(s: &[u8]) -> usize
     ensures { λ r. ⌜ (r ≡ L-in (now (s .entry))) × (r < 65536) ⌝ }
 {
     words::two_at(s, 12)
+}
+
+// The offset of the board table, as the header tells it.
+pub fn boards_offset(s: &[u8]) -> usize
+    requires { ⌜ 15 < length (now s) ⌝ }
+    ensures { λ r. ⌜ (r ≡ two (now (s .entry)) 6) × (r < 65536) ⌝ }
+{
+    words::two_at(s, 6)
+}
+
+// The offset of the operation table, as the header tells it.
+pub fn ops_offset(s: &[u8]) -> usize
+    requires { ⌜ 15 < length (now s) ⌝ }
+    ensures { λ r. ⌜ (r ≡ two (now (s .entry)) 8) × (r < 65536) ⌝ }
+{
+    words::two_at(s, 8)
+}
+
+// The offset of the payload, as the header tells it.
+pub fn payload_offset(s: &[u8]) -> usize
+    requires { ⌜ 15 < length (now s) ⌝ }
+    ensures { λ r. ⌜ (r ≡ two (now (s .entry)) 10) × (r < 65536) ⌝ }
+{
+    words::two_at(s, 10)
+}
+
+// The CRC, as the header tells it.
+pub fn crc(s: &[u8]) -> usize
+    requires { ⌜ 15 < length (now s) ⌝ }
+    ensures { λ r. ⌜ (r ≡ two (now (s .entry)) 14) × (r < 65536) ⌝ }
+{
+    words::two_at(s, 14)
 }

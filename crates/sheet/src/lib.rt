@@ -1,6 +1,8 @@
-// Checking a job sheet: refusals 1 to 7 of document 01, and the field readers that the engine shares.
+// The bytes of a job sheet (document 01, "The sheet, byte by byte"): readers of its fields, and tests of an operation's roles.
+// No other crate knows where a field stands or what number a kind has.
 pub mod boards;
 pub mod header;
+pub mod op_bytes;
 pub mod ops;
 
 // What a service answers: number 0 and place 0, or the number of a refusal and its place.

@@ -1,70 +1,171 @@
-// Operations: field readers (document 01, "The sheet, byte by byte"). An operation is named here by the place
-// where its sixteen bytes start.
+// Operations by their index: field readers, and tests of their roles (document 01, "The sheet, byte by byte"). The sixteen bytes
+// of an operation are found from the header's own offset of the operation table.
 ghost use mathlib.Core.Path.{_≡_};
 ghost use Prim.Native.Nat.{_+_, _<_};
 ghost use lib.ListN.{length};
-ghost use Rattle.rules.specs.Sheet.{op-in};
+ghost use Rattle.rules.specs.Sheet.{sheet-in, op, N-of, is-send, is-buffered, is-ready, is-receive, only-half, no-half, takes-slot, names-slot, frees-slot};
+ghost use Rattle.rules.specs.Step.{charge-of};
+ghost use Rattle.laws.specs.Laid.{Laid};
+ghost use Rattle.sheet.specs.Fields.{Op-at};
+use crate::header;
 
-pub fn kind(s: &[u8], at: usize) -> usize
-    requires { ⌜ at + 15 < length (now s) ⌝ }
-    ensures { λ v. ⌜ (v ≡ op-in (now (s .entry)) at .kind) × (v < 256) ⌝ }
+// Where operation i stands.
+fn at(s: &[u8], i: usize) -> usize
+    requires { ⌜ Laid (now s) × (i < N-of (sheet-in (now s))) ⌝ }
+    ensures { λ a. ⌜ Op-at (now (s .entry)) a (op (sheet-in (now (s .entry))) i) × (a + 15 < length (now (s .entry))) ⌝ }
 {
-    words::byte_at(s, at)
+    header::ops_offset(s) + limits::OP_SIZE * i
 }
 
-pub fn flag(s: &[u8], at: usize) -> usize
-    requires { ⌜ at + 15 < length (now s) ⌝ }
-    ensures { λ v. ⌜ (v ≡ op-in (now (s .entry)) at .flag) × (v < 256) ⌝ }
+// Its kind, for the tests of roles below.
+pub fn kind(s: &[u8], i: usize) -> usize
+    requires { ⌜ Laid (now s) × (i < N-of (sheet-in (now s))) ⌝ }
+    ensures { λ v. ⌜ (v ≡ op (sheet-in (now (s .entry))) i .kind) × (v < 256) ⌝ }
 {
-    words::byte_at(s, at + 1)
+    words::byte_at(s, at(s, i))
 }
 
-pub fn peer(s: &[u8], at: usize) -> usize
-    requires { ⌜ at + 15 < length (now s) ⌝ }
-    ensures { λ v. ⌜ (v ≡ op-in (now (s .entry)) at .peer) × (v < 65536) ⌝ }
+// Its flag: 0 blocking, 1 nonblocking.
+pub fn flag(s: &[u8], i: usize) -> usize
+    requires { ⌜ Laid (now s) × (i < N-of (sheet-in (now s))) ⌝ }
+    ensures { λ v. ⌜ (v ≡ op (sheet-in (now (s .entry))) i .flag) × (v < 256) ⌝ }
 {
-    words::two_at(s, at + 2)
+    words::byte_at(s, at(s, i) + 1)
 }
 
-pub fn comm(s: &[u8], at: usize) -> usize
-    requires { ⌜ at + 15 < length (now s) ⌝ }
-    ensures { λ v. ⌜ (v ≡ op-in (now (s .entry)) at .comm) × (v < 65536) ⌝ }
+// A send's destination; a receive's source, or any.
+pub fn peer(s: &[u8], i: usize) -> usize
+    requires { ⌜ Laid (now s) × (i < N-of (sheet-in (now s))) ⌝ }
+    ensures { λ v. ⌜ (v ≡ op (sheet-in (now (s .entry))) i .peer) × (v < 65536) ⌝ }
 {
-    words::two_at(s, at + 4)
+    words::two_at(s, at(s, i) + 2)
 }
 
-pub fn zero_field(s: &[u8], at: usize) -> usize
-    requires { ⌜ at + 15 < length (now s) ⌝ }
-    ensures { λ v. ⌜ (v ≡ op-in (now (s .entry)) at .zero-field) × (v < 65536) ⌝ }
+// Its communicator.
+pub fn comm(s: &[u8], i: usize) -> usize
+    requires { ⌜ Laid (now s) × (i < N-of (sheet-in (now s))) ⌝ }
+    ensures { λ v. ⌜ (v ≡ op (sheet-in (now (s .entry))) i .comm) × (v < 65536) ⌝ }
 {
-    words::two_at(s, at + 6)
+    words::two_at(s, at(s, i) + 4)
 }
 
-pub fn tag(s: &[u8], at: usize) -> usize
-    requires { ⌜ at + 15 < length (now s) ⌝ }
-    ensures { λ v. ⌜ (v ≡ op-in (now (s .entry)) at .tag) × (v < 65536) ⌝ }
+// The field that is zero.
+pub fn zero_field(s: &[u8], i: usize) -> usize
+    requires { ⌜ Laid (now s) × (i < N-of (sheet-in (now s))) ⌝ }
+    ensures { λ v. ⌜ (v ≡ op (sheet-in (now (s .entry))) i .zero-field) × (v < 65536) ⌝ }
 {
-    words::two_at(s, at + 8)
+    words::two_at(s, at(s, i) + 6)
 }
 
-pub fn offset(s: &[u8], at: usize) -> usize
-    requires { ⌜ at + 15 < length (now s) ⌝ }
-    ensures { λ v. ⌜ (v ≡ op-in (now (s .entry)) at .offset) × (v < 65536) ⌝ }
+// Its tag; a receive may name any.
+pub fn tag(s: &[u8], i: usize) -> usize
+    requires { ⌜ Laid (now s) × (i < N-of (sheet-in (now s))) ⌝ }
+    ensures { λ v. ⌜ (v ≡ op (sheet-in (now (s .entry))) i .tag) × (v < 65536) ⌝ }
 {
-    words::two_at(s, at + 10)
+    words::two_at(s, at(s, i) + 8)
+}
+
+// Where a send's message starts in the payload, a receive's area in its board's inbox.
+pub fn offset(s: &[u8], i: usize) -> usize
+    requires { ⌜ Laid (now s) × (i < N-of (sheet-in (now s))) ⌝ }
+    ensures { λ v. ⌜ (v ≡ op (sheet-in (now (s .entry))) i .offset) × (v < 65536) ⌝ }
+{
+    words::two_at(s, at(s, i) + 10)
 }
 
 // A send's length, a receive's capacity.
-pub fn long(s: &[u8], at: usize) -> usize
-    requires { ⌜ at + 15 < length (now s) ⌝ }
-    ensures { λ v. ⌜ (v ≡ op-in (now (s .entry)) at .long) × (v < 65536) ⌝ }
+pub fn long(s: &[u8], i: usize) -> usize
+    requires { ⌜ Laid (now s) × (i < N-of (sheet-in (now s))) ⌝ }
+    ensures { λ v. ⌜ (v ≡ op (sheet-in (now (s .entry))) i .long) × (v < 65536) ⌝ }
 {
-    words::two_at(s, at + 12)
+    words::two_at(s, at(s, i) + 12)
 }
 
-pub fn slot(s: &[u8], at: usize) -> usize
-    requires { ⌜ at + 15 < length (now s) ⌝ }
-    ensures { λ v. ⌜ (v ≡ op-in (now (s .entry)) at .slot) × (v < 65536) ⌝ }
+// Its request slot.
+pub fn slot(s: &[u8], i: usize) -> usize
+    requires { ⌜ Laid (now s) × (i < N-of (sheet-in (now s))) ⌝ }
+    ensures { λ v. ⌜ (v ≡ op (sheet-in (now (s .entry))) i .slot) × (v < 65536) ⌝ }
 {
-    words::two_at(s, at + 14)
+    words::two_at(s, at(s, i) + 14)
+}
+
+// KINDS: 1 standard, 2 buffered, 3 synchronous, 4 ready send, 5 receive, 6 wait. A send.
+pub fn is_send(s: &[u8], i: usize) -> bool
+    requires { ⌜ Laid (now s) × (i < N-of (sheet-in (now s))) ⌝ }
+    ensures { λ b. ⌜ b ≡ is-send (op (sheet-in (now (s .entry))) i) ⌝ }
+{
+    let k = kind(s, i);
+    (1 <= k) & (k <= 4)
+}
+
+// A buffered send.
+pub fn is_buffered(s: &[u8], i: usize) -> bool
+    requires { ⌜ Laid (now s) × (i < N-of (sheet-in (now s))) ⌝ }
+    ensures { λ b. ⌜ b ≡ is-buffered (op (sheet-in (now (s .entry))) i) ⌝ }
+{
+    kind(s, i) == 2
+}
+
+// A ready send.
+pub fn is_ready(s: &[u8], i: usize) -> bool
+    requires { ⌜ Laid (now s) × (i < N-of (sheet-in (now s))) ⌝ }
+    ensures { λ b. ⌜ b ≡ is-ready (op (sheet-in (now (s .entry))) i) ⌝ }
+{
+    kind(s, i) == 4
+}
+
+// A receive.
+pub fn is_receive(s: &[u8], i: usize) -> bool
+    requires { ⌜ Laid (now s) × (i < N-of (sheet-in (now s))) ⌝ }
+    ensures { λ b. ⌜ b ≡ is-receive (op (sheet-in (now (s .entry))) i) ⌝ }
+{
+    kind(s, i) == 5
+}
+
+// ROLES, as rules names them. Only a waiting half: it has no initiating step.
+pub fn is_only_half(s: &[u8], i: usize) -> bool
+    requires { ⌜ Laid (now s) × (i < N-of (sheet-in (now s))) ⌝ }
+    ensures { λ b. ⌜ b ≡ only-half (op (sheet-in (now (s .entry))) i) ⌝ }
+{
+    kind(s, i) == 6
+}
+
+// Finished after its initiating step.
+pub fn has_no_half(s: &[u8], i: usize) -> bool
+    requires { ⌜ Laid (now s) × (i < N-of (sheet-in (now s))) ⌝ }
+    ensures { λ b. ⌜ b ≡ no-half (op (sheet-in (now (s .entry))) i) ⌝ }
+{
+    flag(s, i) == 1
+}
+
+// Takes its request slot.
+pub fn takes_slot(s: &[u8], i: usize) -> bool
+    requires { ⌜ Laid (now s) × (i < N-of (sheet-in (now s))) ⌝ }
+    ensures { λ b. ⌜ b ≡ takes-slot (op (sheet-in (now (s .entry))) i) ⌝ }
+{
+    flag(s, i) == 1
+}
+
+// Names a slot that its board holds, and nothing else.
+pub fn names_slot(s: &[u8], i: usize) -> bool
+    requires { ⌜ Laid (now s) × (i < N-of (sheet-in (now s))) ⌝ }
+    ensures { λ b. ⌜ b ≡ names-slot (op (sheet-in (now (s .entry))) i) ⌝ }
+{
+    kind(s, i) == 6
+}
+
+// Frees the slot that it names, once the operation that took it is complete.
+pub fn frees_slot(s: &[u8], i: usize) -> bool
+    requires { ⌜ Laid (now s) × (i < N-of (sheet-in (now s))) ⌝ }
+    ensures { λ b. ⌜ b ≡ frees-slot (op (sheet-in (now (s .entry))) i) ⌝ }
+{
+    kind(s, i) == 6
+}
+
+// What it is charged where it is a buffered send that nothing fits.
+pub fn charge(s: &[u8], i: usize) -> usize
+    requires { ⌜ Laid (now s) × (i < N-of (sheet-in (now s))) ⌝ }
+    ensures { λ v. ⌜ (v ≡ charge-of (op (sheet-in (now (s .entry))) i)) × (v < 65536) ⌝ }
+{
+    long(s, i)
 }

@@ -11,7 +11,7 @@ ghost use Rattle.simulation.specs.Represents.{Represents, Represented};
 ghost use Rattle.steps.specs.Able.{Next, Represented-next};
 use sheet::boards;
 use sheet::header;
-use sheet::ops;
+use sheet::op_bytes;
 use state::Control;
 use state::places;
 use state::rows;
@@ -23,7 +23,7 @@ fn next_is_able(s: &[u8], c: &[u8], t: Control, r: usize, i: usize) -> bool
     ensures { λ b. ⌜ ((lent : List ℕ) (x : Job) → Represents (now (s .entry)) lent (now (c .entry)) t x → Next (sheet-in (now (s .entry))) x r i → b ≡ (not (in-waiting-half (sheet-in (now (s .entry))) x r) || half-complete (sheet-in (now (s .entry))) x i)) ⌝ }
 {
     let at = 16 + 8 * header::boards(s) + 16 * i;
-    if ops::kind(s, at) == 6 {
+    if op_bytes::kind(s, at) == 6 {
         let j = waits::waited_at(c, i);
         return 2 <= rows::state_of(c, j);
     }

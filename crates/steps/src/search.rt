@@ -6,7 +6,7 @@ ghost use Rattle.rules.specs.Step.{fits-with};
 ghost use Rattle.state.specs.Layout.{word-at};
 ghost use Rattle.steps.specs.Search.{Readable, Listed, First};
 use sheet::header;
-use sheet::ops;
+use sheet::op_bytes;
 use state::lists;
 use state::ranks;
 
@@ -18,11 +18,12 @@ fn fits(s: &[u8], c: &[u8], m: usize, r: usize) -> bool
     let table = 16 + 8 * header::boards(s);
     let sent = table + 16 * m;
     let posted = table + 16 * r;
-    let source = ops::peer(s, posted);
-    let tag = ops::tag(s, posted);
-    ((ops::peer(s, sent) == ranks::rank_at(c, r)) & (ops::comm(s, sent) == ops::comm(s, posted)))
+    let source = op_bytes::peer(s, posted);
+    let tag = op_bytes::tag(s, posted);
+    ((op_bytes::peer(s, sent) == ranks::rank_at(c, r))
+        & (op_bytes::comm(s, sent) == op_bytes::comm(s, posted)))
         & (((source == 65535) | (source == ranks::rank_at(c, m)))
-            & ((tag == 65535) | (tag == ops::tag(s, sent))))
+            & ((tag == 65535) | (tag == op_bytes::tag(s, sent))))
 }
 
 // The first of `count` pending messages that fits receive r; `count` if none does.

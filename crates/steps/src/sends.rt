@@ -17,7 +17,7 @@ use crate::search;
 use crate::step;
 use sheet::boards;
 use sheet::header;
-use sheet::ops;
+use sheet::op_bytes;
 use state::Control;
 use state::RECEIVES;
 use state::changes;
@@ -63,7 +63,7 @@ fn buffer_or_stop(s: &[u8], c: &mut [u8], t: Control, r: usize, i: usize) -> Con
     requires { ⌜ Ready (now s) (now c) t (Fresh (sheet-in (now s)) r i) ⌝ }
     ensures { λ u. ⌜ Turns (sheet-in (now (s .entry))) (now (c .entry)) t (now (c .exit)) u (Fresh (sheet-in (now (s .entry))) r i) (buffered-or-stopped (sheet-in (now (s .entry))) r i) ⌝ }
 {
-    let n = ops::long(s, 16 + 8 * header::boards(s) + 16 * i);
+    let n = op_bytes::long(s, 16 + 8 * header::boards(s) + 16 * i);
     if places::in_use_of(c, r) + n <= boards::attached(s, r) {
         return buffer(s, c, t, r, i, n);
     }
@@ -75,7 +75,7 @@ fn leave(s: &[u8], c: &mut [u8], t: Control, r: usize, i: usize) -> Control
     requires { ⌜ Ready (now s) (now c) t (Fresh (sheet-in (now s)) r i) ⌝ }
     ensures { λ u. ⌜ Turns (sheet-in (now (s .entry))) (now (c .entry)) t (now (c .exit)) u (Fresh (sheet-in (now (s .entry))) r i) (unmatched (sheet-in (now (s .entry))) r i) ⌝ }
 {
-    let kind = ops::kind(s, 16 + 8 * header::boards(s) + 16 * i);
+    let kind = op_bytes::kind(s, 16 + 8 * header::boards(s) + 16 * i);
     if kind == 4 {
         return controls::halting(t, 4, r, i);
     }

@@ -10,7 +10,7 @@ ghost use Rattle.rules.specs.Job.{Job};
 ghost use Rattle.rules.specs.Step.{initiated, release, matched-rows};
 ghost use Rattle.steps.specs.Moves.{Turns, Ready, Seated};
 use sheet::header;
-use sheet::ops;
+use sheet::op_bytes;
 use state::Control;
 use state::changes;
 use state::ranks;
@@ -21,7 +21,7 @@ pub fn initiate(s: &[u8], c: &mut [u8], t: Control, r: usize, i: usize)
     requires { ⌜ Ready (now s) (now c) t (Seated (sheet-in (now s)) r) × (i < N-of (sheet-in (now s))) ⌝ }
     ensures { λ _. ⌜ Turns (sheet-in (now (s .entry))) (now (c .entry)) t (now (c .exit)) t (Seated (sheet-in (now (s .entry))) r) (initiated (sheet-in (now (s .entry))) r i) ⌝ }
 {
-    if ops::flag(s, 16 + 8 * header::boards(s) + 16 * i) == 1 {
+    if op_bytes::flag(s, 16 + 8 * header::boards(s) + 16 * i) == 1 {
         changes::finish_one(c, r);
     } else {
         changes::start_waiting(c, r);
@@ -34,7 +34,7 @@ fn release_charge(s: &[u8], c: &mut [u8], t: Control, m: usize)
     ensures { λ _. ⌜ Turns (sheet-in (now (s .entry))) (now (c .entry)) t (now (c .exit)) t (λ x. m < N-of (sheet-in (now (s .entry)))) (release (sheet-in (now (s .entry))) m) ⌝ }
 {
     if rows::state_of(c, m) == 2 {
-        let charge = ops::long(s, 16 + 8 * header::boards(s) + 16 * m);
+        let charge = op_bytes::long(s, 16 + 8 * header::boards(s) + 16 * m);
         let sender = ranks::rank_at(c, m);
         changes::release(c, sender, charge);
     }
@@ -53,9 +53,9 @@ fn put_rows(s: &[u8], c: &mut [u8], t: Control, m: usize, r: usize)
     ensures { λ _. ⌜ Turns (sheet-in (now (s .entry))) (now (c .entry)) t (now (c .exit)) t (λ x. (m < N-of (sheet-in (now (s .entry)))) × (r < N-of (sheet-in (now (s .entry))))) (matched-rows (sheet-in (now (s .entry))) m r) ⌝ }
 {
     let table = 16 + 8 * header::boards(s);
-    let tag = ops::tag(s, table + 16 * m);
-    let long = ops::long(s, table + 16 * m);
-    let cut = is_cut(ops::long(s, table + 16 * r), long);
+    let tag = op_bytes::tag(s, table + 16 * m);
+    let long = op_bytes::long(s, table + 16 * m);
+    let cut = is_cut(op_bytes::long(s, table + 16 * r), long);
     let source = ranks::rank_at(c, m);
     changes::match_rows(c, m, r, cut, source, tag, long);
 }

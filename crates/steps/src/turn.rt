@@ -14,7 +14,7 @@ use crate::receives;
 use crate::sends;
 use sheet::boards;
 use sheet::header;
-use sheet::ops;
+use sheet::op_bytes;
 use state::Control;
 use state::changes;
 use state::controls;
@@ -25,7 +25,7 @@ fn end_half(s: &[u8], c: &mut [u8], t: Control, r: usize, i: usize)
     requires { ⌜ Ready (now s) (now c) t (Seated (sheet-in (now s)) r) × (i < N-of (sheet-in (now s))) ⌝ }
     ensures { λ _. ⌜ Turns (sheet-in (now (s .entry))) (now (c .entry)) t (now (c .exit)) t (Seated (sheet-in (now (s .entry))) r) (ended (sheet-in (now (s .entry))) r i) ⌝ }
 {
-    if ops::kind(s, 16 + 8 * header::boards(s) + 16 * i) == 6 {
+    if op_bytes::kind(s, 16 + 8 * header::boards(s) + 16 * i) == 6 {
         changes::set_state(c, i, 5);
         changes::finish_one(c, r);
         return;
@@ -39,7 +39,7 @@ fn uncounted(s: &[u8], c: &mut [u8], t: Control, r: usize) -> Control
     ensures { λ u. ⌜ ((lent : List ℕ) (x : Job) → Represents (now (s .entry)) lent (now (c .entry)) t x → able (sheet-in (now (s .entry))) x r ≡ true → Decodes (sheet-in (now (s .entry))) (now (c .exit)) u (moved (sheet-in (now (s .entry))) r x)) ⌝ }
 {
     let i = boards::first(s, r) + places::finished_of(c, r);
-    let kind = ops::kind(s, 16 + 8 * header::boards(s) + 16 * i);
+    let kind = op_bytes::kind(s, 16 + 8 * header::boards(s) + 16 * i);
     if places::waiting_of(c, r) | (kind == 6) {
         end_half(s, c, t, r, i);
         return t;

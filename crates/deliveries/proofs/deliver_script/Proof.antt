@@ -6,6 +6,7 @@ use native.Mathlib.Omega.{arith}
 use Rattle.rules.specs.Sheet.{sheet-in, board, inbox-start, P-of}
 use Rattle.laws.specs.Decoded.{P-decoded, N-decoded}
 use Rattle.deliveries.specs.Deliveries.{Scripting, scripting-none, scripting-more, replaying-at}
+use borrow.Author.Needs.{needs}
 use Rattle.deliveries.proofs.deliver_script.Statement.{statement}
 use Rattle.deliveries.proofs.deliver_script.Tie as tie
 
@@ -16,10 +17,10 @@ abbrev μ-loop : tie.MeasureT-loop
 μ-loop s c r start inbox₀ i₀ end inbox i = end - i
 
 first-requires : tie.Need-first-requires Inv-loop μ-loop
-first-requires c κs = (c .before .before .before .pre .0 .laid, c .before .before .before .pre .1)
+first-requires c κs = search needs
 
 count-requires : tie.Need-count-requires Inv-loop μ-loop
-count-requires c κs = (c .before .before .before .before .pre .0 .laid, c .before .before .before .before .pre .1)
+count-requires c κs = search needs
 
 add-end : tie.Need-add-end Inv-loop μ-loop
 add-end c = omega arith

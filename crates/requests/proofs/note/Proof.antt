@@ -13,11 +13,11 @@ use Rattle.requests.proofs.note.Statement.{statement}
 use Rattle.requests.proofs.note.Tie as tie
 use Rattle.requests.proofs.note.Reads as reads
 use Rattle.requests.proofs.note.Lts as lts
-use Rattle.sheet.proofs.ops.flag.Reads as flag-reads
-use Rattle.sheet.proofs.ops.kind.Reads as kind-reads
-use Rattle.sheet.proofs.ops.long.Reads as long-reads
-use Rattle.sheet.proofs.ops.offset.Reads as offset-reads
-use Rattle.sheet.proofs.ops.slot.Reads as slot-reads
+use Rattle.sheet.proofs.op_bytes.flag.Reads as flag-reads
+use Rattle.sheet.proofs.op_bytes.kind.Reads as kind-reads
+use Rattle.sheet.proofs.op_bytes.long.Reads as long-reads
+use Rattle.sheet.proofs.op_bytes.offset.Reads as offset-reads
+use Rattle.sheet.proofs.op_bytes.slot.Reads as slot-reads
 
 kind-requires : tie.Need-kind-requires
 kind-requires c κs = search needs

@@ -37,10 +37,10 @@ boards-requires : tie.Need-boards-requires Inv-loop μ-loop
 boards-requires c κs = search needs
 
 first-requires : tie.Need-first-requires Inv-loop μ-loop
-first-requires c κs = (c .before .before .pre .0, c .before .before .pre .3)
+first-requires c κs = search needs
 
 count-requires : tie.Need-count-requires Inv-loop μ-loop
-count-requires c κs = (c .before .before .before .pre .0, c .before .before .before .pre .3)
+count-requires c κs = search needs
 
 add-end : tie.Need-add-end Inv-loop μ-loop
 add-end c = omega arith

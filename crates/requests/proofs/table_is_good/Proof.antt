@@ -13,11 +13,11 @@ use Rattle.requests.proofs.table_is_good.Statement.{statement}
 use Rattle.requests.proofs.table_is_good.Tie as tie
 use Rattle.requests.proofs.table_is_good.Reads as reads
 use Rattle.requests.proofs.table_is_good.Lts as lts
-use Rattle.sheet.proofs.ops.flag.Reads as flag-reads
-use Rattle.sheet.proofs.ops.kind.Reads as kind-reads
-use Rattle.sheet.proofs.ops.long.Reads as long-reads
-use Rattle.sheet.proofs.ops.offset.Reads as offset-reads
-use Rattle.sheet.proofs.ops.slot.Reads as slot-reads
+use Rattle.sheet.proofs.op_bytes.flag.Reads as flag-reads
+use Rattle.sheet.proofs.op_bytes.kind.Reads as kind-reads
+use Rattle.sheet.proofs.op_bytes.long.Reads as long-reads
+use Rattle.sheet.proofs.op_bytes.offset.Reads as offset-reads
+use Rattle.sheet.proofs.op_bytes.slot.Reads as slot-reads
 use Rattle.requests.proofs.any_hit.Reads as any-hit-reads
 
 kind-requires : tie.Need-kind-requires

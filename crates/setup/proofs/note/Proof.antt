@@ -10,8 +10,8 @@ use Rattle.setup.proofs.note.Statement.{statement}
 use Rattle.setup.proofs.note.Tie as tie
 use Rattle.setup.proofs.note.Reads as reads
 use Rattle.setup.proofs.note.Lts as lts
-use Rattle.sheet.proofs.ops.flag.Reads as flag-reads
-use Rattle.sheet.proofs.ops.slot.Reads as slot-reads
+use Rattle.sheet.proofs.op_bytes.flag.Reads as flag-reads
+use Rattle.sheet.proofs.op_bytes.slot.Reads as slot-reads
 
 flag-requires : tie.Need-flag-requires
 flag-requires c κs = search needs

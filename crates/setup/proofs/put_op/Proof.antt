@@ -10,8 +10,8 @@ use Rattle.setup.proofs.put_op.Statement.{statement}
 use Rattle.setup.proofs.put_op.Tie as tie
 use Rattle.setup.proofs.put_op.Reads as reads
 use Rattle.setup.proofs.put_op.Lts as lts
-use Rattle.sheet.proofs.ops.kind.Reads as kind-reads
-use Rattle.sheet.proofs.ops.slot.Reads as slot-reads
+use Rattle.sheet.proofs.op_bytes.kind.Reads as kind-reads
+use Rattle.sheet.proofs.op_bytes.slot.Reads as slot-reads
 use Rattle.state.proofs.ranks.put_rank.Reads as put-rank-reads
 use Rattle.state.proofs.waits.put_waited.Reads as put-waited-reads
 

@@ -7,6 +7,7 @@ use lib.ListN.{length}
 use Rattle.rules.specs.Sheet.{sheet-in}
 use Rattle.laws.specs.Decoded.{P-decoded}
 use Rattle.setup.specs.SetupWalk.{Going, going-none, going-more, going-all, going-bytes, going-slot, going-few, going-rank}
+use borrow.Author.Needs.{needs}
 use Rattle.setup.proofs.put_script.Statement.{statement}
 use Rattle.setup.proofs.put_script.Tie as tie
 use Rattle.setup.proofs.put_script.Reads as reads
@@ -27,10 +28,10 @@ boards-requires : tie.Need-boards-requires Inv-loop μ-loop
 boards-requires c κs = omega (arith, c .before .before .pre .0 .whole)
 
 first-requires : tie.Need-first-requires Inv-loop μ-loop
-first-requires c κs = (c .before .before .before .pre .0, c .before .before .before .pre .2)
+first-requires c κs = search needs
 
 count-requires : tie.Need-count-requires Inv-loop μ-loop
-count-requires c κs = (c .before .before .before .before .pre .0, c .before .before .before .before .pre .2)
+count-requires c κs = search needs
 
 add-end : tie.Need-add-end Inv-loop μ-loop
 add-end c = omega arith

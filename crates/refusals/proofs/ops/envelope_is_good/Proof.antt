@@ -6,10 +6,10 @@ use Rattle.refusals.proofs.ops.envelope_is_good.Statement.{statement}
 use Rattle.refusals.proofs.ops.envelope_is_good.Tie as tie
 use Rattle.refusals.proofs.ops.envelope_is_good.Reads as reads
 use Rattle.refusals.proofs.ops.envelope_is_good.Lts as lts
-use Rattle.sheet.proofs.ops.comm.Reads as comm-reads
-use Rattle.sheet.proofs.ops.kind.Reads as kind-reads
-use Rattle.sheet.proofs.ops.peer.Reads as peer-reads
-use Rattle.sheet.proofs.ops.tag.Reads as tag-reads
+use Rattle.sheet.proofs.op_bytes.comm.Reads as comm-reads
+use Rattle.sheet.proofs.op_bytes.kind.Reads as kind-reads
+use Rattle.sheet.proofs.op_bytes.peer.Reads as peer-reads
+use Rattle.sheet.proofs.op_bytes.tag.Reads as tag-reads
 
 kind-requires : tie.Need-kind-requires
 kind-requires c κs = search needs

@@ -7,11 +7,11 @@ use Rattle.refusals.proofs.ops.extent_is_good.Statement.{statement}
 use Rattle.refusals.proofs.ops.extent_is_good.Tie as tie
 use Rattle.refusals.proofs.ops.extent_is_good.Reads as reads
 use Rattle.refusals.proofs.ops.extent_is_good.Lts as lts
-use Rattle.sheet.proofs.ops.flag.Reads as flag-reads
-use Rattle.sheet.proofs.ops.long.Reads as long-reads
-use Rattle.sheet.proofs.ops.offset.Reads as offset-reads
-use Rattle.sheet.proofs.ops.slot.Reads as slot-reads
-use Rattle.sheet.proofs.ops.zero_field.Reads as zero-field-reads
+use Rattle.sheet.proofs.op_bytes.flag.Reads as flag-reads
+use Rattle.sheet.proofs.op_bytes.long.Reads as long-reads
+use Rattle.sheet.proofs.op_bytes.offset.Reads as offset-reads
+use Rattle.sheet.proofs.op_bytes.slot.Reads as slot-reads
+use Rattle.sheet.proofs.op_bytes.zero_field.Reads as zero-field-reads
 
 flag-requires : tie.Need-flag-requires
 flag-requires c κs = search needs

@@ -12,7 +12,7 @@ use Rattle.refusals.proofs.ops.fields_are_good.Reads as reads
 use Rattle.refusals.proofs.ops.fields_are_good.Lts as lts
 use Rattle.refusals.proofs.ops.envelope_is_good.Reads as envelope-is-good-reads
 use Rattle.refusals.proofs.ops.extent_is_good.Reads as extent-is-good-reads
-use Rattle.sheet.proofs.ops.kind.Reads as kind-reads
+use Rattle.sheet.proofs.op_bytes.kind.Reads as kind-reads
 use Rattle.refusals.proofs.ops.wait_is_good.Reads as wait-is-good-reads
 
 kind-requires : tie.Need-kind-requires

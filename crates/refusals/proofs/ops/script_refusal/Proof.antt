@@ -37,13 +37,13 @@ payload-requires : tie.Need-payload-requires Inv-loop μ-loop
 payload-requires c κs = search needs
 
 inbox-requires : tie.Need-inbox-requires Inv-loop μ-loop
-inbox-requires c κs = (c .before .before .before .before .pre .0, c .before .before .before .before .pre .2)
+inbox-requires c κs = search needs
 
 first-requires : tie.Need-first-requires Inv-loop μ-loop
-first-requires c κs = (c .before .before .before .before .before .pre .0, c .before .before .before .before .before .pre .2)
+first-requires c κs = search needs
 
 count-requires : tie.Need-count-requires Inv-loop μ-loop
-count-requires c κs = (c .before .before .before .before .before .before .pre .0, c .before .before .before .before .before .before .pre .2)
+count-requires c κs = search needs
 
 add-end : tie.Need-add-end Inv-loop μ-loop
 add-end c = omega arith

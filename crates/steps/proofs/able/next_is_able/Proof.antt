@@ -16,7 +16,7 @@ use Rattle.steps.proofs.able.next_is_able.Tie as tie
 use Rattle.steps.proofs.able.next_is_able.Reads as reads
 use Rattle.steps.proofs.able.next_is_able.Lts as lts
 use Rattle.sheet.proofs.header.boards.Reads as boards-reads
-use Rattle.sheet.proofs.ops.kind.Reads as kind-reads
+use Rattle.sheet.proofs.op_bytes.kind.Reads as kind-reads
 use Rattle.state.proofs.places.waiting_of.Reads as waiting-of-reads
 use Rattle.state.proofs.rows.state_of.Reads as state-of-reads
 use Rattle.state.proofs.waits.waited_at.Reads as waited-at-reads

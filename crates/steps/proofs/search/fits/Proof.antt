@@ -10,9 +10,9 @@ use Rattle.steps.proofs.search.fits.Tie as tie
 use Rattle.steps.proofs.search.fits.Reads as reads
 use Rattle.steps.proofs.search.fits.Lts as lts
 use Rattle.sheet.proofs.header.boards.Reads as boards-reads
-use Rattle.sheet.proofs.ops.comm.Reads as comm-reads
-use Rattle.sheet.proofs.ops.peer.Reads as peer-reads
-use Rattle.sheet.proofs.ops.tag.Reads as tag-reads
+use Rattle.sheet.proofs.op_bytes.comm.Reads as comm-reads
+use Rattle.sheet.proofs.op_bytes.peer.Reads as peer-reads
+use Rattle.sheet.proofs.op_bytes.tag.Reads as tag-reads
 use Rattle.state.proofs.ranks.rank_at.Reads as rank-at-reads
 
 boards-requires : tie.Need-boards-requires

@@ -20,7 +20,7 @@ use Rattle.steps.proofs.sends.buffer_or_stop.Lts as lts
 use Rattle.steps.proofs.sends.buffer.Reads as buffer-reads
 use Rattle.sheet.proofs.boards.attached.Reads as attached-reads
 use Rattle.sheet.proofs.header.boards.Reads as boards-reads
-use Rattle.sheet.proofs.ops.long.Reads as long-reads
+use Rattle.sheet.proofs.op_bytes.long.Reads as long-reads
 use Rattle.state.proofs.places.in_use_of.Reads as in-use-of-reads
 use Rattle.state.proofs.controls.halting.Reads as halting-reads
 

@@ -16,7 +16,7 @@ use Rattle.steps.proofs.sends.leave.Lts as lts
 use Rattle.steps.proofs.sends.buffer_or_stop.Reads as buffer-or-stop-reads
 use Rattle.steps.proofs.sends.pend.Reads as pend-reads
 use Rattle.sheet.proofs.header.boards.Reads as boards-reads
-use Rattle.sheet.proofs.ops.kind.Reads as kind-reads
+use Rattle.sheet.proofs.op_bytes.kind.Reads as kind-reads
 use Rattle.state.proofs.controls.halting.Reads as halting-reads
 
 boards-requires : tie.Need-boards-requires

@@ -11,7 +11,7 @@ use Rattle.steps.proofs.step.initiate.Tie as tie
 use Rattle.steps.proofs.step.initiate.Reads as reads
 use Rattle.steps.proofs.step.initiate.Lts as lts
 use Rattle.sheet.proofs.header.boards.Reads as boards-reads
-use Rattle.sheet.proofs.ops.flag.Reads as flag-reads
+use Rattle.sheet.proofs.op_bytes.flag.Reads as flag-reads
 use Rattle.state.proofs.changes.finish_one.Reads as finish-one-reads
 use Rattle.state.proofs.changes.start_waiting.Reads as start-waiting-reads
 

@@ -14,8 +14,8 @@ use Rattle.steps.proofs.step.put_rows.Reads as reads
 use Rattle.steps.proofs.step.put_rows.Lts as lts
 use Rattle.steps.proofs.step.is_cut.Reads as is-cut-reads
 use Rattle.sheet.proofs.header.boards.Reads as boards-reads
-use Rattle.sheet.proofs.ops.long.Reads as long-reads
-use Rattle.sheet.proofs.ops.tag.Reads as tag-reads
+use Rattle.sheet.proofs.op_bytes.long.Reads as long-reads
+use Rattle.sheet.proofs.op_bytes.tag.Reads as tag-reads
 use Rattle.state.proofs.ranks.rank_at.Reads as rank-at-reads
 use Rattle.state.proofs.changes.match_rows.Reads as match-rows-reads
 

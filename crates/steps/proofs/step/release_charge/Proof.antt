@@ -14,7 +14,7 @@ use Rattle.steps.proofs.step.release_charge.Tie as tie
 use Rattle.steps.proofs.step.release_charge.Reads as reads
 use Rattle.steps.proofs.step.release_charge.Lts as lts
 use Rattle.sheet.proofs.header.boards.Reads as boards-reads
-use Rattle.sheet.proofs.ops.long.Reads as long-reads
+use Rattle.sheet.proofs.op_bytes.long.Reads as long-reads
 use Rattle.state.proofs.ranks.rank_at.Reads as rank-at-reads
 use Rattle.state.proofs.rows.state_of.Reads as state-of-reads
 use Rattle.state.proofs.changes.release.Reads as release-reads

@@ -13,7 +13,7 @@ use Rattle.steps.proofs.turn.end_half.Tie as tie
 use Rattle.steps.proofs.turn.end_half.Reads as reads
 use Rattle.steps.proofs.turn.end_half.Lts as lts
 use Rattle.sheet.proofs.header.boards.Reads as boards-reads
-use Rattle.sheet.proofs.ops.kind.Reads as kind-reads
+use Rattle.sheet.proofs.op_bytes.kind.Reads as kind-reads
 use Rattle.state.proofs.changes.finish_one.Reads as finish-one-reads
 use Rattle.state.proofs.changes.set_state.Reads as set-state-reads
 

@@ -25,7 +25,7 @@ use Rattle.steps.proofs.sends.begin.Reads as sends-begin-reads
 use Rattle.steps.proofs.turn.end_half.Reads as end-half-reads
 use Rattle.sheet.proofs.boards.first.Reads as first-reads
 use Rattle.sheet.proofs.header.boards.Reads as boards-reads
-use Rattle.sheet.proofs.ops.kind.Reads as kind-reads
+use Rattle.sheet.proofs.op_bytes.kind.Reads as kind-reads
 use Rattle.state.proofs.places.finished_of.Reads as finished-of-reads
 use Rattle.state.proofs.places.waiting_of.Reads as waiting-of-reads
 

@@ -1,0 +1,100 @@
+// The numbers of document 01, each under the name that rules/specs/Limits gives it. Code cites the names; a change of a number
+// is made there and here.
+ghost use mathlib.Core.Path.{_≡_};
+ghost use Prim.Native.Nat.{_<_};
+ghost use Rattle.rules.specs.Limits.{ops-at, payload-at, sheet-size, report-size, order-room};
+
+// "The sheet, byte by byte": boards, communicators, operations and payload bytes at the most.
+pub const MOST_BOARDS: usize = 16;
+
+pub const MOST_COMMS: usize = 8;
+
+pub const MOST_OPS: usize = 1024;
+
+pub const MOST_PAYLOAD: usize = 16384;
+
+// Attached buffer size of a board; the inboxes of all boards together.
+pub const MOST_ATTACHED: usize = 16384;
+
+pub const MOST_INBOX: usize = 16384;
+
+// Tags are below this, lengths and capacities at most that, request slots below that.
+pub const TAG_LIMIT: usize = 32768;
+
+pub const MOST_LENGTH: usize = 4096;
+
+pub const SLOT_LIMIT: usize = 32;
+
+// Any source (MPI_ANY_SOURCE), any tag (MPI_ANY_TAG), and in a report: none.
+pub const ANY: usize = 65535;
+
+pub const ABSENT: usize = 65535;
+
+// Sizes of a sheet's header and of its tables' entries.
+pub const HEADER_SIZE: usize = 16;
+
+pub const BOARD_SIZE: usize = 8;
+
+pub const OP_SIZE: usize = 16;
+
+// The longest sheet.
+pub const MOST_SHEET: usize = HEADER_SIZE
+    + BOARD_SIZE * MOST_BOARDS
+    + OP_SIZE * MOST_OPS
+    + MOST_PAYLOAD;
+
+// "The report": a header, a row a board, a row an operation; the longest one.
+pub const REPORT_HEADER_SIZE: usize = 16;
+
+pub const BOARD_ROW_SIZE: usize = 8;
+
+pub const OP_ROW_SIZE: usize = 12;
+
+pub const MOST_REPORT: usize = REPORT_HEADER_SIZE
+    + BOARD_ROW_SIZE * MOST_BOARDS
+    + OP_ROW_SIZE * MOST_OPS;
+
+// Lent rooms: order out for the longest script, and scratch.
+pub const MOST_ORDER: usize = 2 * MOST_OPS;
+
+pub const SCRATCH_SIZE: usize = 32768;
+
+// Where the operation table stands in a sheet of p boards.
+pub fn ops_at(p: usize) -> usize
+    requires { ⌜ p < 65536 ⌝ }
+    ensures { λ r. ⌜ r ≡ ops-at p ⌝ }
+{
+    HEADER_SIZE + BOARD_SIZE * p
+}
+
+// Where the payload stands in a sheet of p boards and n operations.
+pub fn payload_at(p: usize, n: usize) -> usize
+    requires { ⌜ (p < 65536) × (n < 65536) ⌝ }
+    ensures { λ r. ⌜ r ≡ payload-at p n ⌝ }
+{
+    ops_at(p) + OP_SIZE * n
+}
+
+// The bytes of a sheet with l bytes of payload.
+pub fn sheet_size(p: usize, n: usize, l: usize) -> usize
+    requires { ⌜ (p < 65536) × (n < 65536) × (l < 65536) ⌝ }
+    ensures { λ r. ⌜ r ≡ sheet-size p n l ⌝ }
+{
+    payload_at(p, n) + l
+}
+
+// The bytes of a report.
+pub fn report_size(p: usize, n: usize) -> usize
+    requires { ⌜ (p < 65536) × (n < 65536) ⌝ }
+    ensures { λ r. ⌜ r ≡ report-size p n ⌝ }
+{
+    REPORT_HEADER_SIZE + BOARD_ROW_SIZE * p + OP_ROW_SIZE * n
+}
+
+// The room of the order of n operations: an operation has at most two steps.
+pub fn order_room(n: usize) -> usize
+    requires { ⌜ n < 65536 ⌝ }
+    ensures { λ r. ⌜ r ≡ order-room n ⌝ }
+{
+    2 * n
+}
