@@ -14,6 +14,7 @@
 //! - `compare`: one call put to both judges and the library.
 //! - `trial`: a generated sheet with rooms and orders, tried on all three.
 //! - `command`: what the two differential programs share.
+//! - `settled`: answers to cases that never change, kept as digests.
 //! - `traffic`: the jobs that are timed.
 
 pub mod answer;
@@ -27,6 +28,7 @@ pub mod guarded;
 pub mod judge;
 pub mod layout;
 pub mod random;
+pub mod settled;
 pub mod sheet;
 pub mod traffic;
 pub mod trial;
