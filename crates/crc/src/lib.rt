@@ -5,6 +5,7 @@ ghost use lib.ListN.{length, getD};
 ghost use Rattle.rules.specs.Crc.{crc-from, crc};
 ghost use Rattle.rules.specs.Refusal.{crc-good};
 ghost use Rattle.crc.specs.Remainders.{Remainders};
+ghost use Rattle.words.specs.Read.{Word};
 
 // Entry k is what eight shifts leave of the byte k at the high end.
 const REMAINDERS: [u16; 256] = [
@@ -269,13 +270,13 @@ const REMAINDERS: [u16; 256] = [
 // An entry of the table.
 fn entry(table: &[u16; 256], k: usize) -> usize
     requires { ⌜ k < 256 ⌝ }
-    ensures { λ r. ⌜ (r ≡ getD (now (table .entry)) k 0) × (r < 65536) ⌝ }
+    ensures { λ r. ⌜ Word (getD (now (table .entry)) k 0) r ⌝ }
 {
     wide16(table[k])
 }
 
 fn wide16(x: u16) -> usize
-    ensures { λ r. ⌜ (r ≡ x) × (r < 65536) ⌝ }
+    ensures { λ r. ⌜ Word x r ⌝ }
 {
     x as usize
 }
@@ -283,7 +284,7 @@ fn wide16(x: u16) -> usize
 // The CRC c, carried on over the bytes of s.
 fn crc_over(table: &[u16; 256], c: usize, s: &[u8]) -> usize
     requires { ⌜ (c < 65536) × Remainders (now table) ⌝ }
-    ensures { λ r. ⌜ (r ≡ crc-from c (now (s .entry))) × (r < 65536) ⌝ }
+    ensures { λ r. ⌜ Word (crc-from c (now (s .entry))) r ⌝ }
 {
     let mut crc = c;
     let mut i = 0;
@@ -298,7 +299,7 @@ fn crc_over(table: &[u16; 256], c: usize, s: &[u8]) -> usize
 // The CRC of a sheet's two parts: bytes 0 to 13, then 16 to the end.
 fn crc_by(table: &[u16; 256], s: &[u8]) -> usize
     requires { ⌜ (15 < length (now s)) × Remainders (now table) ⌝ }
-    ensures { λ r. ⌜ (r ≡ crc (now (s .entry))) × (r < 65536) ⌝ }
+    ensures { λ r. ⌜ Word (crc (now (s .entry))) r ⌝ }
 {
     let head = crc_over(table, 0xffff, &s[0..14]);
     crc_over(table, head, &s[16..])
@@ -313,7 +314,7 @@ fn remainders() -> [u16; 256]
 
 // The CRC of a list of bytes, as published vectors have it.
 pub fn crc_of_bytes(s: &[u8]) -> usize
-    ensures { λ r. ⌜ (r ≡ crc-from 65535 (now (s .entry))) × (r < 65536) ⌝ }
+    ensures { λ r. ⌜ Word (crc-from 65535 (now (s .entry))) r ⌝ }
 {
     let table = remainders();
     crc_over(&table, 0xffff, s)
@@ -322,7 +323,7 @@ pub fn crc_of_bytes(s: &[u8]) -> usize
 // The CRC of a sheet.
 pub fn crc_of(s: &[u8]) -> usize
     requires { ⌜ 15 < length (now s) ⌝ }
-    ensures { λ r. ⌜ (r ≡ crc (now (s .entry))) × (r < 65536) ⌝ }
+    ensures { λ r. ⌜ Word (crc (now (s .entry))) r ⌝ }
 {
     let table = remainders();
     crc_by(&table, s)

@@ -5,6 +5,7 @@ ghost use lib.ListN.{length};
 ghost use Rattle.rules.specs.Sheet.{sheet-in, board, P-of};
 ghost use Rattle.laws.specs.Laid.{Laid};
 ghost use Rattle.sheet.specs.Fields.{Board-at};
+ghost use Rattle.words.specs.Read.{Word};
 
 // Where the entry of board r stands.
 fn at(s: &[u8], r: usize) -> usize
@@ -17,7 +18,7 @@ fn at(s: &[u8], r: usize) -> usize
 // A board's first operation.
 pub fn first(s: &[u8], r: usize) -> usize
     requires { ⌜ Laid (now s) × (r < P-of (sheet-in (now s))) ⌝ }
-    ensures { λ v. ⌜ (v ≡ board (sheet-in (now (s .entry))) r .first) × (v < 65536) ⌝ }
+    ensures { λ v. ⌜ Word (board (sheet-in (now (s .entry))) r .first) v ⌝ }
 {
     words::two_at(s, at(s, r))
 }
@@ -25,7 +26,7 @@ pub fn first(s: &[u8], r: usize) -> usize
 // How many operations its script has.
 pub fn count(s: &[u8], r: usize) -> usize
     requires { ⌜ Laid (now s) × (r < P-of (sheet-in (now s))) ⌝ }
-    ensures { λ v. ⌜ (v ≡ board (sheet-in (now (s .entry))) r .count) × (v < 65536) ⌝ }
+    ensures { λ v. ⌜ Word (board (sheet-in (now (s .entry))) r .count) v ⌝ }
 {
     words::two_at(s, at(s, r) + 2)
 }
@@ -33,7 +34,7 @@ pub fn count(s: &[u8], r: usize) -> usize
 // The size of its attached buffer.
 pub fn attached(s: &[u8], r: usize) -> usize
     requires { ⌜ Laid (now s) × (r < P-of (sheet-in (now s))) ⌝ }
-    ensures { λ v. ⌜ (v ≡ board (sheet-in (now (s .entry))) r .attached) × (v < 65536) ⌝ }
+    ensures { λ v. ⌜ Word (board (sheet-in (now (s .entry))) r .attached) v ⌝ }
 {
     words::two_at(s, at(s, r) + 4)
 }
@@ -41,7 +42,7 @@ pub fn attached(s: &[u8], r: usize) -> usize
 // The size of its inbox.
 pub fn inbox(s: &[u8], r: usize) -> usize
     requires { ⌜ Laid (now s) × (r < P-of (sheet-in (now s))) ⌝ }
-    ensures { λ v. ⌜ (v ≡ board (sheet-in (now (s .entry))) r .inbox) × (v < 65536) ⌝ }
+    ensures { λ v. ⌜ Word (board (sheet-in (now (s .entry))) r .inbox) v ⌝ }
 {
     words::two_at(s, at(s, r) + 6)
 }

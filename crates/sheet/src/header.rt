@@ -3,11 +3,12 @@ ghost use mathlib.Core.Path.{_≡_};
 ghost use Prim.Native.Nat.{_<_};
 ghost use lib.ListN.{length};
 ghost use Rattle.rules.specs.Sheet.{two, P-in, C-in, N-in, L-in};
+ghost use Rattle.words.specs.Read.{Word};
 
 // P, the number of boards.
 pub fn boards(s: &[u8]) -> usize
     requires { ⌜ 15 < length (now s) ⌝ }
-    ensures { λ r. ⌜ (r ≡ P-in (now (s .entry))) × (r < 65536) ⌝ }
+    ensures { λ r. ⌜ Word (P-in (now (s .entry))) r ⌝ }
 {
     words::two_at(s, 0)
 }
@@ -15,7 +16,7 @@ pub fn boards(s: &[u8]) -> usize
 // C, the number of communicators.
 pub fn comms(s: &[u8]) -> usize
     requires { ⌜ 15 < length (now s) ⌝ }
-    ensures { λ r. ⌜ (r ≡ C-in (now (s .entry))) × (r < 65536) ⌝ }
+    ensures { λ r. ⌜ Word (C-in (now (s .entry))) r ⌝ }
 {
     words::two_at(s, 2)
 }
@@ -23,7 +24,7 @@ pub fn comms(s: &[u8]) -> usize
 // N, the number of operations.
 pub fn ops(s: &[u8]) -> usize
     requires { ⌜ 15 < length (now s) ⌝ }
-    ensures { λ r. ⌜ (r ≡ N-in (now (s .entry))) × (r < 65536) ⌝ }
+    ensures { λ r. ⌜ Word (N-in (now (s .entry))) r ⌝ }
 {
     words::two_at(s, 4)
 }
@@ -31,7 +32,7 @@ pub fn ops(s: &[u8]) -> usize
 // L, the number of payload bytes.
 pub fn payload(s: &[u8]) -> usize
     requires { ⌜ 15 < length (now s) ⌝ }
-    ensures { λ r. ⌜ (r ≡ L-in (now (s .entry))) × (r < 65536) ⌝ }
+    ensures { λ r. ⌜ Word (L-in (now (s .entry))) r ⌝ }
 {
     words::two_at(s, 12)
 }
@@ -39,7 +40,7 @@ pub fn payload(s: &[u8]) -> usize
 // The offset of the board table, as the header tells it.
 pub fn boards_offset(s: &[u8]) -> usize
     requires { ⌜ 15 < length (now s) ⌝ }
-    ensures { λ r. ⌜ (r ≡ two (now (s .entry)) 6) × (r < 65536) ⌝ }
+    ensures { λ r. ⌜ Word (two (now (s .entry)) 6) r ⌝ }
 {
     words::two_at(s, 6)
 }
@@ -47,7 +48,7 @@ pub fn boards_offset(s: &[u8]) -> usize
 // The offset of the operation table, as the header tells it.
 pub fn ops_offset(s: &[u8]) -> usize
     requires { ⌜ 15 < length (now s) ⌝ }
-    ensures { λ r. ⌜ (r ≡ two (now (s .entry)) 8) × (r < 65536) ⌝ }
+    ensures { λ r. ⌜ Word (two (now (s .entry)) 8) r ⌝ }
 {
     words::two_at(s, 8)
 }
@@ -55,7 +56,7 @@ pub fn ops_offset(s: &[u8]) -> usize
 // The offset of the payload, as the header tells it.
 pub fn payload_offset(s: &[u8]) -> usize
     requires { ⌜ 15 < length (now s) ⌝ }
-    ensures { λ r. ⌜ (r ≡ two (now (s .entry)) 10) × (r < 65536) ⌝ }
+    ensures { λ r. ⌜ Word (two (now (s .entry)) 10) r ⌝ }
 {
     words::two_at(s, 10)
 }
@@ -63,7 +64,7 @@ pub fn payload_offset(s: &[u8]) -> usize
 // The CRC, as the header tells it.
 pub fn crc(s: &[u8]) -> usize
     requires { ⌜ 15 < length (now s) ⌝ }
-    ensures { λ r. ⌜ (r ≡ two (now (s .entry)) 14) × (r < 65536) ⌝ }
+    ensures { λ r. ⌜ Word (two (now (s .entry)) 14) r ⌝ }
 {
     words::two_at(s, 14)
 }

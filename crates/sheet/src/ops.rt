@@ -7,6 +7,7 @@ ghost use Rattle.rules.specs.Sheet.{sheet-in, op, N-of, is-send, is-buffered, i
 ghost use Rattle.rules.specs.Step.{charge-of};
 ghost use Rattle.laws.specs.Laid.{Laid};
 ghost use Rattle.sheet.specs.Fields.{Op-at};
+ghost use Rattle.words.specs.Read.{Word, Byte};
 use crate::header;
 
 // Where operation i stands.
@@ -20,7 +21,7 @@ fn at(s: &[u8], i: usize) -> usize
 // Its kind, for the tests of roles below.
 pub fn kind(s: &[u8], i: usize) -> usize
     requires { ⌜ Laid (now s) × (i < N-of (sheet-in (now s))) ⌝ }
-    ensures { λ v. ⌜ (v ≡ op (sheet-in (now (s .entry))) i .kind) × (v < 256) ⌝ }
+    ensures { λ v. ⌜ Byte (op (sheet-in (now (s .entry))) i .kind) v ⌝ }
 {
     words::byte_at(s, at(s, i))
 }
@@ -28,7 +29,7 @@ pub fn kind(s: &[u8], i: usize) -> usize
 // Its flag: 0 blocking, 1 nonblocking.
 pub fn flag(s: &[u8], i: usize) -> usize
     requires { ⌜ Laid (now s) × (i < N-of (sheet-in (now s))) ⌝ }
-    ensures { λ v. ⌜ (v ≡ op (sheet-in (now (s .entry))) i .flag) × (v < 256) ⌝ }
+    ensures { λ v. ⌜ Byte (op (sheet-in (now (s .entry))) i .flag) v ⌝ }
 {
     words::byte_at(s, at(s, i) + 1)
 }
@@ -36,7 +37,7 @@ pub fn flag(s: &[u8], i: usize) -> usize
 // A send's destination; a receive's source, or any.
 pub fn peer(s: &[u8], i: usize) -> usize
     requires { ⌜ Laid (now s) × (i < N-of (sheet-in (now s))) ⌝ }
-    ensures { λ v. ⌜ (v ≡ op (sheet-in (now (s .entry))) i .peer) × (v < 65536) ⌝ }
+    ensures { λ v. ⌜ Word (op (sheet-in (now (s .entry))) i .peer) v ⌝ }
 {
     words::two_at(s, at(s, i) + 2)
 }
@@ -44,7 +45,7 @@ pub fn peer(s: &[u8], i: usize) -> usize
 // Its communicator.
 pub fn comm(s: &[u8], i: usize) -> usize
     requires { ⌜ Laid (now s) × (i < N-of (sheet-in (now s))) ⌝ }
-    ensures { λ v. ⌜ (v ≡ op (sheet-in (now (s .entry))) i .comm) × (v < 65536) ⌝ }
+    ensures { λ v. ⌜ Word (op (sheet-in (now (s .entry))) i .comm) v ⌝ }
 {
     words::two_at(s, at(s, i) + 4)
 }
@@ -52,7 +53,7 @@ pub fn comm(s: &[u8], i: usize) -> usize
 // The field that is zero.
 pub fn zero_field(s: &[u8], i: usize) -> usize
     requires { ⌜ Laid (now s) × (i < N-of (sheet-in (now s))) ⌝ }
-    ensures { λ v. ⌜ (v ≡ op (sheet-in (now (s .entry))) i .zero-field) × (v < 65536) ⌝ }
+    ensures { λ v. ⌜ Word (op (sheet-in (now (s .entry))) i .zero-field) v ⌝ }
 {
     words::two_at(s, at(s, i) + 6)
 }
@@ -60,7 +61,7 @@ pub fn zero_field(s: &[u8], i: usize) -> usize
 // Its tag; a receive may name any.
 pub fn tag(s: &[u8], i: usize) -> usize
     requires { ⌜ Laid (now s) × (i < N-of (sheet-in (now s))) ⌝ }
-    ensures { λ v. ⌜ (v ≡ op (sheet-in (now (s .entry))) i .tag) × (v < 65536) ⌝ }
+    ensures { λ v. ⌜ Word (op (sheet-in (now (s .entry))) i .tag) v ⌝ }
 {
     words::two_at(s, at(s, i) + 8)
 }
@@ -68,7 +69,7 @@ pub fn tag(s: &[u8], i: usize) -> usize
 // Where a send's message starts in the payload, a receive's area in its board's inbox.
 pub fn offset(s: &[u8], i: usize) -> usize
     requires { ⌜ Laid (now s) × (i < N-of (sheet-in (now s))) ⌝ }
-    ensures { λ v. ⌜ (v ≡ op (sheet-in (now (s .entry))) i .offset) × (v < 65536) ⌝ }
+    ensures { λ v. ⌜ Word (op (sheet-in (now (s .entry))) i .offset) v ⌝ }
 {
     words::two_at(s, at(s, i) + 10)
 }
@@ -76,7 +77,7 @@ pub fn offset(s: &[u8], i: usize) -> usize
 // A send's length, a receive's capacity.
 pub fn long(s: &[u8], i: usize) -> usize
     requires { ⌜ Laid (now s) × (i < N-of (sheet-in (now s))) ⌝ }
-    ensures { λ v. ⌜ (v ≡ op (sheet-in (now (s .entry))) i .long) × (v < 65536) ⌝ }
+    ensures { λ v. ⌜ Word (op (sheet-in (now (s .entry))) i .long) v ⌝ }
 {
     words::two_at(s, at(s, i) + 12)
 }
@@ -84,7 +85,7 @@ pub fn long(s: &[u8], i: usize) -> usize
 // Its request slot.
 pub fn slot(s: &[u8], i: usize) -> usize
     requires { ⌜ Laid (now s) × (i < N-of (sheet-in (now s))) ⌝ }
-    ensures { λ v. ⌜ (v ≡ op (sheet-in (now (s .entry))) i .slot) × (v < 65536) ⌝ }
+    ensures { λ v. ⌜ Word (op (sheet-in (now (s .entry))) i .slot) v ⌝ }
 {
     words::two_at(s, at(s, i) + 14)
 }
@@ -165,7 +166,7 @@ pub fn frees_slot(s: &[u8], i: usize) -> bool
 // What it is charged where it is a buffered send that nothing fits.
 pub fn charge(s: &[u8], i: usize) -> usize
     requires { ⌜ Laid (now s) × (i < N-of (sheet-in (now s))) ⌝ }
-    ensures { λ v. ⌜ (v ≡ charge-of (op (sheet-in (now (s .entry))) i)) × (v < 65536) ⌝ }
+    ensures { λ v. ⌜ Word (charge-of (op (sheet-in (now (s .entry))) i)) v ⌝ }
 {
     long(s, i)
 }

@@ -8,11 +8,12 @@ ghost use Rattle.rules.specs.Step.{splice};
 ghost use Rattle.rules.specs.Report.{low-two};
 ghost use Rattle.state.specs.Layout.{word-at};
 ghost use Rattle.state.specs.Lists.{behind};
+ghost use Rattle.words.specs.Read.{Word};
 
 // Entry k of the list at base.
 pub fn word_of(c: &[u8], base: usize, k: usize) -> usize
     requires { ⌜ word-at base k + 2 ≤ length (now c) ⌝ }
-    ensures { λ v. ⌜ (v ≡ two (now (c .entry)) (word-at base k)) × (v < 65536) ⌝ }
+    ensures { λ v. ⌜ Word (two (now (c .entry)) (word-at base k)) v ⌝ }
 {
     words::two_at(c, base + 2 * k)
 }

@@ -8,12 +8,13 @@ ghost use Rattle.rules.specs.Job.{place};
 ghost use Rattle.rules.specs.Step.{splice};
 ghost use Rattle.state.specs.Layout.{seat-at};
 ghost use Rattle.state.specs.Decoded.{place-in, place-row};
+ghost use Rattle.words.specs.Read.{Word};
 use crate::PLACES;
 
 // How many operations board r has finished.
 pub fn finished_of(c: &[u8], r: usize) -> usize
     requires { ⌜ (r < most-boards) × (scratch-size ≤ length (now c)) ⌝ }
-    ensures { λ v. ⌜ (v ≡ place-in (now (c .entry)) (seat-at r) .finished) × (v < 65536) ⌝ }
+    ensures { λ v. ⌜ Word (place-in (now (c .entry)) (seat-at r) .finished) v ⌝ }
 {
     words::two_at(c, PLACES + 8 * r)
 }
@@ -29,7 +30,7 @@ pub fn waiting_of(c: &[u8], r: usize) -> bool
 // The bytes of its attached buffer in use.
 pub fn in_use_of(c: &[u8], r: usize) -> usize
     requires { ⌜ (r < most-boards) × (scratch-size ≤ length (now c)) ⌝ }
-    ensures { λ v. ⌜ (v ≡ place-in (now (c .entry)) (seat-at r) .in-use) × (v < 65536) ⌝ }
+    ensures { λ v. ⌜ Word (place-in (now (c .entry)) (seat-at r) .in-use) v ⌝ }
 {
     words::two_at(c, PLACES + 8 * r + 2)
 }
@@ -37,7 +38,7 @@ pub fn in_use_of(c: &[u8], r: usize) -> usize
 // The most in use after any step.
 pub fn peak_of(c: &[u8], r: usize) -> usize
     requires { ⌜ (r < most-boards) × (scratch-size ≤ length (now c)) ⌝ }
-    ensures { λ v. ⌜ (v ≡ place-in (now (c .entry)) (seat-at r) .peak) × (v < 65536) ⌝ }
+    ensures { λ v. ⌜ Word (place-in (now (c .entry)) (seat-at r) .peak) v ⌝ }
 {
     words::two_at(c, PLACES + 8 * r + 4)
 }

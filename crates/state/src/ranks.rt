@@ -6,12 +6,13 @@ ghost use lib.ListN.{length, getD, replicate};
 ghost use Rattle.rules.specs.Limits.{most-ops, scratch-size};
 ghost use Rattle.rules.specs.Step.{splice};
 ghost use Rattle.state.specs.Layout.{rank-at};
+ghost use Rattle.words.specs.Read.{Byte};
 use crate::RANKS;
 
 // The rank of operation i.
 pub fn rank_at(c: &[u8], i: usize) -> usize
     requires { ⌜ (i < most-ops) × (scratch-size ≤ length (now c)) ⌝ }
-    ensures { λ v. ⌜ (v ≡ getD (now (c .entry)) (rank-at i) 0) × (v < 256) ⌝ }
+    ensures { λ v. ⌜ Byte (getD (now (c .entry)) (rank-at i) 0) v ⌝ }
 {
     words::byte_at(c, RANKS + i)
 }

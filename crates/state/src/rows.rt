@@ -9,11 +9,12 @@ ghost use Rattle.rules.specs.Step.{splice};
 ghost use Rattle.rules.specs.Report.{op-row, low-two};
 ghost use Rattle.state.specs.Layout.{row-at};
 ghost use Rattle.state.specs.Decoded.{entry-in};
+ghost use Rattle.words.specs.Read.{Word, Byte};
 
 // The state of operation i.
 pub fn state_of(c: &[u8], i: usize) -> usize
     requires { ⌜ (i < most-ops) × (scratch-size ≤ length (now c)) ⌝ }
-    ensures { λ r. ⌜ (r ≡ entry-in (now (c .entry)) (row-at i) .state) × (r < 256) ⌝ }
+    ensures { λ r. ⌜ Byte (entry-in (now (c .entry)) (row-at i) .state) r ⌝ }
 {
     words::byte_at(c, 12 * i)
 }
@@ -21,7 +22,7 @@ pub fn state_of(c: &[u8], i: usize) -> usize
 // Whether its message was cut, 1 or 0.
 pub fn cut_of(c: &[u8], i: usize) -> usize
     requires { ⌜ (i < most-ops) × (scratch-size ≤ length (now c)) ⌝ }
-    ensures { λ r. ⌜ (r ≡ entry-in (now (c .entry)) (row-at i) .cut) × (r < 256) ⌝ }
+    ensures { λ r. ⌜ Byte (entry-in (now (c .entry)) (row-at i) .cut) r ⌝ }
 {
     words::byte_at(c, 12 * i + 1)
 }
@@ -29,7 +30,7 @@ pub fn cut_of(c: &[u8], i: usize) -> usize
 // The operation that it was matched with.
 pub fn partner_of(c: &[u8], i: usize) -> usize
     requires { ⌜ (i < most-ops) × (scratch-size ≤ length (now c)) ⌝ }
-    ensures { λ r. ⌜ (r ≡ entry-in (now (c .entry)) (row-at i) .partner) × (r < 65536) ⌝ }
+    ensures { λ r. ⌜ Word (entry-in (now (c .entry)) (row-at i) .partner) r ⌝ }
 {
     words::two_at(c, 12 * i + 2)
 }

@@ -7,12 +7,13 @@ ghost use Rattle.rules.specs.Sheet.{two};
 ghost use Rattle.rules.specs.Step.{splice};
 ghost use Rattle.rules.specs.Report.{low-two};
 ghost use Rattle.state.specs.Layout.{waits-at, word-at};
+ghost use Rattle.words.specs.Read.{Word};
 use crate::WAITS;
 
 // The operation that wait i waits for.
 pub fn waited_at(c: &[u8], i: usize) -> usize
     requires { ⌜ (i < most-ops) × (scratch-size ≤ length (now c)) ⌝ }
-    ensures { λ v. ⌜ (v ≡ two (now (c .entry)) (word-at waits-at i)) × (v < 65536) ⌝ }
+    ensures { λ v. ⌜ Word (two (now (c .entry)) (word-at waits-at i)) v ⌝ }
 {
     words::two_at(c, WAITS + 2 * i)
 }

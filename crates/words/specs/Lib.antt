@@ -7,3 +7,4 @@ pub mod Splice
 pub mod Putting
 pub mod Tab
 pub mod Two
+pub mod Read

@@ -7,10 +7,11 @@ ghost use lib.ListN.{length, getD, take, drop, replicate};
 ghost use Rattle.rules.specs.Sheet.{two};
 ghost use Rattle.rules.specs.Step.{splice};
 ghost use Rattle.rules.specs.Report.{low-two};
+ghost use Rattle.words.specs.Read.{Word, Byte};
 
 // A byte as an index or a summand.
 pub fn wide(x: u8) -> usize
-    ensures { λ r. ⌜ (r ≡ x) × (r < 256) ⌝ }
+    ensures { λ r. ⌜ Byte x r ⌝ }
 {
     x as usize
 }
@@ -18,7 +19,7 @@ pub fn wide(x: u8) -> usize
 // The byte at a place.
 pub fn byte_at(s: &[u8], at: usize) -> usize
     requires { ⌜ at < length (now s) ⌝ }
-    ensures { λ r. ⌜ (r ≡ getD (now (s .entry)) at 0) × (r < 256) ⌝ }
+    ensures { λ r. ⌜ Byte (getD (now (s .entry)) at 0) r ⌝ }
 {
     wide(s[at])
 }
@@ -26,7 +27,7 @@ pub fn byte_at(s: &[u8], at: usize) -> usize
 // The number at a place, low byte first.
 pub fn two_at(s: &[u8], at: usize) -> usize
     requires { ⌜ at + 1 < length (now s) ⌝ }
-    ensures { λ r. ⌜ (r ≡ two (now (s .entry)) at) × (r < 65536) ⌝ }
+    ensures { λ r. ⌜ Word (two (now (s .entry)) at) r ⌝ }
 {
     wide(s[at]) + 256 * wide(s[at + 1])
 }

@@ -43,13 +43,15 @@ returns : tie.Need-returns
 unfolding crc
 returns c =
     let s = c .before .before .before .before .before .args .s .now in
-    let head = c .before .before .crc-over .ensures .0 in
-    let rest : take (length s - 16) (drop 16 s) ≡ drop 16 s = take-all (length s - 16) (drop 16 s) (omega (arith, length-drop 16 s)) in (
-      c .crc-over2 .ensures .0
+    let head = c .before .before .crc-over .ensures .is in
+    let rest : take (length s - 16) (drop 16 s) ≡ drop 16 s = take-all (length s - 16) (drop 16 s) (omega (arith, length-drop 16 s)) in
+    record {
+      is =
+          c .crc-over2 .ensures .is
           ∙ (ap (λ (l : List ℕ). crc-from (c .before .before .crc-over .result) l) rest
-          ∙ (ap (λ (n : ℕ). crc-from n (drop 16 s)) head ∙ sym (crc-from-append 65535 (take 14 s) (drop 16 s)))),
-      c .crc-over2 .ensures .1,
-    )
+          ∙ (ap (λ (n : ℕ). crc-from n (drop 16 s)) head ∙ sym (crc-from-append 65535 (take 14 s) (drop 16 s))));
+      small = c .crc-over2 .ensures .small;
+    }
 
 pub crc-by-spec : {M : Type 1} → statement M
 crc-by-spec =

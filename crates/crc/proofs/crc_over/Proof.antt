@@ -52,7 +52,7 @@ loop-again c =
     let read = c .before .before .before .before .before .before .pre .1 .at k below in
     let turn =
     crc-turn (l .crc) s (l .i) (c .before .wide .result) (c .entry .result) (l .inv .1) (omega arith)
-    (c .before .wide .ensures .0) (c .before .wide .ensures .1) (c .entry .ensures .0 ∙ read) in
+    (c .before .wide .ensures .is) (c .before .wide .ensures .small) (c .entry .ensures .is ∙ read) in
     (omega arith, turn .0, l .inv .2 ∙ turn .1)
 
 returns : tie.Need-returns Inv-loop μ-loop
@@ -61,7 +61,10 @@ returns c =
     let l = c .before .loop in
     let s = c .before .before .before .args .s .now in
     let done : drop (l .i) s ≡ [] = drop-of-length-le s {i = l .i} (omega arith) in
-    (sym (l .inv .2 ∙ ap (λ (xs : List ℕ). crc-from (l .crc) xs) done), l .inv .1)
+    record {
+      is = sym (l .inv .2 ∙ ap (λ (xs : List ℕ). crc-from (l .crc) xs) done);
+      small = l .inv .1;
+    }
 
 pub crc-over-spec : {M : Type 1} → statement M
 crc-over-spec =

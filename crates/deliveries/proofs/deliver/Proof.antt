@@ -47,7 +47,7 @@ loop-again c =
     let a = z .args in
     let l = c .before .before .before .before .before .before .loop in
     filling-more (sheet-in (a .s .now)) (z .pre .0 .good) (a .c .now) (a .inbox .now) (l .r) (l .start) (l .inbox) (c .before .before .before .deliver-script .last .1 .1 .1 .1 .0) (c .inbox2 .result) (l .inv)
-    (omega (arith, P-decoded (a .s .now))) (c .inbox2 .ensures .0) (c .before .before .before .deliver-script .ensures)
+    (omega (arith, P-decoded (a .s .now))) (c .inbox2 .ensures .is) (c .before .before .before .deliver-script .ensures)
 
 same-length : tie.Need-same-length Inv-loop μ-loop
 same-length c = c .before .loop .inv .replaying .size

@@ -80,10 +80,10 @@ add-receive : tie.Need-add-receive
 add-receive c = omega (arith, small-receive (c .before .before .before), c .before .before .before .pre .1 .ops-few)
 
 long-requires : tie.Need-long-requires
-long-requires c κs = op-within (c .before .before .before .args .s .now) (c .before .before .before .args .m) (c .boards .result) (small-message (c .before .before .before)) (c .boards .ensures .0) (c .before .before .before .pre .0 .whole)
+long-requires c κs = op-within (c .before .before .before .args .s .now) (c .before .before .before .args .m) (c .boards .result) (small-message (c .before .before .before)) (c .boards .ensures .is) (c .before .before .before .pre .0 .whole)
 
 long-requires-2 : tie.Need-long-requires-2
-long-requires-2 c κs = op-within (c .before .before .before .before .args .s .now) (c .before .before .before .before .args .r) (c .before .boards .result) (small-receive (c .before .before .before .before)) (c .before .boards .ensures .0) (c .before .before .before .before .pre .0 .whole)
+long-requires-2 c κs = op-within (c .before .before .before .before .args .s .now) (c .before .before .before .before .args .r) (c .before .boards .result) (small-receive (c .before .before .before .before)) (c .before .boards .ensures .is) (c .before .before .before .before .pre .0 .whole)
 
 returns : tie.Need-returns
 returns c =
@@ -91,7 +91,7 @@ returns c =
     let p = z .pre in
     let b = c .before .before .before .boards in
     delivered-cut (z .args .s .now) (p .0) (p .1) (z .args .m) (z .args .r) (p .2) (p .3) (z .args .inbox .now) (p .5)
-    (omega (arith, c .before .before .long .ensures .0, c .before .long2 .ensures .0, long-message z (b .result) (b .ensures .0), long-receive z (b .result) (b .ensures .0)))
+    (omega (arith, c .before .before .long .ensures .is, c .before .long2 .ensures .is, long-message z (b .result) (b .ensures .is), long-receive z (b .result) (b .ensures .is)))
 
 ops-requires : tie.Need-ops-requires
 ops-requires c κs = search needs
@@ -103,19 +103,19 @@ add-from : tie.Need-add-from
 add-from c = search needs
 
 offset-requires : tie.Need-offset-requires
-offset-requires c κs = op-within (c .before .before .before .before .before .before .before .args .s .now) (c .before .before .before .before .before .before .before .args .m) (c .before .before .before .before .boards .result) (small-message (c .before .before .before .before .before .before .before)) (c .before .before .before .before .boards .ensures .0) (c .before .before .before .before .before .before .before .pre .0 .whole)
+offset-requires c κs = op-within (c .before .before .before .before .before .before .before .args .s .now) (c .before .before .before .before .before .before .before .args .m) (c .before .before .before .before .boards .result) (small-message (c .before .before .before .before .before .before .before)) (c .before .before .before .before .boards .ensures .is) (c .before .before .before .before .before .before .before .pre .0 .whole)
 
 add-from-2 : tie.Need-add-from-2
 add-from-2 c = search needs
 
 offset-requires-2 : tie.Need-offset-requires-2
-offset-requires-2 c κs = op-within (c .before .before .before .before .before .before .before .before .args .s .now) (c .before .before .before .before .before .before .before .before .args .r) (c .before .before .before .before .before .boards .result) (small-receive (c .before .before .before .before .before .before .before .before)) (c .before .before .before .before .before .boards .ensures .0) (c .before .before .before .before .before .before .before .before .pre .0 .whole)
+offset-requires-2 c κs = op-within (c .before .before .before .before .before .before .before .before .args .s .now) (c .before .before .before .before .before .before .before .before .args .r) (c .before .before .before .before .before .boards .result) (small-receive (c .before .before .before .before .before .before .before .before)) (c .before .before .before .before .before .boards .ensures .is) (c .before .before .before .before .before .before .before .before .pre .0 .whole)
 
 add-area : tie.Need-add-area
-add-area c = omega (arith, area-small (c .before .before .before .before .before .before .before .before .before) (c .before .before .before .before .before .before .boards .result) (c .before .before .before .before .before .before .boards .ensures .0))
+add-area c = omega (arith, area-small (c .before .before .before .before .before .before .before .before .before) (c .before .before .before .before .before .before .boards .result) (c .before .before .before .before .before .before .boards .ensures .is))
 
 add-end : tie.Need-add-end
-add-end c = omega (arith, area-small (c .before .before .before .before .before .before .before .before .before) (c .before .before .before .before .before .before .boards .result) (c .before .before .before .before .before .before .boards .ensures .0))
+add-end c = omega (arith, area-small (c .before .before .before .before .before .before .before .before .before) (c .before .before .before .before .before .before .boards .result) (c .before .before .before .before .before .before .boards .ensures .is))
 
 sub-copy : tie.Need-sub-copy
 sub-copy c = search needs
@@ -124,18 +124,18 @@ part-copy-start : tie.Need-part-copy-start
 part-copy-start c = search needs
 
 part-copy-end : tie.Need-part-copy-end
-part-copy-end c = omega (arith, c .before .before .before .before .before .before .before .before .before .pre .5, area-small (c .before .before .before .before .before .before .before .before .before) (c .before .before .before .before .before .before .boards .result) (c .before .before .before .before .before .before .boards .ensures .0))
+part-copy-end c = omega (arith, c .before .before .before .before .before .before .before .before .before .pre .5, area-small (c .before .before .before .before .before .before .before .before .before) (c .before .before .before .before .before .before .boards .result) (c .before .before .before .before .before .before .boards .ensures .is))
 
 copy-requires : tie.Need-copy-requires
 copy-requires c κs =
     let z = c .before .before .before .before .before .before .before .before .before .before in
     let b = c .before .before .before .before .before .before .before .boards in
-    let small = area-small z (b .result) (b .ensures .0) in
+    let small = area-small z (b .result) (b .ensures .is) in
     let area = z .args .start + c .before .offset2 .result in
     let room : area + c .before .before .before .before .before .long2 .result ≤ length (z .args .inbox .now) = omega (arith, z .pre .5) in
     let first : 0 + c .before .before .before .before .before .before .long .result ≤ length (midOf area ((area + c .before .before .before .before .before .long2 .result) - area) (z .args .inbox .now)) =
     omega (arith, mid-len area (area + c .before .before .before .before .before .long2 .result) (z .args .inbox .now) room) in
-    (first, omega (arith, message-end (z .args .s .now) (z .pre .0) (z .pre .1) (z .args .m) (z .args .r) (z .pre .2) (z .pre .3), long-message z (b .result) (b .ensures .0), offset-message z (b .result) (b .ensures .0)))
+    (first, omega (arith, message-end (z .args .s .now) (z .pre .0) (z .pre .1) (z .args .m) (z .args .r) (z .pre .2) (z .pre .3), long-message z (b .result) (b .ensures .is), offset-message z (b .result) (b .ensures .is)))
 
 same-length : tie.Need-same-length
 same-length c = search needs
@@ -150,10 +150,10 @@ returns-2 c =
     ap (λ (part : List ℕ). putMid area (end - area) (z .args .inbox .now) part) (c .before .before .copy .ensures)
     ∙ delivered-part (z .args .s .now) (p .0) (p .1) (z .args .m) (z .args .r) (p .2) (p .3) (z .args .inbox .now)
     (((16 + 8 * b .result) + 16 * c .before .before .before .before .before .before .ops .result) + c .before .before .before .before .before .offset .result) (c .before .before .before .before .before .before .before .before .before .long .result) area end (p .5)
-    (λ h. omega (arith, c .before .before .before .before .before .before .before .if1 .left, long-message z (b .result) (b .ensures .0), long-receive z (b .result) (b .ensures .0)))
-    (omega (arith, offset-message z (b .result) (b .ensures .0))) (c .before .before .before .before .before .before .before .before .before .long .ensures .0 ∙ long-message z (b .result) (b .ensures .0))
-    (area-is z (b .result) (b .ensures .0) (c .before .before .before .before .offset2 .result) (c .before .before .before .before .offset2 .ensures .0))
-    (ap (λ (n : ℕ). area + n) (c .before .before .before .before .before .before .before .before .long2 .ensures .0 ∙ long-receive z (b .result) (b .ensures .0)))
+    (λ h. omega (arith, c .before .before .before .before .before .before .before .if1 .left, long-message z (b .result) (b .ensures .is), long-receive z (b .result) (b .ensures .is)))
+    (omega (arith, offset-message z (b .result) (b .ensures .is))) (c .before .before .before .before .before .before .before .before .before .long .ensures .is ∙ long-message z (b .result) (b .ensures .is))
+    (area-is z (b .result) (b .ensures .is) (c .before .before .before .before .offset2 .result) (c .before .before .before .before .offset2 .ensures .is))
+    (ap (λ (n : ℕ). area + n) (c .before .before .before .before .before .before .before .before .long2 .ensures .is ∙ long-receive z (b .result) (b .ensures .is)))
 
 pub deliver-message-spec : {M : Type 1} → statement M
 deliver-message-spec =

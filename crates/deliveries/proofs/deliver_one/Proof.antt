@@ -46,7 +46,7 @@ returns c =
     let z = c .before .before .before .before .before .before in
     let a = z .args in
     replay-in-other (sheet-in (a .s .now)) (a .c .now) (a .i) (a .inbox .now)
-    (ne-eqb (op (sheet-in (a .s .now)) (a .i) .kind) 5 (λ h. c .if1 .taken (c .before .kind .ensures .0 ∙ kind-read z (c .before .before .boards .result) (c .before .before .boards .ensures .0) ∙ h)))
+    (ne-eqb (op (sheet-in (a .s .now)) (a .i) .kind) 5 (λ h. c .if1 .taken (c .before .kind .ensures .is ∙ kind-read z (c .before .before .boards .result) (c .before .before .boards .ensures .is) ∙ h)))
 
 state-of-requires : tie.Need-state-of-requires
 state-of-requires c κs = search needs
@@ -54,7 +54,7 @@ state-of-requires c κs = search needs
 returns-2 : tie.Need-returns-2
 returns-2 c =
     let a = c .before .before .before .before .before .before .before .before .args in
-    replay-in-unmatched (sheet-in (a .s .now)) (a .c .now) (a .i) (a .inbox .now) (λ h. c .if2 .taken (c .before .state-of .ensures .0 ∙ h))
+    replay-in-unmatched (sheet-in (a .s .now)) (a .c .now) (a .i) (a .inbox .now) (λ h. c .if2 .taken (c .before .state-of .ensures .is ∙ h))
 
 partner-of-requires : tie.Need-partner-of-requires
 partner-of-requires c κs = search needs
@@ -63,11 +63,11 @@ deliver-message-requires : tie.Need-deliver-message-requires
 deliver-message-requires c κs =
     let z = c .before .before .before .before .before .before .before .before .before .before in
     let a = z .args in
-    let receives = is-due z (c .before .before .before .before .before .before .boards .result) (c .before .before .before .before .before .before .boards .ensures .0) (c .before .before .before .before .before .kind .result) (c .before .before .before .before .before .kind .ensures .0) (c .before .before .before .before .if1 .left) in (
+    let receives = is-due z (c .before .before .before .before .before .before .boards .result) (c .before .before .before .before .before .before .boards .ensures .is) (c .before .before .before .before .before .kind .result) (c .before .before .before .before .before .kind .ensures .is) (c .before .before .before .before .if1 .left) in (
       z .pre .0 .laid,
       z .pre .0 .good,
-      ap (λ (m : ℕ). is-send (op (sheet-in (a .s .now)) m)) (c .before .partner-of .ensures .0)
-          ∙ z .pre .0 .sent (a .i) (omega (arith, z .pre .1, N-decoded (a .s .now))) receives (sym (c .before .before .before .state-of .ensures .0) ∙ c .before .before .if2 .left),
+      ap (λ (m : ℕ). is-send (op (sheet-in (a .s .now)) m)) (c .before .partner-of .ensures .is)
+          ∙ z .pre .0 .sent (a .i) (omega (arith, z .pre .1, N-decoded (a .s .now))) receives (sym (c .before .before .before .state-of .ensures .is) ∙ c .before .before .if2 .left),
       receives,
       z .pre .2,
       z .pre .3,
@@ -80,10 +80,10 @@ returns-3 : tie.Need-returns-3
 returns-3 c =
     let z = c .before .before .before .before .before .before .before .before .before .before .before .before .before in
     let a = z .args in
-    let receives = is-due z (c .before .before .before .before .before .before .before .before .before .boards .result) (c .before .before .before .before .before .before .before .before .before .boards .ensures .0) (c .before .before .before .before .before .before .before .before .kind .result) (c .before .before .before .before .before .before .before .before .kind .ensures .0) (c .before .before .before .before .before .before .before .if1 .left) in
+    let receives = is-due z (c .before .before .before .before .before .before .before .before .before .boards .result) (c .before .before .before .before .before .before .before .before .before .boards .ensures .is) (c .before .before .before .before .before .before .before .before .kind .result) (c .before .before .before .before .before .before .before .before .kind .ensures .is) (c .before .before .before .before .before .before .before .if1 .left) in
     c .before .before .deliver-message .ensures
-    ∙ ap (λ (m : ℕ). delivered (sheet-in (a .s .now)) m (a .i) (a .inbox .now)) (c .before .before .before .before .partner-of .ensures .0)
-    ∙ replay-in-due (sheet-in (a .s .now)) (a .c .now) (a .i) (a .inbox .now) receives (sym (c .before .before .before .before .before .before .state-of .ensures .0) ∙ c .before .before .before .before .before .if2 .left)
+    ∙ ap (λ (m : ℕ). delivered (sheet-in (a .s .now)) m (a .i) (a .inbox .now)) (c .before .before .before .before .partner-of .ensures .is)
+    ∙ replay-in-due (sheet-in (a .s .now)) (a .c .now) (a .i) (a .inbox .now) receives (sym (c .before .before .before .before .before .before .state-of .ensures .is) ∙ c .before .before .before .before .before .if2 .left)
 
 pub deliver-one-spec : {M : Type 1} → statement M
 deliver-one-spec =

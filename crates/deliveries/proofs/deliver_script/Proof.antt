@@ -28,7 +28,7 @@ add-end c = omega arith
 loop-holds : tie.Need-loop-holds Inv-loop μ-loop
 loop-holds c =
     let a = c .before .before .before .before .before .args in
-    (scripting-none (sheet-in (a .s .now)) (a .c .now) (a .r) (a .inbox .now) (c .before .first .result) (c .before .first .ensures .0), omega arith)
+    (scripting-none (sheet-in (a .s .now)) (a .c .now) (a .r) (a .inbox .now) (c .before .first .result) (c .before .first .ensures .is), omega arith)
 
 deliver-one-requires : tie.Need-deliver-one-requires Inv-loop μ-loop
 deliver-one-requires c κs =
@@ -38,7 +38,7 @@ deliver-one-requires c κs =
     let g = z .pre .0 .good in
     let l = c .before .before .loop in
     let small : a .r < P-of s = omega (arith, z .pre .1, P-decoded (a .s .now)) in
-    let high : l .i < board s (a .r) .first + board s (a .r) .count = omega (arith, c .before .before .before .before .first .ensures .0, c .before .before .before .count .ensures .0) in (
+    let high : l .i < board s (a .r) .first + board s (a .r) .count = omega (arith, c .before .before .before .before .first .ensures .is, c .before .before .before .count .ensures .is) in (
       z .pre .0,
       omega (arith, g .script-inside (a .r) small, N-decoded (a .s .now)),
       z .pre .2 ∙ ap (λ (q : ℕ). inbox-start s q) (sym (g .script-ranked (a .r) (l .i) small (l .inv .0 .lower) high)),
@@ -64,7 +64,7 @@ returns : tie.Need-returns Inv-loop μ-loop
 returns c =
     let a = c .before .before .before .before .before .before .before .args in
     let l = c .before .loop in
-    λ lent q. replaying-at (omega (arith, c .before .before .before .first .ensures .0, c .before .before .count .ensures .0)) (l .inv .0 .goes lent q)
+    λ lent q. replaying-at (omega (arith, c .before .before .before .first .ensures .is, c .before .before .count .ensures .is)) (l .inv .0 .goes lent q)
 
 pub deliver-script-spec : {M : Type 1} → statement M
 deliver-script-spec =

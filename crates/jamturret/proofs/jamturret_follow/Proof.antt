@@ -43,7 +43,7 @@ refusal-requires c κs = settled (c .before .before .before .before .before .bef
 short : (c : tie.After-refusal) → answers (room-refusal (sheet-in (c .before .before .before .before .before .before .before .before .before .before .args .sheet .now)) (length (c .before .before .before .before .before .before .before .before .before .before .args .inbox .now)) (length (c .before .before .before .before .before .before .before .before .before .before .args .report .now)) (order-room (N-of (sheet-in (c .before .before .before .before .before .before .before .before .before .before .args .sheet .now)))) (length (c .before .before .before .before .before .before .before .before .before .before .args .scratch .now))) (c .refusal .result .number) (c .refusal .result .place)
 short c =
     let a = c .before .before .before .before .before .before .before .before .before .before .args in
-    rooms-as (a .sheet .now) (length (a .inbox .now)) (length (a .report .now)) (c .before .ops .result) (length (a .scratch .now)) (c .refusal .result .number) (c .refusal .result .place) (c .before .ops .ensures .0) (c .refusal .ensures)
+    rooms-as (a .sheet .now) (length (a .inbox .now)) (length (a .report .now)) (c .before .ops .result) (length (a .scratch .now)) (c .refusal .result .number) (c .refusal .result .place) (c .before .ops .ensures .is) (c .refusal .ensures)
 
 enough : (c : tie.After-refusal) → c .refusal .result .number ≡ 0 → room-refusal (sheet-in (c .before .before .before .before .before .before .before .before .before .before .args .sheet .now)) (length (c .before .before .before .before .before .before .before .before .before .before .args .inbox .now)) (length (c .before .before .before .before .before .before .before .before .before .before .args .report .now)) (order-room (N-of (sheet-in (c .before .before .before .before .before .before .before .before .before .before .args .sheet .now)))) (length (c .before .before .before .before .before .before .before .before .before .before .args .scratch .now)) .number ≡ 0
 enough c z =

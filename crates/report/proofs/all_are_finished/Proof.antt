@@ -33,7 +33,7 @@ returns c =
     let r = c .before .before .before .before .loop .r in
     let l : r < P-of (sheet-in (a .s .now)) = omega (arith, P-decoded (a .s .now)) in
     λ t lent x d. finishing-not (sheet-in (a .s .now)) x r l (c .before .before .before .before .loop .inv .1 t lent x d)
-    (finished-no (a .s .now) lent (a .c .now) t x d r (c .before .before .finished-of .result) (c .before .count .result) l (c .before .before .finished-of .ensures .0) (c .before .count .ensures .0) (c .if1 .taken))
+    (finished-no (a .s .now) lent (a .c .now) t x d r (c .before .before .finished-of .result) (c .before .count .result) l (c .before .before .finished-of .ensures .is) (c .before .count .ensures .is) (c .if1 .taken))
 
 add-r : tie.Need-add-r Inv-loop μ-loop
 add-r c = omega arith
@@ -48,7 +48,7 @@ loop-again c =
     let l : r < P-of (sheet-in (a .s .now)) = omega (arith, P-decoded (a .s .now)) in (
       omega arith,
       λ t lent x d. finishing-more (sheet-in (a .s .now)) x r l (c .before .before .before .before .loop .inv .1 t lent x d)
-          (finished-yes (a .s .now) lent (a .c .now) t x d r (c .before .before .finished-of .result) (c .before .count .result) l (c .before .before .finished-of .ensures .0) (c .before .count .ensures .0) (c .if1 .left)),
+          (finished-yes (a .s .now) lent (a .c .now) t x d r (c .before .before .finished-of .result) (c .before .count .result) l (c .before .before .finished-of .ensures .is) (c .before .count .ensures .is) (c .if1 .left)),
     )
 
 returns-2 : tie.Need-returns-2 Inv-loop μ-loop

@@ -56,8 +56,8 @@ returns c =
     let state = c .before .before .before .before .before .before .before .before .board-state in
     let bytes = splice-then (a .out .now) (one .last .0) (two .last .0) (16 + 8 * a .r) 4 (low-two (done .result) ++ low-two (charged .result)) (low-two (peak .result) ++ low-two (state .result)) (one .ensures) refl (two .ensures) (omega (arith, z .pre .2)) in
     λ lent x d. bytes ∙ ap (λ (vs : List ℕ). splice (a .out .now) (16 + 8 * a .r) vs)
-    (row-is (a .s .now) lent (a .c .now) (a .t) x d (a .r) (done .result) (board (sheet-in (a .s .now)) (a .r) .count) (omega (arith, z .pre .1, P-decoded (a .s .now))) (done .ensures .0) refl
-    (charged .result) (peak .result) (state .result) (charged .ensures .0) (peak .ensures .0) (state .ensures .0 lent x d) (state .ensures .1))
+    (row-is (a .s .now) lent (a .c .now) (a .t) x d (a .r) (done .result) (board (sheet-in (a .s .now)) (a .r) .count) (omega (arith, z .pre .1, P-decoded (a .s .now))) (done .ensures .is) refl
+    (charged .result) (peak .result) (state .result) (charged .ensures .is) (peak .ensures .is) (state .ensures .0 lent x d) (state .ensures .1))
 
 pub board-row-spec : {M : Type 1} → statement M
 board-row-spec =

@@ -22,7 +22,7 @@ returns : tie.Need-returns
 returns c =
     let z = c .before .before .before .before .before in
     let a = z .args in
-    (λ lent x d. state-finished (a .s .now) lent (a .c .now) (a .t) x d (a .r) (c .before .finished-of .result) (c .before .before .count .result) (below z) (c .before .finished-of .ensures .0) (c .before .before .count .ensures .0) (c .if1 .taken), omega arith)
+    (λ lent x d. state-finished (a .s .now) lent (a .c .now) (a .t) x d (a .r) (c .before .finished-of .result) (c .before .before .count .result) (below z) (c .before .finished-of .ensures .is) (c .before .before .count .ensures .is) (c .if1 .taken), omega arith)
 
 is-able-requires : tie.Need-is-able-requires
 is-able-requires c κs = search needs
@@ -31,13 +31,13 @@ returns-2 : tie.Need-returns-2
 returns-2 c =
     let z = c .before .before .before .before .before .before .before in
     let a = z .args in
-    (λ lent x d. state-other (a .s .now) lent (a .c .now) (a .t) x d (a .r) (c .before .before .before .finished-of .result) (c .before .before .before .before .count .result) (below z) (c .before .before .before .finished-of .ensures .0) (c .before .before .before .before .count .ensures .0) (c .before .before .if1 .left) true (c .before .is-able .result) (c .before .is-able .ensures lent x d) (c .if2 .taken), omega arith)
+    (λ lent x d. state-other (a .s .now) lent (a .c .now) (a .t) x d (a .r) (c .before .before .before .finished-of .result) (c .before .before .before .before .count .result) (below z) (c .before .before .before .finished-of .ensures .is) (c .before .before .before .before .count .ensures .is) (c .before .before .if1 .left) true (c .before .is-able .result) (c .before .is-able .ensures lent x d) (c .if2 .taken), omega arith)
 
 returns-3 : tie.Need-returns-3
 returns-3 c =
     let z = c .before .before .before .before .before .before .before in
     let a = z .args in
-    (λ lent x d. state-other (a .s .now) lent (a .c .now) (a .t) x d (a .r) (c .before .before .before .finished-of .result) (c .before .before .before .before .count .result) (below z) (c .before .before .before .finished-of .ensures .0) (c .before .before .before .before .count .ensures .0) (c .before .before .if1 .left) false (c .before .is-able .result) (c .before .is-able .ensures lent x d) (c .if2 .left), omega arith)
+    (λ lent x d. state-other (a .s .now) lent (a .c .now) (a .t) x d (a .r) (c .before .before .before .finished-of .result) (c .before .before .before .before .count .result) (below z) (c .before .before .before .finished-of .ensures .is) (c .before .before .before .before .count .ensures .is) (c .before .before .if1 .left) false (c .before .is-able .result) (c .before .is-able .ensures lent x d) (c .if2 .left), omega arith)
 
 pub board-state-spec : {M : Type 1} → statement M
 board-state-spec =

@@ -44,7 +44,7 @@ message-at-requires : tie.Need-message-at-requires Inv-loop μ-loop
 message-at-requires c κs =
     let z = c .before .before .before .before .before .before in
     let i = c .before .loop .i in
-    (z .pre .0, z .pre .1, omega arith, ap (λ (p : ℕ). ops-at p + 16 * i) (c .before .before .before .boards .ensures .0))
+    (z .pre .0, z .pre .1, omega arith, ap (λ (p : ℕ). ops-at p + 16 * i) (c .before .before .before .boards .ensures .is))
 
 add-messages : tie.Need-add-messages Inv-loop μ-loop
 add-messages c = omega (arith, c .before .before .loop .inv .0 .few, c .before .before .before .before .before .before .before .pre .0 .few-ops, bit-small (message-row (sheet-in (c .before .before .before .before .before .before .before .args .s .now)) (c .before .before .before .before .before .before .before .args .c .now) (c .before .before .loop .i)))
@@ -53,7 +53,7 @@ receive-at-requires : tie.Need-receive-at-requires Inv-loop μ-loop
 receive-at-requires c κs =
     let z = c .before .before .before .before .before .before .before in
     let i = c .before .before .loop .i in
-    (z .pre .0, z .pre .1, omega arith, ap (λ (p : ℕ). ops-at p + 16 * i) (c .before .before .before .before .boards .ensures .0))
+    (z .pre .0, z .pre .1, omega arith, ap (λ (p : ℕ). ops-at p + 16 * i) (c .before .before .before .before .boards .ensures .is))
 
 add-receives : tie.Need-add-receives Inv-loop μ-loop
 add-receives c = omega (arith, c .before .before .before .loop .inv .1 .few, c .before .before .before .before .before .before .before .before .pre .0 .few-ops, bit-small (receive-row (sheet-in (c .before .before .before .before .before .before .before .before .args .s .now)) (c .before .before .before .before .before .before .before .before .args .c .now) (c .before .before .before .loop .i)))

@@ -16,13 +16,13 @@ returns : tie.Need-returns
 unfolding cut-row
 returns c =
     let a = c .before .before .before .args in
-    sym (ap (λ (b : Bool). cond b 1 0) (eq-eqb (entry-in (a .c .now) (row-at (a .i)) .cut) 1 (sym (c .before .cut-of .ensures .0) ∙ c .if1 .taken)))
+    sym (ap (λ (b : Bool). cond b 1 0) (eq-eqb (entry-in (a .c .now) (row-at (a .i)) .cut) 1 (sym (c .before .cut-of .ensures .is) ∙ c .if1 .taken)))
 
 returns-2 : tie.Need-returns-2
 unfolding cut-row
 returns-2 c =
     let a = c .before .before .before .args in
-    sym (ap (λ (b : Bool). cond b 1 0) (ne-eqb (entry-in (a .c .now) (row-at (a .i)) .cut) 1 (λ h. c .if1 .left (c .before .cut-of .ensures .0 ∙ h))))
+    sym (ap (λ (b : Bool). cond b 1 0) (ne-eqb (entry-in (a .c .now) (row-at (a .i)) .cut) 1 (λ h. c .if1 .left (c .before .cut-of .ensures .is ∙ h))))
 
 pub cut-at-spec : {M : Type 1} → statement M
 cut-at-spec = tie.close (tie.spec cut-of-requires returns returns-2)

@@ -48,7 +48,7 @@ returns c =
     splice-then (a .out .now) (one .last .0) (two .last .0) 0 4 (low-two (a .v + 256 * rank .result) ++ low-two (at .result)) (low-two (a .t .steps) ++ low-two (p .result)) (one .ensures) refl (two .ensures) (omega (arith, z .pre .3))
     ∙ ap (λ (n : ℕ). splice (a .out .now) 0 ((low-two (a .v + 256 * n) ++ low-two (at .result)) ++ (low-two (a .t .steps) ++ low-two (p .result)))) (rank .ensures)
     ∙ ap (λ (n : ℕ). splice (a .out .now) 0 ((low-two (a .v + 256 * rank-told (a .t)) ++ low-two n) ++ (low-two (a .t .steps) ++ low-two (p .result)))) (at .ensures)
-    ∙ ap (λ (n : ℕ). splice (a .out .now) 0 ((low-two (a .v + 256 * rank-told (a .t)) ++ low-two (op-told (a .t))) ++ (low-two (a .t .steps) ++ low-two n))) (p .ensures .0)
+    ∙ ap (λ (n : ℕ). splice (a .out .now) 0 ((low-two (a .v + 256 * rank-told (a .t)) ++ low-two (op-told (a .t))) ++ (low-two (a .t .steps) ++ low-two n))) (p .ensures .is)
 
 pub header-front-spec : {M : Type 1} → statement M
 header-front-spec =

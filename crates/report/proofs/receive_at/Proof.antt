@@ -26,13 +26,13 @@ returns : tie.Need-returns
 returns c =
     let z = c .before .before .before .before .before in
     let a = z .args in
-    bit-is _ _ (receive-read (sheet-in (a .s .now)) (a .c .now) (a .i) (c .before .before .kind .result) (c .before .state-of .result) (kind-is z (c .before .before .kind .result) (c .before .before .kind .ensures .0)) (c .before .state-of .ensures .0)) true (c .if1 .taken)
+    bit-is _ _ (receive-read (sheet-in (a .s .now)) (a .c .now) (a .i) (c .before .before .kind .result) (c .before .state-of .result) (kind-is z (c .before .before .kind .result) (c .before .before .kind .ensures .is)) (c .before .state-of .ensures .is)) true (c .if1 .taken)
 
 returns-2 : tie.Need-returns-2
 returns-2 c =
     let z = c .before .before .before .before .before in
     let a = z .args in
-    bit-is _ _ (receive-read (sheet-in (a .s .now)) (a .c .now) (a .i) (c .before .before .kind .result) (c .before .state-of .result) (kind-is z (c .before .before .kind .result) (c .before .before .kind .ensures .0)) (c .before .state-of .ensures .0)) false (c .if1 .left)
+    bit-is _ _ (receive-read (sheet-in (a .s .now)) (a .c .now) (a .i) (c .before .before .kind .result) (c .before .state-of .result) (kind-is z (c .before .before .kind .result) (c .before .before .kind .ensures .is)) (c .before .state-of .ensures .is)) false (c .if1 .left)
 
 pub receive-at-spec : {M : Type 1} → statement M
 receive-at-spec = tie.close (tie.spec kind-requires state-of-requires returns returns-2)

@@ -46,8 +46,8 @@ returns c =
     let one = c .before .before .before .before .before .before .before .before .before .before .before .before .put-header in
     let two = c .before .before .before .before .before .before .before .before .board-rows in
     let all = c .before .before .op-rows in
-    let p : c .before .before .before .before .boards .result ≡ P-of (sheet-in (a .s .now)) = c .before .before .before .before .boards .ensures .0 ∙ sym (P-decoded (a .s .now)) in
-    let n : c .before .before .before .before .before .ops .result ≡ N-of (sheet-in (a .s .now)) = c .before .before .before .before .before .ops .ensures .0 ∙ sym (N-decoded (a .s .now)) in
+    let p : c .before .before .before .before .boards .result ≡ P-of (sheet-in (a .s .now)) = c .before .before .before .before .boards .ensures .is ∙ sym (P-decoded (a .s .now)) in
+    let n : c .before .before .before .before .before .ops .result ≡ N-of (sheet-in (a .s .now)) = c .before .before .before .before .before .ops .ensures .is ∙ sym (N-decoded (a .s .now)) in
     let last = all .ensures ∙ ap₂ (λ (j k : ℕ). splice (two .last .1 .1 .1 .0) (16 + 8 * j) (joined (row-in (a .c .now)) 0 k)) p n in
     λ lent x d. report-whole (a .s .now) lent (a .c .now) (a .t) x d (a .out .now) (one .last .1 .1 .1 .0) (two .last .1 .1 .1 .0) (all .last .1 .1 .1 .0) (z .pre .1) (one .ensures lent x d) (two .ensures lent x d) last
 

@@ -40,8 +40,8 @@ element-write-ends c = search needs
 returns : tie.Need-returns
 returns c =
     let a = c .before .before .before .before .args in
-    let e = after-wait (op-in (a .s .now) (a .at)) (a .starts .now) (a .ends .now) (sym (c .before .before .kind .ensures .0) ∙ c .if1 .taken) in
-    let k = c .before .slot .ensures .0 in
+    let e = after-wait (op-in (a .s .now) (a .at)) (a .starts .now) (a .ends .now) (sym (c .before .before .kind .ensures .is) ∙ c .if1 .taken) in
+    let k = c .before .slot .ensures .is in
     (ap (λ (n : ℕ). set (a .starts .now) n 65535) k ∙ e .0, ap (λ (n : ℕ). set (a .ends .now) n 0) k ∙ e .1)
 
 flag-requires : tie.Need-flag-requires
@@ -50,7 +50,7 @@ flag-requires c κs = search needs
 returns-2 : tie.Need-returns-2
 returns-2 c =
     let a = c .before .before .before .before .before .before .args in
-    after-blocking (op-in (a .s .now) (a .at)) (a .starts .now) (a .ends .now) (λ e. c .before .before .if1 .left (c .before .before .before .before .kind .ensures .0 ∙ e)) (λ e. c .if2 .taken (c .before .flag .ensures .0 ∙ e))
+    after-blocking (op-in (a .s .now) (a .at)) (a .starts .now) (a .ends .now) (λ e. c .before .before .if1 .left (c .before .before .before .before .kind .ensures .is ∙ e)) (λ e. c .if2 .taken (c .before .flag .ensures .is ∙ e))
 
 offset-requires : tie.Need-offset-requires
 offset-requires c κs = search needs
@@ -82,12 +82,12 @@ element-write-ends-2 c = search needs
 returns-3 : tie.Need-returns-3
 returns-3 c =
     let a = c .before .before .before .before .before .before .before .before .before .args in
-    let k = c .before .before .before .before .before .before .slot .ensures .0 in
-    let kind = c .before .before .before .before .before .before .before .kind .ensures .0 in
-    let from = c .before .before .offset .ensures .0 in
-    let size = c .before .long .ensures .0 in
+    let k = c .before .before .before .before .before .before .slot .ensures .is in
+    let kind = c .before .before .before .before .before .before .before .kind .ensures .is in
+    let from = c .before .before .offset .ensures .is in
+    let size = c .before .long .ensures .is in
     let e =
-    after-area (op-in (a .s .now) (a .at)) (a .starts .now) (a .ends .now) (λ e. c .before .before .before .before .before .if1 .left (kind ∙ e)) (sym (c .before .before .before .before .flag .ensures .0) ∙ c .before .before .before .if2 .left)
+    after-area (op-in (a .s .now) (a .at)) (a .starts .now) (a .ends .now) (λ e. c .before .before .before .before .before .if1 .left (kind ∙ e)) (sym (c .before .before .before .before .flag .ensures .is) ∙ c .before .before .before .if2 .left)
     (ap₂ (λ (m n : ℕ). eqb m 5 && ltb 0 n) (sym kind) (sym size) ∙ c .if3 .taken) in
     (ap₂ (λ (m n : ℕ). set (a .starts .now) m n) k from ∙ e .0, ap₂ (λ (m n : ℕ). set (a .ends .now) m n) k (ap₂ (λ (m n : ℕ). m + n) from size) ∙ e .1)
 
@@ -106,11 +106,11 @@ element-write-ends-3 c = search needs
 returns-4 : tie.Need-returns-4
 returns-4 c =
     let a = c .before .before .before .before .before .before .before .before .before .args in
-    let k = c .before .before .before .before .before .before .slot .ensures .0 in
-    let kind = c .before .before .before .before .before .before .before .kind .ensures .0 in
+    let k = c .before .before .before .before .before .before .slot .ensures .is in
+    let kind = c .before .before .before .before .before .before .before .kind .ensures .is in
     let e =
-    after-no-area (op-in (a .s .now) (a .at)) (a .starts .now) (a .ends .now) (λ e. c .before .before .before .before .before .if1 .left (kind ∙ e)) (sym (c .before .before .before .before .flag .ensures .0) ∙ c .before .before .before .if2 .left)
-    (ap₂ (λ (m n : ℕ). eqb m 5 && ltb 0 n) (sym kind) (sym (c .before .long .ensures .0)) ∙ c .if3 .left) in
+    after-no-area (op-in (a .s .now) (a .at)) (a .starts .now) (a .ends .now) (λ e. c .before .before .before .before .before .if1 .left (kind ∙ e)) (sym (c .before .before .before .before .flag .ensures .is) ∙ c .before .before .before .if2 .left)
+    (ap₂ (λ (m n : ℕ). eqb m 5 && ltb 0 n) (sym kind) (sym (c .before .long .ensures .is)) ∙ c .if3 .left) in
     (ap (λ (n : ℕ). set (a .starts .now) n 0) k ∙ e .0, ap (λ (n : ℕ). set (a .ends .now) n 0) k ∙ e .1)
 
 pub note-spec : {M : Type 1} → statement M

@@ -50,8 +50,8 @@ loop-holds c =
     let z = c .before .before .before .before in
     let s = sheet-in (z .args .s .now) in (
       searched-none s 7 (request-good s) (z .args .r) (c .before .first .result) (c .before .first .result + c .count .result)
-          (c .before .first .ensures .0) (ap (λ (n : ℕ). c .before .first .result + n) (c .count .ensures .0)),
-      kept-none s (z .pre .1 .consecutive) (z .args .r) (c .before .first .result) (omega (arith, z .pre .3, P-decoded (z .args .s .now))) (c .before .first .ensures .0),
+          (c .before .first .ensures .is) (ap (λ (n : ℕ). c .before .first .result + n) (c .count .ensures .is)),
+      kept-none s (z .pre .1 .consecutive) (z .args .r) (c .before .first .result) (omega (arith, z .pre .3, P-decoded (z .args .s .now))) (c .before .first .ensures .is),
     )
 
 mul-at : tie.Need-mul-at Inv-loop μ-loop
@@ -81,7 +81,7 @@ module _ (c : tie.In-loop Inv-loop μ-loop) where
   inside = op-inside bytes (z .pre .0) (z .pre .1) (z .args .r) i (z .pre .3) (c .before .loop .inv .0 .lower) (omega arith)
 
   here : op-in bytes (16 + 8 * c .before .before .before .before .boards .result + 16 * i) ≡ op (sheet-in bytes) i
-  here = op-read-by bytes (z .pre .0) (z .pre .1) (z .args .r) i (z .pre .3) (c .before .loop .inv .0 .lower) (omega arith) (c .before .before .before .before .boards .result) (c .before .before .before .before .boards .ensures .0)
+  here = op-read-by bytes (z .pre .0) (z .pre .1) (z .args .r) i (z .pre .3) (c .before .loop .inv .0 .lower) (omega arith) (c .before .before .before .before .boards .result) (c .before .before .before .before .boards .ensures .is)
 
   fits-sheet : 16 + 8 * c .before .before .before .before .boards .result + 16 * i + 15 < length bytes
   fits-sheet = omega (arith, op-bytes bytes (z .pre .0) (z .pre .1) (z .args .r) i (z .pre .3) (c .before .loop .inv .0 .lower) (omega arith))

@@ -36,8 +36,8 @@ returns : tie.Need-returns
 unfolding slot-taken
 returns c =
     let a = c .before .before .before .before .before .args in
-    ap (λ (n : ℕ). slot-taken (a .starts .now) n) (c .before .before .slot .ensures .0)
-    ∙ good-wait (a .starts .now) (a .ends .now) (op-in (a .s .now) (a .at)) (sym (c .before .before .before .kind .ensures .0) ∙ c .if1 .taken)
+    ap (λ (n : ℕ). slot-taken (a .starts .now) n) (c .before .before .slot .ensures .is)
+    ∙ good-wait (a .starts .now) (a .ends .now) (op-in (a .s .now) (a .at)) (sym (c .before .before .before .kind .ensures .is) ∙ c .if1 .taken)
 
 flag-requires : tie.Need-flag-requires
 flag-requires c κs = search needs
@@ -46,8 +46,8 @@ returns-2 : tie.Need-returns-2
 unfolding slot-taken
 returns-2 c =
     let a = c .before .before .before .before .before .before .before .args in
-    good-not-free (a .starts .now) (a .ends .now) (op-in (a .s .now) (a .at)) (λ e. c .before .before .if1 .left (c .before .before .before .before .before .kind .ensures .0 ∙ e))
-    (ap₂ (λ (m n : ℕ). eqb m 1 && slot-taken (a .starts .now) n) (sym (c .before .flag .ensures .0)) (sym (c .before .before .before .before .slot .ensures .0)) ∙ c .if2 .taken)
+    good-not-free (a .starts .now) (a .ends .now) (op-in (a .s .now) (a .at)) (λ e. c .before .before .if1 .left (c .before .before .before .before .before .kind .ensures .is ∙ e))
+    (ap₂ (λ (m n : ℕ). eqb m 1 && slot-taken (a .starts .now) n) (sym (c .before .flag .ensures .is)) (sym (c .before .before .before .before .slot .ensures .is)) ∙ c .if2 .taken)
 
 offset-requires : tie.Need-offset-requires
 offset-requires c κs = search needs
@@ -71,22 +71,22 @@ returns-3 : tie.Need-returns-3
 unfolding slot-taken
 returns-3 c =
     let a = c .before .before .before .before .before .before .before .before .before .before .before .args in
-    let kind = c .before .before .before .before .before .before .before .before .before .kind .ensures .0 in
-    let from = c .before .before .before .offset .ensures .0 in
-    let size = c .before .before .long .ensures .0 in
+    let kind = c .before .before .before .before .before .before .before .before .before .kind .ensures .is in
+    let from = c .before .before .before .offset .ensures .is in
+    let size = c .before .before .long .ensures .is in
     ap not (c .any-hit .ensures ∙ ap₂ (λ (m n : ℕ). some-below 32 (hit (a .starts .now) (a .ends .now) m n)) from (ap₂ (λ (m n : ℕ). m + n) from size))
     ∙ good-area (a .starts .now) (a .ends .now) (op-in (a .s .now) (a .at)) (λ e. c .before .before .before .before .before .before .if1 .left (kind ∙ e))
-    (ap₂ (λ (m n : ℕ). eqb m 1 && slot-taken (a .starts .now) n) (sym (c .before .before .before .before .before .flag .ensures .0)) (sym (c .before .before .before .before .before .before .before .before .slot .ensures .0)) ∙ c .before .before .before .before .if2 .left)
+    (ap₂ (λ (m n : ℕ). eqb m 1 && slot-taken (a .starts .now) n) (sym (c .before .before .before .before .before .flag .ensures .is)) (sym (c .before .before .before .before .before .before .before .before .slot .ensures .is)) ∙ c .before .before .before .before .if2 .left)
     (ap₂ (λ (m n : ℕ). eqb m 5 && ltb 0 n) (sym kind) (sym size) ∙ c .before .if3 .taken)
 
 returns-4 : tie.Need-returns-4
 unfolding slot-taken
 returns-4 c =
     let a = c .before .before .before .before .before .before .before .before .before .before .args in
-    let kind = c .before .before .before .before .before .before .before .before .kind .ensures .0 in
+    let kind = c .before .before .before .before .before .before .before .before .kind .ensures .is in
     good-no-area (a .starts .now) (a .ends .now) (op-in (a .s .now) (a .at)) (λ e. c .before .before .before .before .before .if1 .left (kind ∙ e))
-    (ap₂ (λ (m n : ℕ). eqb m 1 && slot-taken (a .starts .now) n) (sym (c .before .before .before .before .flag .ensures .0)) (sym (c .before .before .before .before .before .before .before .slot .ensures .0)) ∙ c .before .before .before .if2 .left)
-    (ap₂ (λ (m n : ℕ). eqb m 5 && ltb 0 n) (sym kind) (sym (c .before .long .ensures .0)) ∙ c .if3 .left)
+    (ap₂ (λ (m n : ℕ). eqb m 1 && slot-taken (a .starts .now) n) (sym (c .before .before .before .before .flag .ensures .is)) (sym (c .before .before .before .before .before .before .before .slot .ensures .is)) ∙ c .before .before .before .if2 .left)
+    (ap₂ (λ (m n : ℕ). eqb m 5 && ltb 0 n) (sym kind) (sym (c .before .long .ensures .is)) ∙ c .if3 .left)
 
 pub table-is-good-spec : {M : Type 1} → statement M
 table-is-good-spec =

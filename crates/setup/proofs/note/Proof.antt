@@ -19,7 +19,7 @@ flag-requires c κs = search needs
 returns : tie.Need-returns
 returns c =
     let a = c .before .before .before .args in
-    last-blocking (op-in (a .s .now) (a .at)) (a .i) (a .last .now) (λ e. c .if1 .taken (c .before .flag .ensures .0 ∙ e))
+    last-blocking (op-in (a .s .now) (a .at)) (a .i) (a .last .now) (λ e. c .if1 .taken (c .before .flag .ensures .is ∙ e))
 
 slot-requires : tie.Need-slot-requires
 slot-requires c κs = search needs
@@ -33,8 +33,8 @@ element-write-last c = search needs
 returns-2 : tie.Need-returns-2
 returns-2 c =
     let a = c .before .before .before .before .args in
-    ap (λ (k : ℕ). set (a .last .now) k (a .i)) (c .slot .ensures .0)
-    ∙ last-nonblocking (op-in (a .s .now) (a .at)) (a .i) (a .last .now) (sym (c .before .before .flag .ensures .0) ∙ c .before .if1 .left)
+    ap (λ (k : ℕ). set (a .last .now) k (a .i)) (c .slot .ensures .is)
+    ∙ last-nonblocking (op-in (a .s .now) (a .at)) (a .i) (a .last .now) (sym (c .before .before .flag .ensures .is) ∙ c .before .if1 .left)
 
 pub note-spec : {M : Type 1} → statement M
 note-spec =

@@ -31,7 +31,7 @@ returns : tie.Need-returns
 returns c =
     let a = c .before .before .before .before .before .before .before .before .args in
     c .before .before .before .before .put-rank .ensures
-    ∙ put-other (op-in (a .s .now) (a .at)) (a .i) (a .r) (a .last .now) (a .c .now) (λ e. c .if1 .taken (c .before .kind .ensures .0 ∙ e))
+    ∙ put-other (op-in (a .s .now) (a .at)) (a .i) (a .r) (a .last .now) (a .c .now) (λ e. c .if1 .taken (c .before .kind .ensures .is ∙ e))
 
 slot-requires : tie.Need-slot-requires
 slot-requires c κs = search needs
@@ -52,8 +52,8 @@ returns-2 : tie.Need-returns-2
 returns-2 c =
     let a = c .before .before .before .before .before .before .before .before .before .before .before .before .before .before .args in
     c .before .before .put-waited .ensures
-    ∙ (ap₂ (λ (k : ℕ) (b : List ℕ). wait-put (a .i) (getD (a .last .now) k 0) b) (c .before .before .before .before .before .slot .ensures .0) (c .before .before .before .before .before .before .before .before .before .before .put-rank .ensures)
-    ∙ put-wait (op-in (a .s .now) (a .at)) (a .i) (a .r) (a .last .now) (a .c .now) (sym (c .before .before .before .before .before .before .before .kind .ensures .0) ∙ c .before .before .before .before .before .before .if1 .left))
+    ∙ (ap₂ (λ (k : ℕ) (b : List ℕ). wait-put (a .i) (getD (a .last .now) k 0) b) (c .before .before .before .before .before .slot .ensures .is) (c .before .before .before .before .before .before .before .before .before .before .put-rank .ensures)
+    ∙ put-wait (op-in (a .s .now) (a .at)) (a .i) (a .r) (a .last .now) (a .c .now) (sym (c .before .before .before .before .before .before .before .kind .ensures .is) ∙ c .before .before .before .before .before .before .if1 .left))
 
 pub put-op-spec : {M : Type 1} → statement M
 put-op-spec =

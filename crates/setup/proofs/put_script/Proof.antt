@@ -40,7 +40,7 @@ loop-holds : tie.Need-loop-holds Inv-loop μ-loop
 loop-holds c =
     let z = c .before .before .before .before .before in
     let bs = z .args .s .now in
-    (refl, going-none (sheet-in bs) (z .pre .1) (z .args .r) (c .before .first .result) (c .count .result) (z .args .c .now) (omega (arith, z .pre .2, P-decoded bs)) (c .before .first .ensures .0) (c .count .ensures .0) (z .pre .3))
+    (refl, going-none (sheet-in bs) (z .pre .1) (z .args .r) (c .before .first .result) (c .count .result) (z .args .c .now) (omega (arith, z .pre .2, P-decoded bs)) (c .before .first .ensures .is) (c .count .ensures .is) (z .pre .3))
 
 mul-at : tie.Need-mul-at Inv-loop μ-loop
 mul-at c = omega arith
@@ -59,7 +59,7 @@ put-op-requires c κs =
     let z = c .before .before .before .before .before .before .before .before .before in
     let l = c .before .before .before .loop in
     let u = c .before .before .loop-test .taken in
-    let e = c .before .before .before .before .before .before .boards .ensures .0 in
+    let e = c .before .before .before .before .before .before .boards .ensures .is in
     let G = l .inv .1 in (
       going-bytes (z .pre .0) (z .pre .1) (z .pre .2) e G u,
       going-slot (z .pre .0) (z .pre .1) (z .pre .2) e G u,
@@ -73,7 +73,7 @@ note-requires c κs =
     let z = c .before .before .before .before .before .before .before .before .before .before .before .before .before in
     let l = c .before .before .before .before .before .before .before .loop in
     let u = c .before .before .before .before .before .before .loop-test .taken in
-    let e = c .before .before .before .before .before .before .before .before .before .before .boards .ensures .0 in
+    let e = c .before .before .before .before .before .before .before .before .before .before .boards .ensures .is in
     let G = l .inv .1 in (
       going-bytes (z .pre .0) (z .pre .1) (z .pre .2) e G u,
       going-slot (z .pre .0) (z .pre .1) (z .pre .2) e G u,
@@ -91,7 +91,7 @@ loop-again c =
     let z = c .before .before .before .before .before .before .before .before .before .before .before .before .before .before in
     let l = c .before .before .before .before .before .before .before .before .loop in (
       omega (arith, l .inv .0),
-      going-more (z .pre .0) (z .pre .1) (z .pre .2) (c .before .before .before .before .before .before .before .before .before .before .before .boards .ensures .0) (l .inv .1) (c .before .before .before .before .before .before .before .loop-test .taken)
+      going-more (z .pre .0) (z .pre .1) (z .pre .2) (c .before .before .before .before .before .before .before .before .before .before .before .boards .ensures .is) (l .inv .1) (c .before .before .before .before .before .before .before .loop-test .taken)
           (c .before .before .before .before .put-op .ensures) (c .note .ensures),
     )
 

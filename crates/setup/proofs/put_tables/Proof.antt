@@ -34,7 +34,7 @@ put-script-requires : tie.Need-put-script-requires Inv-loop μ-loop
 put-script-requires c κs =
     let z = c .before .before .before .before .before .before in
     let l = c .before .before .loop in
-    (z .pre .0, z .pre .1, omega (arith, c .before .loop-test .taken, c .before .before .before .boards .ensures .0), l .inv .2)
+    (z .pre .0, z .pre .1, omega (arith, c .before .loop-test .taken, c .before .before .before .boards .ensures .is), l .inv .2)
 
 add-r : tie.Need-add-r Inv-loop μ-loop
 add-r c = omega arith
@@ -53,7 +53,7 @@ returns c =
     let z = c .before .before .before .before .before in
     let l = c .before .loop in
     let bs = z .args .s .now in
-    let all : l .r ≡ P-of (sheet-in bs) = omega (arith, l .inv .1, c .before .before .boards .ensures .0, P-decoded bs) in
+    let all : l .r ≡ P-of (sheet-in bs) = omega (arith, l .inv .1, c .before .before .boards .ensures .is, P-decoded bs) in
     subst (λ (k : ℕ). Filled (sheet-in bs) (l .c) k) (ap (λ (k : ℕ). counts-before (sheet-in bs) k) all ∙ z .pre .1 .counts-total) (l .inv .2)
 
 pub put-tables-spec : {M : Type 1} → statement M

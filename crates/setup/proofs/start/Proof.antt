@@ -32,7 +32,7 @@ same-length c = search needs
 returns : tie.Need-returns
 returns c =
     let z = c .before .before .before .before .before .before .before .before .before .before .before .before .before in
-    start-stands (z .pre .0) (z .pre .1) (c .before .before .before .before .before .before .before .before .before .put-tables .ensures) (c .before .before .before .before .before .before .boards .ensures .0) (c .before .before .before .before .before .ops .ensures .0) (c .before .before .before .init .ensures) (c .none .ensures)
+    start-stands (z .pre .0) (z .pre .1) (c .before .before .before .before .before .before .before .before .before .put-tables .ensures) (c .before .before .before .before .before .before .boards .ensures .is) (c .before .before .before .before .before .ops .ensures .is) (c .before .before .before .init .ensures) (c .none .ensures)
 
 pub start-spec : {M : Type 1} → statement M
 start-spec =

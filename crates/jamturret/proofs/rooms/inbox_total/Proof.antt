@@ -44,7 +44,7 @@ loop-again c =
     let s = sheet-in (c .before .before .before .before .before .args .s .now) in
     let l = c .before .before .loop in
     let next = inbox-start-more s (l .r) (omega (arith, P-decoded (c .before .before .before .before .before .args .s .now))) in
-    (omega arith, omega (arith, c .inbox .ensures .1), subst (λ (n : ℕ). l .total + c .inbox .result ≡ inbox-start s n) (sym (add-one (l .r))) (omega (arith, next, l .inv .2, c .inbox .ensures .0)))
+    (omega arith, omega (arith, c .inbox .ensures .small), subst (λ (n : ℕ). l .total + c .inbox .result ≡ inbox-start s n) (sym (add-one (l .r))) (omega (arith, next, l .inv .2, c .inbox .ensures .is)))
 
 returns : tie.Need-returns Inv-loop μ-loop
 unfolding inbox-total

@@ -43,7 +43,7 @@ returns-2 : tie.Need-returns-2
 returns-2 c =
     let a = c .before .before .before .before .before .before .args in
     short-report (sheet-in (a .s .now)) (a .inbox) (a .report) (a .order) (a .scratch) (omega (arith, c .before .before .before .inbox-total .ensures, c .before .before .if1 .left))
-    (omega (arith, P-decoded (a .s .now), N-decoded (a .s .now), c .before .boards .ensures .0, c .before .before .before .before .ops .ensures .0, c .if2 .taken))
+    (omega (arith, P-decoded (a .s .now), N-decoded (a .s .now), c .before .boards .ensures .is, c .before .before .before .before .ops .ensures .is, c .if2 .taken))
 
 mul-if3 : tie.Need-mul-if3
 mul-if3 c = search needs
@@ -52,22 +52,22 @@ returns-3 : tie.Need-returns-3
 returns-3 c =
     let a = c .before .before .before .before .before .before .before .args in
     short-order (sheet-in (a .s .now)) (a .inbox) (a .report) (a .order) (a .scratch) (omega (arith, c .before .before .before .before .inbox-total .ensures, c .before .before .before .if1 .left))
-    (omega (arith, P-decoded (a .s .now), N-decoded (a .s .now), c .before .before .boards .ensures .0, c .before .before .before .before .before .ops .ensures .0, c .before .if2 .left))
-    (omega (arith, N-decoded (a .s .now), c .before .before .before .before .before .ops .ensures .0, c .if3 .taken))
+    (omega (arith, P-decoded (a .s .now), N-decoded (a .s .now), c .before .before .boards .ensures .is, c .before .before .before .before .before .ops .ensures .is, c .before .if2 .left))
+    (omega (arith, N-decoded (a .s .now), c .before .before .before .before .before .ops .ensures .is, c .if3 .taken))
 
 returns-4 : tie.Need-returns-4
 returns-4 c =
     let a = c .before .before .before .before .before .before .before .before .args in
     short-scratch (sheet-in (a .s .now)) (a .inbox) (a .report) (a .order) (a .scratch) (omega (arith, c .before .before .before .before .before .inbox-total .ensures, c .before .before .before .before .if1 .left))
-    (omega (arith, P-decoded (a .s .now), N-decoded (a .s .now), c .before .before .before .boards .ensures .0, c .before .before .before .before .before .before .ops .ensures .0, c .before .before .if2 .left))
-    (omega (arith, N-decoded (a .s .now), c .before .before .before .before .before .before .ops .ensures .0, c .before .if3 .left)) (c .if4 .taken)
+    (omega (arith, P-decoded (a .s .now), N-decoded (a .s .now), c .before .before .before .boards .ensures .is, c .before .before .before .before .before .before .ops .ensures .is, c .before .before .if2 .left))
+    (omega (arith, N-decoded (a .s .now), c .before .before .before .before .before .before .ops .ensures .is, c .before .if3 .left)) (c .if4 .taken)
 
 returns-5 : tie.Need-returns-5
 returns-5 c =
     let a = c .before .before .before .before .before .before .before .before .args in
     rooms-enough (sheet-in (a .s .now)) (a .inbox) (a .report) (a .order) (a .scratch) (omega (arith, c .before .before .before .before .before .inbox-total .ensures, c .before .before .before .before .if1 .left))
-    (omega (arith, P-decoded (a .s .now), N-decoded (a .s .now), c .before .before .before .boards .ensures .0, c .before .before .before .before .before .before .ops .ensures .0, c .before .before .if2 .left))
-    (omega (arith, N-decoded (a .s .now), c .before .before .before .before .before .before .ops .ensures .0, c .before .if3 .left)) (c .if4 .left)
+    (omega (arith, P-decoded (a .s .now), N-decoded (a .s .now), c .before .before .before .boards .ensures .is, c .before .before .before .before .before .before .ops .ensures .is, c .before .before .if2 .left))
+    (omega (arith, N-decoded (a .s .now), c .before .before .before .before .before .before .ops .ensures .is, c .before .if3 .left)) (c .if4 .left)
 
 pub refusal-spec : {M : Type 1} → statement M
 refusal-spec =

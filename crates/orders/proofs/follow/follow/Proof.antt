@@ -49,14 +49,14 @@ returns : tie.Need-returns Inv-loop μ-loop
 returns c =
     let a = c .before .before .before .before .before .before .before .before .before .before .before .before .before .before .args in
     let l = c .before .before .before .before .before .before .loop in
-    reaches-refused (a .s .now) (a .order .now) (l .c) (l .t) (l .k) (c .before .before .before .wide .result) (l .inv .2) (c .before .before .before .before .before .loop-test .taken) (c .before .before .before .wide .ensures .0) (c .before .is-able .result)
+    reaches-refused (a .s .now) (a .order .now) (l .c) (l .t) (l .k) (c .before .before .before .wide .result) (l .inv .2) (c .before .before .before .before .before .loop-test .taken) (c .before .before .before .wide .ensures .is) (c .before .is-able .result)
     (c .before .is-able .ensures) (not-true _ (c .if1 .taken))
 
 take-requires : tie.Need-take-requires Inv-loop μ-loop
 take-requires c κs =
     let a = c .before .before .before .before .before .before .before .before .before .before .before .before .before .before .before .args in
     let l = c .before .before .before .before .before .before .before .loop in
-    able-there (a .s .now) (a .order .now) (l .c) (l .t) (l .k) (c .before .before .before .before .wide .result) (l .inv .2) (c .before .before .before .before .before .before .loop-test .taken) (c .before .before .before .before .wide .ensures .0) (c .before .before .is-able .result)
+    able-there (a .s .now) (a .order .now) (l .c) (l .t) (l .k) (c .before .before .before .before .wide .result) (l .inv .2) (c .before .before .before .before .before .before .loop-test .taken) (c .before .before .before .before .wide .ensures .is) (c .before .before .is-able .result)
     (c .before .before .is-able .ensures) (not-false _ (c .before .if1 .left))
 
 add-k : tie.Need-add-k Inv-loop μ-loop
@@ -71,7 +71,7 @@ loop-again c =
     let l = c .before .before .before .before .before .before .before .before .before .before .loop in (
       search needs,
       omega arith,
-      reaches-more (a .s .now) (a .order .now) (l .c) (l .t) (l .k) (c .before .before .before .before .before .before .before .wide .result) (l .inv .2) (c .before .before .before .before .before .before .before .before .before .loop-test .taken) (c .before .before .before .before .before .before .before .wide .ensures .0)
+      reaches-more (a .s .now) (a .order .now) (l .c) (l .t) (l .k) (c .before .before .before .before .before .before .before .wide .result) (l .inv .2) (c .before .before .before .before .before .before .before .before .before .loop-test .taken) (c .before .before .before .before .before .before .before .wide .ensures .is)
           (c .before .before .before .before .before .is-able .result) (c .before .before .before .before .before .is-able .ensures) (not-false _ (c .before .before .before .before .if1 .left)) (c .before .before .take .last .1 .0) (c .before .before .take .result) (c .before .before .take .ensures),
     )
 

@@ -46,7 +46,7 @@ loop-holds c =
 
 -- inside the loop the rank is one of the sheet's
 below : (c : tie.In-loop Inv-loop μ-loop) → c .before .loop .r < P-of (sheet-in (c .before .before .before .before .before .before .before .before .before .before .before .before .args .s .now))
-below c = omega (arith, P-decoded (c .before .before .before .before .before .before .before .before .before .before .before .before .args .s .now), c .before .before .before .before .boards .ensures .0, c .loop-test .taken)
+below c = omega (arith, P-decoded (c .before .before .before .before .before .before .before .before .before .before .before .before .args .s .now), c .before .before .before .before .boards .ensures .is, c .loop-test .taken)
 
 cast-out : tie.Need-cast-out Inv-loop μ-loop
 cast-out c = omega arith
@@ -103,7 +103,7 @@ returns c =
     let z = c .before .before .before .before .before .before .before .before .before .before .before .before in
     let l = c .before .loop in
     running-done (z .args .s .now) (z .args .out .now) (l .c) (l .out) (l .t) (l .k) (l .r) (l .inv .2) (l .inv .3)
-    (omega (arith, P-decoded (z .args .s .now), c .before .before .before .before .boards .ensures .0, c .loop-test .left))
+    (omega (arith, P-decoded (z .args .s .now), c .before .before .before .before .boards .ensures .is, c .loop-test .left))
 
 pub run-spec : {M : Type 1} → statement M
 run-spec =

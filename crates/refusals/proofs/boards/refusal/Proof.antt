@@ -50,7 +50,7 @@ returns c =
     let s = c .before .before .before .before .before .before .before .before .args .s .now in
     let l = c .before .before .before .before .before .loop in
     walked-bad (sheet-in s) (l .r) (l .sum) (l .total) (l .inv) (omega (arith, P-decoded s)) (c .before .before .first .result) (c .before .attached .result)
-    (l .total + c .before .before .before .inbox .result) (c .before .before .first .ensures .0) (c .before .attached .ensures .0) (ap (λ (n : ℕ). l .total + n) (c .before .before .before .inbox .ensures .0))
+    (l .total + c .before .before .before .inbox .result) (c .before .before .first .ensures .is) (c .before .attached .ensures .is) (ap (λ (n : ℕ). l .total + n) (c .before .before .before .inbox .ensures .is))
     (not-true _ (c .if1 .taken))
 
 count-requires : tie.Need-count-requires Inv-loop μ-loop
@@ -70,8 +70,8 @@ loop-again c =
     let s = c .before .before .before .before .before .before .before .before .before .args .s .now in
     let l = c .before .before .before .before .before .before .loop in
     walked-more (sheet-in s) (l .r) (l .sum) (l .total) (l .inv) (omega (arith, P-decoded s)) (c .before .before .before .first .result) (c .before .before .attached .result)
-    (l .total + c .before .before .before .before .inbox .result) (c .count .result) (c .before .before .before .first .ensures .0) (c .before .before .attached .ensures .0)
-    (ap (λ (n : ℕ). l .total + n) (c .before .before .before .before .inbox .ensures .0)) (c .count .ensures .0) (c .count .ensures .1) (not-false _ (c .before .if1 .left))
+    (l .total + c .before .before .before .before .inbox .result) (c .count .result) (c .before .before .before .first .ensures .is) (c .before .before .attached .ensures .is)
+    (ap (λ (n : ℕ). l .total + n) (c .before .before .before .before .inbox .ensures .is)) (c .count .ensures .is) (c .count .ensures .small) (not-false _ (c .before .if1 .left))
 
 ops-requires : tie.Need-ops-requires Inv-loop μ-loop
 ops-requires c κs = search needs
@@ -82,7 +82,7 @@ returns-2 c =
     let l = c .before .before .before .loop in
     let last : l .r ≡ P-of (sheet-in s) = omega (arith, P-decoded s) in
     walked-total (sheet-in s) (l .sum) (l .total) (subst (λ (n : ℕ). Walked (sheet-in s) n (l .sum) (l .total)) last (l .inv))
-    (c .if2 .taken ∙ (c .before .ops .ensures .0 ∙ sym (N-decoded s)))
+    (c .if2 .taken ∙ (c .before .ops .ensures .is ∙ sym (N-decoded s)))
 
 returns-3 : tie.Need-returns-3 Inv-loop μ-loop
 returns-3 c =
@@ -92,7 +92,7 @@ returns-3 c =
     let p : P-of (sheet-in s) ≡ c .before .before .before .before .boards .result = omega (arith, P-decoded s) in
     subst (λ (n : ℕ). answers (boards-refusal (sheet-in s)) 5 n) p
     (walked-short (sheet-in s) (l .sum) (l .total) (subst (λ (n : ℕ). Walked (sheet-in s) n (l .sum) (l .total)) last (l .inv))
-    (λ e. c .if2 .left (e ∙ (N-decoded s ∙ sym (c .before .ops .ensures .0)))))
+    (λ e. c .if2 .left (e ∙ (N-decoded s ∙ sym (c .before .ops .ensures .is)))))
 
 pub refusal-spec : {M : Type 1} → statement M
 refusal-spec =

@@ -25,7 +25,7 @@ returns : tie.Need-returns
 returns c =
     let a = c .before .before .before .before .args in
     let o = op-in (a .s .now) (a .at) in
-    c .wait-is-good .ensures ∙ fields-of-wait (a .p) (a .c) (a .inbox) (a .payload) o (sym (c .before .before .kind .ensures .0) ∙ c .before .if1 .taken)
+    c .wait-is-good .ensures ∙ fields-of-wait (a .p) (a .c) (a .inbox) (a .payload) o (sym (c .before .before .kind .ensures .is) ∙ c .before .if1 .taken)
 
 envelope-is-good-requires : tie.Need-envelope-is-good-requires
 envelope-is-good-requires c κs = search needs
@@ -37,7 +37,7 @@ returns-2 : tie.Need-returns-2
 returns-2 c =
     let a = c .before .before .before .before .before .before .args in
     let o = op-in (a .s .now) (a .at) in
-    let k = c .before .before .before .before .kind .ensures .0 in
+    let k = c .before .before .before .before .kind .ensures .is in
     ap₂ (λ (x y : Bool). x && y) (c .before .envelope-is-good .ensures) (c .extent-is-good .ensures)
     ∙ fields-of-receive (a .p) (a .c) (a .inbox) (a .payload) o (λ e. c .before .before .before .if1 .left (k ∙ e)) (sym k ∙ c .before .before .if2 .taken)
 
@@ -51,7 +51,7 @@ returns-3 : tie.Need-returns-3
 returns-3 c =
     let a = c .before .before .before .before .before .before .args in
     let o = op-in (a .s .now) (a .at) in
-    let k = c .before .before .before .before .kind .ensures .0 in
+    let k = c .before .before .before .before .kind .ensures .is in
     ap₂ (λ (x y : Bool). x && y) (ap₂ (λ (x y : Bool). x && y) (ap (leb 1) k) (ap (λ (n : ℕ). leb n 4) k))
     (ap₂ (λ (x y : Bool). x && y) (c .before .envelope-is-good2 .ensures) (c .extent-is-good2 .ensures))
     ∙ fields-of-send (a .p) (a .c) (a .inbox) (a .payload) o (λ e. c .before .before .before .if1 .left (k ∙ e)) (λ e. c .before .before .if2 .left (k ∙ e))

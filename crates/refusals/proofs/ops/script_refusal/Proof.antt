@@ -52,7 +52,7 @@ loop-holds : tie.Need-loop-holds Inv-loop μ-loop
 loop-holds c =
     let s = c .before .before .before .before .before .before .before .args .s .now in
     searched-none (sheet-in s) 6 (op-good (sheet-in s)) (c .before .before .before .before .before .before .before .args .r) (c .before .first .result) (c .before .first .result + c .count .result)
-    (c .before .first .ensures .0) (ap (λ (n : ℕ). c .before .first .result + n) (c .count .ensures .0))
+    (c .before .first .ensures .is) (ap (λ (n : ℕ). c .before .first .result + n) (c .count .ensures .is))
 
 mul-fields-are-good : tie.Need-mul-fields-are-good Inv-loop μ-loop
 mul-fields-are-good c = omega arith
@@ -79,7 +79,7 @@ tested c =
     let l = c .before .before .loop in
     sym (c .fields-are-good .ensures
     ∙ op-good-read (z .args .s .now) (z .pre .0) (z .pre .1) (z .args .r) (l .i) (z .pre .2) (l .inv .lower) (omega arith) (c .before .before .before .before .before .before .before .before .boards .result) (c .before .before .before .before .before .before .before .comms .result)
-    (c .before .before .before .before .before .inbox .result) (c .before .before .before .before .before .before .payload .result) (c .before .before .before .before .before .before .before .before .boards .ensures .0) (c .before .before .before .before .before .before .before .comms .ensures .0) (c .before .before .before .before .before .inbox .ensures .0) (c .before .before .before .before .before .before .payload .ensures .0))
+    (c .before .before .before .before .before .inbox .result) (c .before .before .before .before .before .before .payload .result) (c .before .before .before .before .before .before .before .before .boards .ensures .is) (c .before .before .before .before .before .before .before .comms .ensures .is) (c .before .before .before .before .before .inbox .ensures .is) (c .before .before .before .before .before .before .payload .ensures .is))
 
 returns : tie.Need-returns Inv-loop μ-loop
 returns c =

@@ -27,7 +27,7 @@ returns c =
     let a = c .before .before .args in
     let p = c .before .before .pre in
     let bs = a .s .now in
-    let there : c .ops-offset .result ≡ ops-at (P-in bs) = c .ops-offset .ensures .0 ∙ p .0 .ops-offset in (
+    let there : c .ops-offset .result ≡ ops-at (P-in bs) = c .ops-offset .ensures .is ∙ p .0 .ops-offset in (
       op-fields bs (c .ops-offset .result + 16 * a .i) (op (sheet-in bs) (a .i))
           (ap (λ (k : ℕ). op-in bs (k + 16 * a .i)) there ∙ op-by bs (a .i) (P-in bs) (p .1) refl),
       omega (arith, there, N-decoded bs, p .0 .whole),

@@ -15,7 +15,7 @@ kind-requires c κs = search needs
 
 returns : tie.Need-returns
 unfolding is-buffered
-returns c = ap (λ (k : ℕ). eqb k 2) (c .kind .ensures .0)
+returns c = ap (λ (k : ℕ). eqb k 2) (c .kind .ensures .is)
 
 pub is-buffered-spec : {M : Type 1} → statement M
 is-buffered-spec = tie.close (tie.spec kind-requires returns)

@@ -15,7 +15,7 @@ kind-requires c κs = search needs
 
 returns : tie.Need-returns
 unfolding is-wait
-returns c = ap (λ (k : ℕ). eqb k 6) (c .kind .ensures .0)
+returns c = ap (λ (k : ℕ). eqb k 6) (c .kind .ensures .is)
 
 pub is-only-half-spec : {M : Type 1} → statement M
 is-only-half-spec = tie.close (tie.spec kind-requires returns)

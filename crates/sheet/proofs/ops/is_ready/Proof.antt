@@ -15,7 +15,7 @@ kind-requires c κs = search needs
 
 returns : tie.Need-returns
 unfolding is-ready
-returns c = ap (λ (k : ℕ). eqb k 4) (c .kind .ensures .0)
+returns c = ap (λ (k : ℕ). eqb k 4) (c .kind .ensures .is)
 
 pub is-ready-spec : {M : Type 1} → statement M
 is-ready-spec = tie.close (tie.spec kind-requires returns)

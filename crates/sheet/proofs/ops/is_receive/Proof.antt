@@ -15,7 +15,7 @@ kind-requires c κs = search needs
 
 returns : tie.Need-returns
 unfolding is-receive
-returns c = ap (λ (k : ℕ). eqb k 5) (c .kind .ensures .0)
+returns c = ap (λ (k : ℕ). eqb k 5) (c .kind .ensures .is)
 
 pub is-receive-spec : {M : Type 1} → statement M
 is-receive-spec = tie.close (tie.spec kind-requires returns)

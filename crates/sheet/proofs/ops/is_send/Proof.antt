@@ -16,7 +16,7 @@ kind-requires c κs = search needs
 
 returns : tie.Need-returns
 unfolding is-send
-returns c = ap (λ (k : ℕ). leb 1 k && leb k 4) (c .kind .ensures .0)
+returns c = ap (λ (k : ℕ). leb 1 k && leb k 4) (c .kind .ensures .is)
 
 pub is-send-spec : {M : Type 1} → statement M
 is-send-spec = tie.close (tie.spec kind-requires returns)

@@ -15,7 +15,7 @@ flag-requires c κs = search needs
 
 returns : tie.Need-returns
 unfolding is-nonblocking
-returns c = ap (λ (k : ℕ). eqb k 1) (c .flag .ensures .0)
+returns c = ap (λ (k : ℕ). eqb k 1) (c .flag .ensures .is)
 
 pub takes-slot-spec : {M : Type 1} → statement M
 takes-slot-spec = tie.close (tie.spec flag-requires returns)

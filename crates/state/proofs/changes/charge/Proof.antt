@@ -48,8 +48,8 @@ returns c =
     let m = c .before .before .before .before .larger in
     let used : place-in (a .c .now) (seat-at (a .r)) .in-use ≡ place-at x (a .r) .in-use = ap (λ (q : Place). q .in-use) (place-is s (a .c .now) t x d (a .r) (ok .0)) in
     place-change s (a .c .now) t x d (charged (a .n)) (a .r) (place (f .result) (w .result) (u .result + a .n) (m .result)) (c .before .before .put-place .last .0) (ok .0)
-    (cc (f .ensures .0, w .ensures, u .ensures .0, p .ensures .0, m .ensures))
-    (record { finished-fits = f .ensures .1; in-use-fits = omega (arith, ok .1, u .ensures .0); peak-fits = omega (arith, ok .1, u .ensures .0, p .ensures .1, m .ensures) })
+    (cc (f .ensures .is, w .ensures, u .ensures .is, p .ensures .is, m .ensures))
+    (record { finished-fits = f .ensures .small; in-use-fits = omega (arith, ok .1, u .ensures .is); peak-fits = omega (arith, ok .1, u .ensures .is, p .ensures .small, m .ensures) })
     (c .before .before .put-place .ensures)
 
 pub charge-spec : {M : Type 1} → statement M

@@ -43,8 +43,8 @@ returns c =
     let p = c .before .before .before .before .peak-of in
     let done : place-in (a .c .now) (seat-at (a .r)) .finished ≡ place-at x (a .r) .finished = ap (λ (q : Place). q .finished) (place-is s (a .c .now) t x d (a .r) (ok .0)) in
     place-change s (a .c .now) t x d one-finished (a .r) (place (f .result + 1) false (u .result) (p .result)) (c .before .before .put-place .last .0) (ok .0)
-    (cc (f .ensures .0, u .ensures .0, p .ensures .0, add-one (f .result)))
-    (record { finished-fits = omega (arith, ok .1, f .ensures .0); in-use-fits = u .ensures .1; peak-fits = p .ensures .1 })
+    (cc (f .ensures .is, u .ensures .is, p .ensures .is, add-one (f .result)))
+    (record { finished-fits = omega (arith, ok .1, f .ensures .is); in-use-fits = u .ensures .small; peak-fits = p .ensures .small })
     (c .before .before .put-place .ensures)
 
 pub finish-one-spec : {M : Type 1} → statement M

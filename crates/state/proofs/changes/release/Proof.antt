@@ -39,8 +39,8 @@ returns c =
     let m = c .before .before .before .before .before .before .less in
     let p = c .before .before .before .before .peak-of in
     place-change s (a .c .now) t x d (released (a .n)) (a .r) (place (f .result) (w .result) (m .result) (p .result)) (c .before .before .put-place .last .0) l
-    (cc (f .ensures .0, w .ensures, u .ensures .0, p .ensures .0, m .ensures))
-    (record { finished-fits = f .ensures .1; in-use-fits = omega (arith, u .ensures .1, m .ensures); peak-fits = p .ensures .1 })
+    (cc (f .ensures .is, w .ensures, u .ensures .is, p .ensures .is, m .ensures))
+    (record { finished-fits = f .ensures .small; in-use-fits = omega (arith, u .ensures .small, m .ensures); peak-fits = p .ensures .small })
     (c .before .before .put-place .ensures)
 
 pub release-spec : {M : Type 1} → statement M

@@ -31,8 +31,8 @@ returns c =
     let u = c .before .before .before .before .before .before .in-use-of in
     let p = c .before .before .before .before .peak-of in
     place-change s (a .c .now) t x d now-waiting (a .r) (place (f .result) true (u .result) (p .result)) (c .before .before .put-place .last .0) l
-    (cc (f .ensures .0, u .ensures .0, p .ensures .0))
-    (record { finished-fits = f .ensures .1; in-use-fits = u .ensures .1; peak-fits = p .ensures .1 })
+    (cc (f .ensures .is, u .ensures .is, p .ensures .is))
+    (record { finished-fits = f .ensures .small; in-use-fits = u .ensures .small; peak-fits = p .ensures .small })
     (c .before .before .put-place .ensures)
 
 pub start-waiting-spec : {M : Type 1} → statement M

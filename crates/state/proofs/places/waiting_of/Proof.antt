@@ -19,7 +19,7 @@ byte-at-requires : tie.Need-byte-at-requires
 byte-at-requires c κs = search needs
 
 returns : tie.Need-returns
-returns c = ap (λ (k : ℕ). eqb k 1) (c .byte-at .ensures .0)
+returns c = ap (λ (k : ℕ). eqb k 1) (c .byte-at .ensures .is)
 
 pub waiting-of-spec : {M : Type 1} → statement M
 waiting-of-spec =

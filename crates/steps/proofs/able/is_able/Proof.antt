@@ -34,7 +34,7 @@ returns-2 : tie.Need-returns-2
 returns-2 c =
     λ lent x d.
     let a = c .before .before .before .before .before .before .args in
-    able-outside (a .s .now) lent (a .c .now) (a .t) x d (a .r) (c .before .before .if1 .left) (omega (arith, P-decoded (a .s .now), c .before .boards .ensures .0, c .if2 .taken))
+    able-outside (a .s .now) lent (a .c .now) (a .t) x d (a .r) (c .before .before .if1 .left) (omega (arith, P-decoded (a .s .now), c .before .boards .ensures .is, c .if2 .taken))
 
 finished-of-requires : tie.Need-finished-of-requires
 finished-of-requires c κs =
@@ -48,9 +48,9 @@ returns-3 : tie.Need-returns-3
 returns-3 c =
     λ lent x d.
     let a = c .before .before .before .before .before .before .before .before .before .args in
-    let below : a .r < P-of (sheet-in (a .s .now)) = omega (arith, P-decoded (a .s .now), c .before .before .before .before .boards .ensures .0, c .before .before .before .if2 .left) in
-    let done = c .before .before .finished-of .ensures .0 ∙ finished-is (a .s .now) lent (a .c .now) (a .t) x d (a .r) below in
-    able-finished (a .s .now) lent (a .c .now) (a .t) x d (a .r) (c .before .before .before .before .before .if1 .left) below (omega (arith, done, c .before .count .ensures .0, c .if3 .taken))
+    let below : a .r < P-of (sheet-in (a .s .now)) = omega (arith, P-decoded (a .s .now), c .before .before .before .before .boards .ensures .is, c .before .before .before .if2 .left) in
+    let done = c .before .before .finished-of .ensures .is ∙ finished-is (a .s .now) lent (a .c .now) (a .t) x d (a .r) below in
+    able-finished (a .s .now) lent (a .c .now) (a .t) x d (a .r) (c .before .before .before .before .before .if1 .left) below (omega (arith, done, c .before .count .ensures .is, c .if3 .taken))
 
 first-requires : tie.Need-first-requires
 first-requires c κs = (c .before .before .before .before .before .before .before .before .before .pre .represents .laid, omega arith)
@@ -61,18 +61,18 @@ add-i c = search needs
 -- past the tests, board r is there and unfinished, and operation i is its next, in every job that stands there
 module _ (c : tie.After-first) (lent : List ℕ) (x : Job) (d : Represents (c .before .before .before .before .before .before .before .before .before .before .args .s .now) lent (c .before .before .before .before .before .before .before .before .before .before .args .c .now) (c .before .before .before .before .before .before .before .before .before .before .args .t) x) where
   there-here : c .before .before .before .before .before .before .before .before .before .before .args .r < P-of (sheet-in (c .before .before .before .before .before .before .before .before .before .before .args .s .now))
-  there-here = omega (arith, P-decoded (c .before .before .before .before .before .before .before .before .before .before .args .s .now), c .before .before .before .before .before .boards .ensures .0, c .before .before .before .before .if2 .left)
+  there-here = omega (arith, P-decoded (c .before .before .before .before .before .before .before .before .before .before .args .s .now), c .before .before .before .before .before .boards .ensures .is, c .before .before .before .before .if2 .left)
 
   done-here : c .before .before .before .finished-of .result ≡ place-at x (c .before .before .before .before .before .before .before .before .before .before .args .r) .finished
-  done-here = c .before .before .before .finished-of .ensures .0 ∙ finished-is (c .before .before .before .before .before .before .before .before .before .before .args .s .now) lent (c .before .before .before .before .before .before .before .before .before .before .args .c .now) (c .before .before .before .before .before .before .before .before .before .before .args .t) x d (c .before .before .before .before .before .before .before .before .before .before .args .r) there-here
+  done-here = c .before .before .before .finished-of .ensures .is ∙ finished-is (c .before .before .before .before .before .before .before .before .before .before .args .s .now) lent (c .before .before .before .before .before .before .before .before .before .before .args .c .now) (c .before .before .before .before .before .before .before .before .before .before .args .t) x d (c .before .before .before .before .before .before .before .before .before .before .args .r) there-here
 
   unfinished-here : place-at x (c .before .before .before .before .before .before .before .before .before .before .args .r) .finished < board (sheet-in (c .before .before .before .before .before .before .before .before .before .before .args .s .now)) (c .before .before .before .before .before .before .before .before .before .before .args .r) .count
-  unfinished-here = omega (arith, done-here, c .before .before .count .ensures .0, c .before .if3 .left)
+  unfinished-here = omega (arith, done-here, c .before .before .count .ensures .is, c .before .if3 .left)
 
   next-here : Next (sheet-in (c .before .before .before .before .before .before .before .before .before .before .args .s .now)) x (c .before .before .before .before .before .before .before .before .before .before .args .r) (c .first .result + c .before .before .before .finished-of .result)
   next-here =
       next-of (sheet-in (c .before .before .before .before .before .before .before .before .before .before .args .s .now)) x (c .before .before .before .before .before .before .before .before .before .before .args .r) (c .first .result + c .before .before .before .finished-of .result) there-here unfinished-here
-      (ap₂ (λ (m n : ℕ). m + n) (c .first .ensures .0) done-here)
+      (ap₂ (λ (m n : ℕ). m + n) (c .first .ensures .is) done-here)
 
 next-is-able-requires : tie.Need-next-is-able-requires
 next-is-able-requires c κs =

@@ -42,7 +42,7 @@ add-at-2 c = let n = inside (c .before .before .before .pre) in omega (arith, c 
 
 kind-requires : tie.Need-kind-requires
 kind-requires c κs =
-    op-within (c .before .before .before .args .s .now) (c .before .before .before .args .i) (c .boards .result) (inside (c .before .before .before .pre)) (c .boards .ensures .0)
+    op-within (c .before .before .before .args .s .now) (c .before .before .before .args .i) (c .boards .result) (inside (c .before .before .before .pre)) (c .boards .ensures .is)
     (c .before .before .before .pre .represents .laid .whole)
 
 waited-at-requires : tie.Need-waited-at-requires
@@ -52,16 +52,16 @@ state-of-requires : tie.Need-state-of-requires
 state-of-requires c κs =
     let a = c .before .before .before .before .before .before .args in
     let q = c .before .before .before .before .before .before .pre in
-    let w = wait-read (a .s .now) (q .lent) (a .c .now) (a .t) (q .job) (q .represents) (a .i) (c .before .before .before .boards .result) (c .before .before .kind .result) (inside q) (c .before .before .before .boards .ensures .0) (c .before .before .kind .ensures .0) (c .before .if1 .taken) in
+    let w = wait-read (a .s .now) (q .lent) (a .c .now) (a .t) (q .job) (q .represents) (a .i) (c .before .before .before .boards .result) (c .before .before .kind .result) (inside q) (c .before .before .before .boards .ensures .is) (c .before .before .kind .ensures .is) (c .before .if1 .taken) in
     let n = wait-target (a .s .now) (q .lent) (a .c .now) (a .t) (q .job) (q .represents) (a .i) w (inside q) in
-    omega (arith, c .waited-at .ensures .0, q .represents .decodes .few-ops, q .represents .decodes .roomy)
+    omega (arith, c .waited-at .ensures .is, q .represents .decodes .few-ops, q .represents .decodes .roomy)
 
 returns : tie.Need-returns
 returns c =
     λ lent x d n.
     let a = c .before .before .before .before .before .before .before .args in
-    let w = wait-read (a .s .now) lent (a .c .now) (a .t) x d (a .i) (c .before .before .before .before .boards .result) (c .before .before .before .kind .result) (next-below (a .s .now) lent (a .c .now) (a .t) x d (a .r) (a .i) n) (c .before .before .before .before .boards .ensures .0) (c .before .before .before .kind .ensures .0) (c .before .before .if1 .taken) in
-    ap (λ (v : ℕ). leb 2 v) (c .state-of .ensures .0 ∙ ap (λ (j : ℕ). entry-in (a .c .now) (row-at j) .state) (c .before .waited-at .ensures .0))
+    let w = wait-read (a .s .now) lent (a .c .now) (a .t) x d (a .i) (c .before .before .before .before .boards .result) (c .before .before .before .kind .result) (next-below (a .s .now) lent (a .c .now) (a .t) x d (a .r) (a .i) n) (c .before .before .before .before .boards .ensures .is) (c .before .before .before .kind .ensures .is) (c .before .before .if1 .taken) in
+    ap (λ (v : ℕ). leb 2 v) (c .state-of .ensures .is ∙ ap (λ (j : ℕ). entry-in (a .c .now) (row-at j) .state) (c .before .waited-at .ensures .is))
     ∙ next-wait (a .s .now) lent (a .c .now) (a .t) x d (a .r) (a .i) n w
 
 waiting-of-requires : tie.Need-waiting-of-requires
@@ -77,15 +77,15 @@ returns-2 c =
     λ lent x d n.
     let a = c .before .before .before .before .before .before .before .before .args in
     let below = next-below (a .s .now) lent (a .c .now) (a .t) x d (a .r) (a .i) n in
-    let w = no-wait-read (a .s .now) lent (a .c .now) (a .t) x d (a .i) (c .before .before .before .before .before .boards .result) (c .before .before .before .before .kind .result) below (c .before .before .before .before .before .boards .ensures .0) (c .before .before .before .before .kind .ensures .0) (c .before .before .before .if1 .left) in
-    ap (λ (v : ℕ). leb 2 v) (c .state-of2 .ensures .0 ∙ state-is (a .s .now) lent (a .c .now) (a .t) x d (a .i) below)
+    let w = no-wait-read (a .s .now) lent (a .c .now) (a .t) x d (a .i) (c .before .before .before .before .before .boards .result) (c .before .before .before .before .kind .result) below (c .before .before .before .before .before .boards .ensures .is) (c .before .before .before .before .kind .ensures .is) (c .before .before .before .if1 .left) in
+    ap (λ (v : ℕ). leb 2 v) (c .state-of2 .ensures .is ∙ state-is (a .s .now) lent (a .c .now) (a .t) x d (a .i) below)
     ∙ next-half (a .s .now) lent (a .c .now) (a .t) x d (a .r) (a .i) n w (sym (waiting-is (a .s .now) lent (a .c .now) (a .t) x d (a .r) (n .there)) ∙ (sym (c .before .before .waiting-of .ensures) ∙ c .before .if2 .taken))
 
 returns-3 : tie.Need-returns-3
 returns-3 c =
     λ lent x d n.
     let a = c .before .before .before .before .before .before .before .args in
-    let w = no-wait-read (a .s .now) lent (a .c .now) (a .t) x d (a .i) (c .before .before .before .before .boards .result) (c .before .before .before .kind .result) (next-below (a .s .now) lent (a .c .now) (a .t) x d (a .r) (a .i) n) (c .before .before .before .before .boards .ensures .0) (c .before .before .before .kind .ensures .0) (c .before .before .if1 .left) in
+    let w = no-wait-read (a .s .now) lent (a .c .now) (a .t) x d (a .i) (c .before .before .before .before .boards .result) (c .before .before .before .kind .result) (next-below (a .s .now) lent (a .c .now) (a .t) x d (a .r) (a .i) n) (c .before .before .before .before .boards .ensures .is) (c .before .before .before .kind .ensures .is) (c .before .before .if1 .left) in
     next-initiating (a .s .now) lent (a .c .now) (a .t) x d (a .r) (a .i) n w (sym (waiting-is (a .s .now) lent (a .c .now) (a .t) x d (a .r) (n .there)) ∙ (sym (c .before .waiting-of .ensures) ∙ c .if2 .left))
 
 pub next-is-able-spec : {M : Type 1} → statement M

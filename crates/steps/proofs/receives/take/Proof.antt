@@ -31,7 +31,7 @@ meet-requires c κs =
       good = p .good;
       job = p .job;
       decodes = p .decodes;
-      fine = (subst (λ (n : ℕ). n < N-of (sheet-in (a .s .now))) (sym (c .before .word-of .ensures .0 ∙ message-is (sheet-in (a .s .now)) (a .c .now) (a .t) (p .job) (p .decodes) (a .k) (c .before .before .before .before .before .pre .1))) (p .fine .member), p .fine .fresh .inside);
+      fine = (subst (λ (n : ℕ). n < N-of (sheet-in (a .s .now))) (sym (c .before .word-of .ensures .is ∙ message-is (sheet-in (a .s .now)) (a .c .now) (a .t) (p .job) (p .decodes) (a .k) (c .before .before .before .before .before .pre .1))) (p .fine .member), p .fine .fresh .inside);
     }
 
 take-message-requires : tie.Need-take-message-requires
@@ -47,7 +47,7 @@ module _ (c : tie.After-take-message) (x : Job) (d : Decodes (sheet-in (c .befor
   m = c .before .before .before .before .before .before .word-of .result
 
   read : m ≡ getD (x .messages) (a .args .k) 0
-  read = c .before .before .before .before .before .before .word-of .ensures .0 ∙ message-is (sheet-in (a .args .s .now)) (a .args .c .now) (a .args .t) x d (a .args .k) (a .pre .1)
+  read = c .before .before .before .before .before .before .word-of .ensures .is ∙ message-is (sheet-in (a .args .s .now)) (a .args .c .now) (a .args .t) x d (a .args .k) (a .pre .1)
 
   inside : m < N-of (sheet-in (a .args .s .now))
   inside = subst (λ (n : ℕ). n < N-of (sheet-in (a .args .s .now))) (sym read) (ok .member)
@@ -84,7 +84,7 @@ returns c =
     let a = c .before .before .before .before .before .before .before .before .before .before .before .before .before .before .before .before .args in
     let s = sheet-in (a .s .now) in
     let m = c .before .before .before .before .before .before .before .before .before .before .before .before .word-of .result in
-    subst (λ (n : ℕ). Decodes s (c .before .before .initiate .last .1 .0) (c .before .before .before .before .before .before .take-message .result) (initiated s (a .r) (a .i) (matched s n (a .i) x))) (c .before .before .before .before .before .before .before .before .before .before .before .before .word-of .ensures .0)
+    subst (λ (n : ℕ). Decodes s (c .before .before .initiate .last .1 .0) (c .before .before .before .before .before .before .take-message .result) (initiated s (a .r) (a .i) (matched s n (a .i) x))) (c .before .before .before .before .before .before .before .before .before .before .before .before .word-of .ensures .is)
     (c .before .before .initiate .ensures (matched s m (a .i) x) (done (c .before .before .before .before .before .before) x d ok) (matched-seated s m (a .i) x (a .r) (ok .fresh .seated)))
 
 pub take-spec : {M : Type 1} → statement M

@@ -31,7 +31,7 @@ word-of-requires c κs = omega (arith, c .before .before .before .before .pre .1
 
 fits-requires : tie.Need-fits-requires Inv-loop μ-loop
 fits-requires c κs =
-    let member = subst (λ (n : ℕ). n < N-of (sheet-in (c .before .before .before .before .before .args .s .now))) (sym (c .word-of .ensures .0)) (c .before .before .before .before .before .pre .1 .members (c .before .before .loop .k) (c .before .loop-test .taken)) in
+    let member = subst (λ (n : ℕ). n < N-of (sheet-in (c .before .before .before .before .before .args .s .now))) (sym (c .word-of .ensures .is)) (c .before .before .before .before .before .pre .1 .members (c .before .before .loop .k) (c .before .loop-test .taken)) in
     (c .before .before .before .before .before .pre .0, c .before .before .before .before .before .pre .2, member)
 
 returns : tie.Need-returns Inv-loop μ-loop
@@ -40,7 +40,7 @@ returns c =
     record {
       within = c .before .before .before .before .loop .inv .0;
       before = c .before .before .before .before .loop .inv .1;
-      found = λ l. ap (λ (n : ℕ). fits-with (sheet-in (a .s .now)) (a .m) n) (sym (c .before .before .word-of .ensures .0)) ∙ (sym (c .before .fits2 .ensures) ∙ c .if1 .taken);
+      found = λ l. ap (λ (n : ℕ). fits-with (sheet-in (a .s .now)) (a .m) n) (sym (c .before .before .word-of .ensures .is)) ∙ (sym (c .before .fits2 .ensures) ∙ c .if1 .taken);
     }
 
 add-k : tie.Need-add-k Inv-loop μ-loop
@@ -53,7 +53,7 @@ loop-again : tie.Need-loop-again Inv-loop μ-loop
 loop-again c =
     let a = c .before .before .before .before .before .before .before .args in
     let l = c .before .before .before .before .loop in
-    (omega arith, below-more (λ j. fits-with (sheet-in (a .s .now)) (a .m) (two (a .c .now) (word-at (a .base) j)) ≡ false) (l .k) (l .inv .1) (ap (λ (n : ℕ). fits-with (sheet-in (a .s .now)) (a .m) n) (sym (c .before .before .word-of .ensures .0)) ∙ (sym (c .before .fits2 .ensures) ∙ c .if1 .left)))
+    (omega arith, below-more (λ j. fits-with (sheet-in (a .s .now)) (a .m) (two (a .c .now) (word-at (a .base) j)) ≡ false) (l .k) (l .inv .1) (ap (λ (n : ℕ). fits-with (sheet-in (a .s .now)) (a .m) n) (sym (c .before .before .word-of .ensures .is)) ∙ (sym (c .before .fits2 .ensures) ∙ c .if1 .left)))
 
 returns-2 : tie.Need-returns-2 Inv-loop μ-loop
 returns-2 c =

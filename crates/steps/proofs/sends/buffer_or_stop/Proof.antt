@@ -40,7 +40,7 @@ add-long-2 : tie.Need-add-long-2
 add-long-2 c = search needs
 
 long-requires : tie.Need-long-requires
-long-requires c κs = op-within (c .before .before .before .args .s .now) (c .before .before .before .args .i) (c .boards .result) (c .before .before .before .pre .fine .inside) (c .boards .ensures .0) (c .before .before .before .pre .laid .whole)
+long-requires c κs = op-within (c .before .before .before .args .s .now) (c .before .before .before .args .i) (c .boards .result) (c .before .before .before .pre .fine .inside) (c .boards .ensures .is) (c .before .before .before .pre .laid .whole)
 
 in-use-of-requires : tie.Need-in-use-of-requires
 in-use-of-requires c κs = omega (arith, c .before .before .before .before .before .pre .fine .seated .there, c .before .before .before .before .before .pre .decodes .few-boards, c .before .before .before .before .before .pre .decodes .roomy)
@@ -55,18 +55,18 @@ attached-requires c κs = (c .before .before .before .before .before .before .pr
 module _ (c : tie.After-attached) (x : Job) (d : Decodes (sheet-in (c .before .before .before .before .before .before .before .args .s .now)) (c .before .before .before .before .before .before .before .args .c .now) (c .before .before .before .before .before .before .before .args .t) x)
     (ok : Fresh (sheet-in (c .before .before .before .before .before .before .before .args .s .now)) (c .before .before .before .before .before .before .before .args .r) (c .before .before .before .before .before .before .before .args .i) x) where
   used : c .before .in-use-of .result ≡ place-at x (c .before .before .before .before .before .before .before .args .r) .in-use
-  used = c .before .in-use-of .ensures .0 ∙ ap (λ (q : Place). q .in-use) (place-is (sheet-in (c .before .before .before .before .before .before .before .args .s .now)) (c .before .before .before .before .before .before .before .args .c .now) (c .before .before .before .before .before .before .before .args .t) x d (c .before .before .before .before .before .before .before .args .r) (ok .seated .there))
+  used = c .before .in-use-of .ensures .is ∙ ap (λ (q : Place). q .in-use) (place-is (sheet-in (c .before .before .before .before .before .before .before .args .s .now)) (c .before .before .before .before .before .before .before .args .c .now) (c .before .before .before .before .before .before .before .args .t) x d (c .before .before .before .before .before .before .before .args .r) (ok .seated .there))
 
   charges : c .before .before .before .long .result ≡ charge-of (op (sheet-in (c .before .before .before .before .before .before .before .args .s .now)) (c .before .before .before .before .before .before .before .args .i))
   unfolding charge-of
-  charges = c .before .before .before .long .ensures .0 ∙ ap (λ (o : Op). o .long) (op-by (c .before .before .before .before .before .before .before .args .s .now) (c .before .before .before .before .before .before .before .args .i) (c .before .before .before .before .boards .result) (ok .inside) (c .before .before .before .before .boards .ensures .0))
+  charges = c .before .before .before .long .ensures .is ∙ ap (λ (o : Op). o .long) (op-by (c .before .before .before .before .before .before .before .args .s .now) (c .before .before .before .before .before .before .before .args .i) (c .before .before .before .before .boards .result) (ok .inside) (c .before .before .before .before .boards .ensures .is))
 
   charging : c .before .in-use-of .result + c .before .before .before .long .result ≤ c .attached .result → Charging (sheet-in (c .before .before .before .before .before .before .before .args .s .now)) (c .before .before .before .before .before .before .before .args .r) (c .before .before .before .before .before .before .before .args .i) (c .before .before .before .long .result) x
   charging l =
       record {
         fresh = ok;
         charge-is = charges;
-        room = omega (arith, used, c .attached .ensures .1);
+        room = omega (arith, used, c .attached .ensures .small);
       }
 
 buffer-requires : tie.Need-buffer-requires
@@ -80,7 +80,7 @@ buffer-requires c κs =
         decodes = p .decodes;
         fine = charging (c .before .before) (p .job) (p .decodes) (p .fine) (c .before .if1 .taken);
       },
-      c .before .before .before .before .before .long .ensures .1,
+      c .before .before .before .before .before .long .ensures .small,
     )
 
 same-length : tie.Need-same-length
@@ -92,7 +92,7 @@ returns c =
     let a = c .before .before .before .before .before .before .before .before .before .before .before .before .args in
     let s = sheet-in (a .s .now) in
     subst (λ (y : Job). Decodes s (c .before .before .buffer .last .1 .0) (c .before .before .buffer .result) y)
-    (buffered-fits s (a .r) (a .i) (c .before .before .before .before .before .before .in-use-of .result) (c .before .before .before .before .before .before .before .before .long .result) (c .before .before .before .before .before .attached .result) x (used (c .before .before .before .before .before) x d ok) (charges (c .before .before .before .before .before) x d ok) (c .before .before .before .before .before .attached .ensures .0) (c .before .before .before .before .if1 .taken))
+    (buffered-fits s (a .r) (a .i) (c .before .before .before .before .before .before .in-use-of .result) (c .before .before .before .before .before .before .before .before .long .result) (c .before .before .before .before .before .attached .result) x (used (c .before .before .before .before .before) x d ok) (charges (c .before .before .before .before .before) x d ok) (c .before .before .before .before .before .attached .ensures .is) (c .before .before .before .before .if1 .taken))
     (c .before .before .buffer .ensures x d (charging (c .before .before .before .before .before) x d ok (c .before .before .before .before .if1 .taken)))
 
 halting-requires : tie.Need-halting-requires
@@ -107,7 +107,7 @@ returns-2 c =
     let a = c .before .before .before .before .before .before .before .before .before .args in
     let s = sheet-in (a .s .now) in
     subst (λ (y : Job). Decodes s (a .c .now) (c .halting .result) y)
-    (buffered-overflows s (a .r) (a .i) (c .before .before .before .in-use-of .result) (c .before .before .before .before .before .long .result) (c .before .before .attached .result) x (used (c .before .before) x d ok) (charges (c .before .before) x d ok) (c .before .before .attached .ensures .0) (c .before .if1 .left))
+    (buffered-overflows s (a .r) (a .i) (c .before .before .before .in-use-of .result) (c .before .before .before .before .before .long .result) (c .before .before .attached .result) x (used (c .before .before) x d ok) (charges (c .before .before) x d ok) (c .before .before .attached .ensures .is) (c .before .if1 .left))
     (subst (λ (u : Control). Decodes s (a .c .now) u (stopped 3 (a .r) (a .i) x)) (sym (c .halting .ensures)) (stop-put s (a .c .now) (a .t) x d 3 (a .r) (a .i) (λ e. absurd (omega arith))))
 
 pub buffer-or-stop-spec : {M : Type 1} → statement M

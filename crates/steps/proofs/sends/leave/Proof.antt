@@ -35,7 +35,7 @@ add-kind-2 : tie.Need-add-kind-2
 add-kind-2 c = search needs
 
 kind-requires : tie.Need-kind-requires
-kind-requires c κs = op-within (c .before .before .before .args .s .now) (c .before .before .before .args .i) (c .boards .result) (c .before .before .before .pre .fine .inside) (c .boards .ensures .0) (c .before .before .before .pre .laid .whole)
+kind-requires c κs = op-within (c .before .before .before .args .s .now) (c .before .before .before .args .i) (c .boards .result) (c .before .before .before .pre .fine .inside) (c .boards .ensures .is) (c .before .before .before .pre .laid .whole)
 
 halting-requires : tie.Need-halting-requires
 halting-requires c κs = search needs
@@ -45,7 +45,7 @@ returns c =
     λ x d ok.
     let a = c .before .before .before .before .before .before .args in
     let s = sheet-in (a .s .now) in
-    let kind = c .before .before .kind .ensures .0 ∙ ap (λ (o : Op). o .kind) (op-by (a .s .now) (a .i) (c .before .before .before .boards .result) (ok .inside) (c .before .before .before .boards .ensures .0)) in
+    let kind = c .before .before .kind .ensures .is ∙ ap (λ (o : Op). o .kind) (op-by (a .s .now) (a .i) (c .before .before .before .boards .result) (ok .inside) (c .before .before .before .boards .ensures .is)) in
     subst (λ (y : Job). Decodes s (a .c .now) (c .halting .result) y) (unmatched-ready s (a .r) (a .i) (c .before .before .kind .result) x kind (c .before .if1 .taken))
     (subst (λ (u : Control). Decodes s (a .c .now) u (stopped 4 (a .r) (a .i) x)) (sym (c .halting .ensures)) (stop-put s (a .c .now) (a .t) x d 4 (a .r) (a .i) (λ e. absurd (omega arith))))
 
@@ -60,7 +60,7 @@ returns-2 c =
     λ x d ok.
     let a = c .before .before .before .before .before .before .before .before .before .before .args in
     let s = sheet-in (a .s .now) in
-    let kind = c .before .before .before .before .before .before .kind .ensures .0 ∙ ap (λ (o : Op). o .kind) (op-by (a .s .now) (a .i) (c .before .before .before .before .before .before .before .boards .result) (ok .inside) (c .before .before .before .before .before .before .before .boards .ensures .0)) in
+    let kind = c .before .before .before .before .before .before .kind .ensures .is ∙ ap (λ (o : Op). o .kind) (op-by (a .s .now) (a .i) (c .before .before .before .before .before .before .before .boards .result) (ok .inside) (c .before .before .before .before .before .before .before .boards .ensures .is)) in
     subst (λ (y : Job). Decodes s (c .before .before .buffer-or-stop .last .1 .0) (c .before .before .buffer-or-stop .result) y)
     (unmatched-buffered s (a .r) (a .i) (c .before .before .before .before .before .before .kind .result) x kind (c .before .before .before .before .before .if1 .left) (c .before .before .before .before .if2 .taken)) (c .before .before .buffer-or-stop .ensures x d ok)
 
@@ -75,7 +75,7 @@ returns-3 c =
     λ x d ok.
     let a = c .before .before .before .before .before .before .before .before .before .before .args in
     let s = sheet-in (a .s .now) in
-    let kind = c .before .before .before .before .before .before .kind .ensures .0 ∙ ap (λ (o : Op). o .kind) (op-by (a .s .now) (a .i) (c .before .before .before .before .before .before .before .boards .result) (ok .inside) (c .before .before .before .before .before .before .before .boards .ensures .0)) in
+    let kind = c .before .before .before .before .before .before .kind .ensures .is ∙ ap (λ (o : Op). o .kind) (op-by (a .s .now) (a .i) (c .before .before .before .before .before .before .before .boards .result) (ok .inside) (c .before .before .before .before .before .before .before .boards .ensures .is)) in
     subst (λ (y : Job). Decodes s (c .before .before .pend .last .1 .0) (c .before .before .pend .result) y)
     (unmatched-pending s (a .r) (a .i) (c .before .before .before .before .before .before .kind .result) x kind (c .before .before .before .before .before .if1 .left) (c .before .before .before .before .if2 .left)) (c .before .before .pend .ensures x d ok)
 

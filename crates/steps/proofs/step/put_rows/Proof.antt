@@ -35,7 +35,7 @@ add-tag : tie.Need-add-tag
 add-tag c = search needs
 
 tag-requires : tie.Need-tag-requires
-tag-requires c κs = op-within (c .before .before .before .args .s .now) (c .before .before .before .args .m) (c .boards .result) (c .before .before .before .pre .fine .0) (c .boards .ensures .0) (c .before .before .before .pre .laid .whole)
+tag-requires c κs = op-within (c .before .before .before .args .s .now) (c .before .before .before .args .m) (c .boards .result) (c .before .before .before .pre .fine .0) (c .boards .ensures .is) (c .before .before .before .pre .laid .whole)
 
 mul-long : tie.Need-mul-long
 mul-long c = search needs
@@ -44,7 +44,7 @@ add-long : tie.Need-add-long
 add-long c = search needs
 
 long-requires : tie.Need-long-requires
-long-requires c κs = op-within (c .before .before .before .before .args .s .now) (c .before .before .before .before .args .m) (c .before .boards .result) (c .before .before .before .before .pre .fine .0) (c .before .boards .ensures .0) (c .before .before .before .before .pre .laid .whole)
+long-requires c κs = op-within (c .before .before .before .before .args .s .now) (c .before .before .before .before .args .m) (c .before .boards .result) (c .before .before .before .before .pre .fine .0) (c .before .boards .ensures .is) (c .before .before .before .before .pre .laid .whole)
 
 mul-long-2 : tie.Need-mul-long-2
 mul-long-2 c = search needs
@@ -53,7 +53,7 @@ add-long-2 : tie.Need-add-long-2
 add-long-2 c = search needs
 
 long-requires-2 : tie.Need-long-requires-2
-long-requires-2 c κs = op-within (c .before .before .before .before .before .args .s .now) (c .before .before .before .before .before .args .r) (c .before .before .boards .result) (c .before .before .before .before .before .pre .fine .1) (c .before .before .boards .ensures .0) (c .before .before .before .before .before .pre .laid .whole)
+long-requires-2 c κs = op-within (c .before .before .before .before .before .args .s .now) (c .before .before .before .before .before .args .r) (c .before .before .boards .result) (c .before .before .before .before .before .pre .fine .1) (c .before .before .boards .ensures .is) (c .before .before .before .before .before .pre .laid .whole)
 
 is-cut-requires : tie.Need-is-cut-requires
 is-cut-requires c κs = search needs
@@ -72,21 +72,21 @@ unfolding is-cut
 returns c =
     λ x d ok.
     let a = c .before .before .before .before .before .before .before .before .before .before .before .before .before .args in
-    let sent = op-by (a .s .now) (a .m) (c .before .before .before .before .before .before .before .before .before .before .boards .result) (ok .0) (c .before .before .before .before .before .before .before .before .before .before .boards .ensures .0) in
-    let posted = op-by (a .s .now) (a .r) (c .before .before .before .before .before .before .before .before .before .before .boards .result) (ok .1) (c .before .before .before .before .before .before .before .before .before .before .boards .ensures .0) in
-    let long = c .before .before .before .before .before .before .before .before .long .ensures .0 ∙ ap (λ (o : Op). o .long) sent in
-    let capacity = c .before .before .before .before .before .before .before .long2 .ensures .0 ∙ ap (λ (o : Op). o .long) posted in
+    let sent = op-by (a .s .now) (a .m) (c .before .before .before .before .before .before .before .before .before .before .boards .result) (ok .0) (c .before .before .before .before .before .before .before .before .before .before .boards .ensures .is) in
+    let posted = op-by (a .s .now) (a .r) (c .before .before .before .before .before .before .before .before .before .before .boards .result) (ok .1) (c .before .before .before .before .before .before .before .before .before .before .boards .ensures .is) in
+    let long = c .before .before .before .before .before .before .before .before .long .ensures .is ∙ ap (λ (o : Op). o .long) sent in
+    let capacity = c .before .before .before .before .before .before .before .long2 .ensures .is ∙ ap (λ (o : Op). o .long) posted in
     c .before .before .match-rows .ensures (a .t) (sheet-in (a .s .now)) x d
     (record {
       sent-inside = ok .0;
       received-inside = ok .1;
       cut-is = c .before .before .before .before .before .before .is-cut .ensures ∙ ap₂ (λ (m n : ℕ). cond (ltb m n) 1 0) capacity long;
-      source-is = c .before .before .before .before .rank-at .ensures .0 ∙ d .indexed .rank-is (a .m) (ok .0);
-      tag-is = c .before .before .before .before .before .before .before .before .before .tag .ensures .0 ∙ ap (λ (o : Op). o .tag) sent;
+      source-is = c .before .before .before .before .rank-at .ensures .is ∙ d .indexed .rank-is (a .m) (ok .0);
+      tag-is = c .before .before .before .before .before .before .before .before .before .tag .ensures .is ∙ ap (λ (o : Op). o .tag) sent;
       long-is = long;
-      source-fits = omega (arith, c .before .before .before .before .rank-at .ensures .1);
-      tag-fits = c .before .before .before .before .before .before .before .before .before .tag .ensures .1;
-      long-fits = c .before .before .before .before .before .before .before .before .long .ensures .1;
+      source-fits = omega (arith, c .before .before .before .before .rank-at .ensures .small);
+      tag-fits = c .before .before .before .before .before .before .before .before .before .tag .ensures .small;
+      long-fits = c .before .before .before .before .before .before .before .before .long .ensures .small;
     })
 
 pub put-rows-spec : {M : Type 1} → statement M

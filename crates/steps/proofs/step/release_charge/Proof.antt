@@ -38,7 +38,7 @@ add-long-2 : tie.Need-add-long-2
 add-long-2 c = search needs
 
 long-requires : tie.Need-long-requires
-long-requires c κs = op-within (c .before .before .before .before .before .before .args .s .now) (c .before .before .before .before .before .before .args .m) (c .boards .result) (c .before .before .before .before .before .before .pre .fine) (c .boards .ensures .0) (c .before .before .before .before .before .before .pre .laid .whole)
+long-requires c κs = op-within (c .before .before .before .before .before .before .args .s .now) (c .before .before .before .before .before .before .args .m) (c .boards .result) (c .before .before .before .before .before .before .pre .fine) (c .boards .ensures .is) (c .before .before .before .before .before .before .pre .laid .whole)
 
 rank-at-requires : tie.Need-rank-at-requires
 rank-at-requires c κs = search needs
@@ -46,7 +46,7 @@ rank-at-requires c κs = search needs
 release-requires : tie.Need-release-requires
 release-requires c κs =
     let p = c .before .before .before .before .before .before .before .before .before .before .pre in
-    omega (arith, c .before .rank-at .ensures .0 ∙ p .decodes .indexed .rank-is (c .before .before .before .before .before .before .before .before .before .before .args .m) (p .fine), p .good .rank-small (c .before .before .before .before .before .before .before .before .before .before .args .m) (p .fine), p .good .boards-few, p .decodes .roomy)
+    omega (arith, c .before .rank-at .ensures .is ∙ p .decodes .indexed .rank-is (c .before .before .before .before .before .before .before .before .before .before .args .m) (p .fine), p .good .rank-small (c .before .before .before .before .before .before .before .before .before .before .args .m) (p .fine), p .good .boards-few, p .decodes .roomy)
 
 same-length : tie.Need-same-length
 same-length c = search needs
@@ -57,9 +57,9 @@ returns c =
     let a = c .before .before .before .before .before .before .before .before .before .before .before .before .before .args in
     let p = c .before .before .before .before .before .before .before .before .before .before .before .before .before .pre in
     let s = sheet-in (a .s .now) in
-    let state = c .before .before .before .before .before .before .before .before .before .state-of .ensures .0 ∙ ap (λ (e : Entry). e .state) (entry-is s (a .c .now) (a .t) x d (a .m) ok) in
-    let rank = c .before .before .before .before .rank-at .ensures .0 ∙ d .indexed .rank-is (a .m) ok in
-    let long = c .before .before .before .before .before .before .long .ensures .0 ∙ ap (λ (o : Op). o .long) (op-by (a .s .now) (a .m) (c .before .before .before .before .before .before .before .boards .result) ok (c .before .before .before .before .before .before .before .boards .ensures .0)) in
+    let state = c .before .before .before .before .before .before .before .before .before .state-of .ensures .is ∙ ap (λ (e : Entry). e .state) (entry-is s (a .c .now) (a .t) x d (a .m) ok) in
+    let rank = c .before .before .before .before .rank-at .ensures .is ∙ d .indexed .rank-is (a .m) ok in
+    let long = c .before .before .before .before .before .before .long .ensures .is ∙ ap (λ (o : Op). o .long) (op-by (a .s .now) (a .m) (c .before .before .before .before .before .before .before .boards .result) ok (c .before .before .before .before .before .before .before .boards .ensures .is)) in
     subst (λ (y : Job). Decodes s (c .before .before .release .last .0) (a .t) y) (release-charged s (a .m) (c .before .before .before .before .rank-at .result) (c .before .before .before .before .before .before .long .result) x (sym state ∙ c .before .before .before .before .before .before .before .before .if1 .taken) rank long)
     (c .before .before .release .ensures (a .t) s x d (subst (λ (n : ℕ). n < P-of s) (sym rank) (p .good .rank-small (a .m) ok)))
 
@@ -71,7 +71,7 @@ returns-2 c =
     λ x d ok.
     let a = c .before .before .before .before .before .args in
     let s = sheet-in (a .s .now) in
-    let state = c .before .state-of .ensures .0 ∙ ap (λ (e : Entry). e .state) (entry-is s (a .c .now) (a .t) x d (a .m) ok) in
+    let state = c .before .state-of .ensures .is ∙ ap (λ (e : Entry). e .state) (entry-is s (a .c .now) (a .t) x d (a .m) ok) in
     subst (λ (y : Job). Decodes s (a .c .now) (a .t) y) (release-none s (a .m) x (λ e. c .if1 .left (state ∙ e))) d
 
 pub release-charge-spec : {M : Type 1} → statement M

@@ -33,7 +33,7 @@ add-kind-2 : tie.Need-add-kind-2
 add-kind-2 c = search needs
 
 kind-requires : tie.Need-kind-requires
-kind-requires c κs = op-within (c .before .before .before .args .s .now) (c .before .before .before .args .i) (c .boards .result) (c .before .before .before .pre .1) (c .boards .ensures .0) (c .before .before .before .pre .0 .laid .whole)
+kind-requires c κs = op-within (c .before .before .before .args .s .now) (c .before .before .before .args .i) (c .boards .result) (c .before .before .before .pre .1) (c .boards .ensures .is) (c .before .before .before .pre .0 .laid .whole)
 
 set-state-requires : tie.Need-set-state-requires
 set-state-requires c κs = search needs
@@ -51,7 +51,7 @@ returns c =
     λ x d ok.
     let a = c .before .before .before .before .before .before .before .before .before .before .before .before .before .args in
     let s = sheet-in (a .s .now) in
-    let kind = c .before .before .before .before .before .before .before .before .before .kind .ensures .0 ∙ ap (λ (o : Op). o .kind) (op-by (a .s .now) (a .i) (c .before .before .before .before .before .before .before .before .before .before .boards .result) (c .before .before .before .before .before .before .before .before .before .before .before .before .before .pre .1) (c .before .before .before .before .before .before .before .before .before .before .boards .ensures .0)) in
+    let kind = c .before .before .before .before .before .before .before .before .before .kind .ensures .is ∙ ap (λ (o : Op). o .kind) (op-by (a .s .now) (a .i) (c .before .before .before .before .before .before .before .before .before .before .boards .result) (c .before .before .before .before .before .before .before .before .before .before .before .before .before .pre .1) (c .before .before .before .before .before .before .before .before .before .before .boards .ensures .is)) in
     let seat = state-seated s (a .r) (a .i) 5 x ok in
     subst (λ (y : Job). Decodes s (c .before .before .finish-one .last .0) (a .t) y) (ended-wait s (a .r) (a .i) x (sym kind ∙ c .before .before .before .before .before .before .before .before .if1 .taken))
     (c .before .before .finish-one .ensures (a .t) s (with-state (a .i) 5 x) (c .before .before .before .before .before .before .set-state .ensures (a .t) s x d (c .before .before .before .before .before .before .before .before .before .before .before .before .before .pre .1)) (seat .there, seat .room))
@@ -67,7 +67,7 @@ returns-2 c =
     λ x d ok.
     let a = c .before .before .before .before .before .before .before .before .before .args in
     let s = sheet-in (a .s .now) in
-    let kind = c .before .before .before .before .before .kind .ensures .0 ∙ ap (λ (o : Op). o .kind) (op-by (a .s .now) (a .i) (c .before .before .before .before .before .before .boards .result) (c .before .before .before .before .before .before .before .before .before .pre .1) (c .before .before .before .before .before .before .boards .ensures .0)) in
+    let kind = c .before .before .before .before .before .kind .ensures .is ∙ ap (λ (o : Op). o .kind) (op-by (a .s .now) (a .i) (c .before .before .before .before .before .before .boards .result) (c .before .before .before .before .before .before .before .before .before .pre .1) (c .before .before .before .before .before .before .boards .ensures .is)) in
     subst (λ (y : Job). Decodes s (c .before .before .finish-one2 .last .0) (a .t) y) (ended-other s (a .r) (a .i) x (λ e. c .before .before .before .before .if1 .left (kind ∙ e)))
     (c .before .before .finish-one2 .ensures (a .t) s x d (ok .there, ok .room))
 

@@ -67,8 +67,8 @@ module _ (c : tie.After-finished-of) (lent : List ℕ) (x : Job) (d : Represents
   unfolding next-op
   next =
       let a = c .before .before .before .before .before .args in
-      ap₂ (λ (m n : ℕ). m + n) (c .before .before .first .ensures .0)
-      (c .finished-of .ensures .0 ∙ finished-is (a .s .now) lent (a .c .now) (a .t) x d (a .r) (able-there (a .s .now) lent (a .c .now) (a .t) x d (a .r) e))
+      ap₂ (λ (m n : ℕ). m + n) (c .before .before .first .ensures .is)
+      (c .finished-of .ensures .is ∙ finished-is (a .s .now) lent (a .c .now) (a .t) x d (a .r) (able-there (a .s .now) lent (a .c .now) (a .t) x d (a .r) e))
 
   inside : index c < N-of (sheet-in (c .before .before .before .before .before .args .s .now))
   inside = let a = c .before .before .before .before .before .args in subst (λ (n : ℕ). n < N-of (sheet-in (a .s .now))) (sym next) (able-inside (a .s .now) lent (a .c .now) (a .t) x d (a .r) e)
@@ -76,7 +76,7 @@ module _ (c : tie.After-finished-of) (lent : List ℕ) (x : Job) (d : Represents
 kind-requires : tie.Need-kind-requires
 kind-requires c κs =
     let p = c .before .before .before .before .before .before .pre in
-    op-within (c .before .before .before .before .before .before .args .s .now) (c .before .before .before .first .result + c .before .finished-of .result) (c .boards .result) (inside (c .before) (p .lent) (p .job) (p .represents) (p .is-able)) (c .boards .ensures .0) (p .represents .laid .whole)
+    op-within (c .before .before .before .before .before .before .args .s .now) (c .before .before .before .first .result + c .before .finished-of .result) (c .boards .result) (inside (c .before) (p .lent) (p .job) (p .represents) (p .is-able)) (c .boards .ensures .is) (p .represents .laid .whole)
 
 waiting-of-requires : tie.Need-waiting-of-requires
 waiting-of-requires c κs =
@@ -87,8 +87,8 @@ module _ (c : tie.After-waiting-of) (lent : List ℕ) (x : Job) (d : Represents 
     (e : able (sheet-in (c .before .before .before .before .before .before .before .before .before .args .s .now)) x (c .before .before .before .before .before .before .before .before .before .args .r) ≡ true) where
   kinds : c .before .before .kind .result ≡ op (sheet-in (c .before .before .before .before .before .before .before .before .before .args .s .now)) (index (c .before .before .before .before)) .kind
   kinds =
-      c .before .before .kind .ensures .0
-      ∙ ap (λ (o : Op). o .kind) (op-by (c .before .before .before .before .before .before .before .before .before .args .s .now) (index (c .before .before .before .before)) (c .before .before .before .boards .result) (inside (c .before .before .before .before) lent x d e) (c .before .before .before .boards .ensures .0))
+      c .before .before .kind .ensures .is
+      ∙ ap (λ (o : Op). o .kind) (op-by (c .before .before .before .before .before .before .before .before .before .args .s .now) (index (c .before .before .before .before)) (c .before .before .before .boards .result) (inside (c .before .before .before .before) lent x d e) (c .before .before .before .boards .ensures .is))
 
   waits : c .waiting-of .result ≡ place-at x (c .before .before .before .before .before .before .before .before .before .args .r) .waiting
   waits =
