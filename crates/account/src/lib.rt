@@ -1,6 +1,7 @@
 // The account of a board's attached buffer (document 01, "How a board steps"; MPI buffered mode): its size, the bytes in use and
 // the most that were in use. The rules stand in two functions over accounts by value. `charge` and `release` take the account
-// by `&mut` and change it where it stands. `settle` lends an account of its own to both, for callers that have plain numbers.
+// by `&mut` and change it where it stands. `charging` and `releasing` lend an account of their own, for callers that have plain
+// numbers, as the engine has.
 ghost use mathlib.Core.Path.{_≡_};
 ghost use Prim.Native.Nat.{max};
 ghost use Rattle.account.specs.Accounts.{account, has-room, taken, given-back};
@@ -86,19 +87,31 @@ pub fn release(account: &mut Account, n: usize)
     *account = give_back(*account, n);
 }
 
-// Of an account in plain numbers `back` bytes are released, and n are then charged.
-pub fn settle(size: usize, in_use: usize, peak: usize, back: usize, n: usize) -> Outcome
-    ensures { λ r. ⌜ (r .account ≡ taken (given-back (account size in_use peak) back) n) × (r .ok ≡ has-room (given-back (account size in_use peak) back) n) ⌝ }
+// The account of plain numbers after n bytes were charged to it where there is room, and whether they were.
+pub fn charging(size: usize, in_use: usize, peak: usize, n: usize) -> Outcome
+    ensures { λ r. ⌜ (r .account ≡ taken (account size in_use peak) n) × (r .ok ≡ has-room (account size in_use peak) n) ⌝ }
 {
     let mut own = Account {
         size: size,
         in_use: in_use,
         peak: peak,
     };
-    release(&mut own, back);
     let ok = charge(&mut own, n);
     Outcome {
         account: own,
         ok: ok,
     }
+}
+
+// The account of plain numbers after a charge of n bytes went from it.
+pub fn releasing(size: usize, in_use: usize, peak: usize, n: usize) -> Account
+    ensures { λ r. ⌜ r ≡ given-back (account size in_use peak) n ⌝ }
+{
+    let mut own = Account {
+        size: size,
+        in_use: in_use,
+        peak: peak,
+    };
+    release(&mut own, n);
+    own
 }
