@@ -11,7 +11,8 @@ use borrow.Author.Tests.{ne-eqb}
 use lib.Seq.{getD-set-same, getD-set-other}
 use Rattle.rules.specs.Sheet.{Sheet, board, op, rank-of, is-ready, is-buffered, is-nonblocking}
 use Rattle.rules.specs.Job.{Job, Place, place, job, place-at, entry-at, with-entries, with-places, with-messages, with-receives, with-memory, with-stop}
-use Rattle.rules.specs.Step.{charge-of, charged, released, with-place, charge, release, matched-rows, matched, with-state, pend-message, stopped, one-finished, now-waiting, initiated, fits-buffer, unmatched}
+use Rattle.rules.specs.Step.{charge-of, charged, released, with-place, charge, release, matched-rows, matched}
+use Rattle.rules.specs.Step.{with-state, pend-message, stopped, one-finished, now-waiting, initiated, fits-buffer, unmatched}
 use Rattle.laws.specs.Tests.{decided}
 use Rattle.account.specs.declared.Account.{Account}
 use Rattle.account.specs.Accounts.{account-of, place-of, has-room, taken, given-back, taken-not}

@@ -36,7 +36,8 @@ use Rattle.account.proofs.Account as T
 use Rattle.account.proofs.Account.Laws as T′
 use Rattle.account.proofs.Outcome as O
 use Rattle.account.proofs.Outcome.Laws as O′
-use Rattle.account.proofs.Lender.{vals, ref-at, Moves, moves-by, stayed, goes, Numbers, numbers, begins, freed}
+use Rattle.account.proofs.Borrower.{vals}
+use Rattle.account.proofs.Lender.{ref-at, Moves, moves-by, stayed, goes, Numbers, numbers, begins, freed}
 use Rattle.account.proofs.charge as callee
 use Rattle.account.proofs.charge.Symbol as callee-def
 use Rattle.account.proofs.charge.Symbol.{name as #callee}

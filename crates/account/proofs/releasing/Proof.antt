@@ -31,7 +31,8 @@ use Rattle.account.specs.declared.Account.{Account}
 use Rattle.account.specs.Accounts.{account, given-back}
 use Rattle.account.proofs.Account as T
 use Rattle.account.proofs.Account.Laws as T′
-use Rattle.account.proofs.Lender.{val, vals, ref-at, Moves, moves-by, stayed, goes, Numbers, numbers, begins, freed}
+use Rattle.account.proofs.Borrower.{val, vals}
+use Rattle.account.proofs.Lender.{ref-at, Moves, moves-by, stayed, goes, Numbers, numbers, begins, freed}
 use Rattle.account.proofs.release as callee
 use Rattle.account.proofs.release.Symbol as callee-def
 use Rattle.account.proofs.release.Symbol.{name as #callee}
