@@ -3,12 +3,14 @@
 use mathlib.Core.Path.{_≡_, refl, sym, _∙_, ap, subst}
 use mathlib.Core.Bool.{Bool, true, false, _&&_, _||_, cond}
 use mathlib.Core.List.{List, [], _∷_}
-use Prim.Native.Nat.{ℕ, zero, suc, _+_, _<_, _≤_}
+use Prim.Native.Nat.{ℕ, zero, suc, _+_, _<_, _≤_, min}
 use native.Mathlib.Omega.{arith}
-use lib.Dec.{eqb}
-use lib.ListN.{length, getD}
+use lib.Dec.{eqb, leb}
+use lib.ListN.{length, getD, take}
+use lib.Seq.{take-all}
 use borrow.Author.Count.{below-more}
-use Rattle.rules.specs.Limits.{any}
+use borrow.Author.Tests.{leb-true, leb-false}
+use Rattle.rules.specs.Limits.{any, most-ops}
 use Rattle.laws.specs.Tests.{cond-true, cond-false}
 use Rattle.waiting.specs.declared.Envelope.{Envelope}
 use Rattle.waiting.specs.declared.Found.{Found}
@@ -23,9 +25,14 @@ envelope s c t i =
       operation = i;
     }
 
--- the fit of a message that is addressed to the receiver: communicators equal; source equal or any; tag equal or any
-unfoldable pub envelope-fits : Envelope → (source communicator tag : ℕ) → Bool
-envelope-fits e s c t = eqb (e .communicator) c && ((eqb s any || eqb s (e .source)) && (eqb t any || eqb t (e .tag)))
+-- the fit of a message that is addressed to the receiver, from the sender in the context with the mark for its tag: communicators
+-- equal; source equal or any; tag equal or any
+unfoldable pub envelope-fits : (sender context mark source communicator tag : ℕ) → Bool
+envelope-fits sender context mark s c t = eqb context c && ((eqb s any || eqb s sender) && (eqb t any || eqb t mark))
+
+-- of an envelope
+abbrev pub fits-receive : Envelope → (source communicator tag : ℕ) → Bool
+fits-receive e s c t = envelope-fits (e .source) (e .communicator) (e .tag) s c t
 
 -- a place in a list, seen from one place before it
 unfoldable pub one-on : Found → Found
@@ -38,7 +45,7 @@ first-place f [] = Nothing
 first-place f (e ∷ es) = cond (f e) (At 0) (one-on (first-place f es))
 
 unfoldable pub earliest-fit : List Envelope → (source communicator tag : ℕ) → Found
-earliest-fit es s c t = first-place (λ e. envelope-fits e s c t) es
+earliest-fit es s c t = first-place (λ e. fits-receive e s c t) es
 
 -- the list whose sources, communicators and tags stand apart, and whose operations don't matter
 unfoldable pub listed : (sources communicators tags : List ℕ) → List Envelope
@@ -46,6 +53,17 @@ listed [] cs ts = []
 listed (s ∷ ss) [] ts = []
 listed (s ∷ ss) (c ∷ cs) [] = []
 listed (s ∷ ss) (c ∷ cs) (t ∷ ts) = envelope s c t 0 ∷ listed ss cs ts
+
+-- the first n of an array of most-ops envelopes: all of them where n exceeds their number
+pub take-fewer : (es : List Envelope) (n : ℕ) → length es ≡ most-ops → take (min n most-ops) es ≡ take n es
+take-fewer es n l = go (leb n most-ops) refl
+  where
+    go : (b : Bool) → leb n most-ops ≡ b → take (min n most-ops) es ≡ take n es
+    go true h = let e : min n most-ops ≡ n = omega (arith, leb-true n most-ops h) in ap (λ (k : ℕ). take k es) e
+    go false h =
+        let more : most-ops ≤ n = omega (arith, leb-false n most-ops h) in
+        let e : min n most-ops ≡ most-ops = omega (arith, more) in
+        ap (λ (k : ℕ). take k es) e ∙ (take-all most-ops es (omega (arith, l)) ∙ sym (take-all n es (omega (arith, l, more))))
 
 -- A SEARCH FROM THE FRONT: what it has passed does not fit
 abbrev pub Passed : (Envelope → Bool) → List Envelope → (k : ℕ) → Type 0
@@ -70,13 +88,13 @@ first-nowhere f (e ∷ es) b =
 
 -- so a search through a list finds the definition's place
 module _ (es : List Envelope) (s c t k : ℕ) where
-  pub found-here : k < length es → Passed (λ e. envelope-fits e s c t) es k → envelope-fits (getD es k (envelope 0 0 0 0)) s c t ≡ true → At k ≡ earliest-fit es s c t
+  pub found-here : k < length es → Passed (λ e. fits-receive e s c t) es k → fits-receive (getD es k (envelope 0 0 0 0)) s c t ≡ true → At k ≡ earliest-fit es s c t
   unfolding earliest-fit
-  found-here l b h = first-here (λ e. envelope-fits e s c t) es k l b h
+  found-here l b h = first-here (λ e. fits-receive e s c t) es k l b h
 
-  pub found-nowhere : length es ≤ k → Passed (λ e. envelope-fits e s c t) es k → Nothing ≡ earliest-fit es s c t
+  pub found-nowhere : length es ≤ k → Passed (λ e. fits-receive e s c t) es k → Nothing ≡ earliest-fit es s c t
   unfolding earliest-fit
-  found-nowhere l b = first-nowhere (λ e. envelope-fits e s c t) es (λ j h. b j (omega arith))
+  found-nowhere l b = first-nowhere (λ e. fits-receive e s c t) es (λ j h. b j (omega arith))
 
 -- the list of three slices of one length, place by place
 pub listed-length : (ss cs ts : List ℕ) → length cs ≡ length ss → length ts ≡ length ss → length (listed ss cs ts) ≡ length ss
@@ -96,13 +114,13 @@ listed-at (s ∷ ss) (c ∷ cs) (t ∷ ts) (suc k) p q l = listed-at ss cs ts k 
 
 -- so does a search through the slices
 module _ (ss cs ts : List ℕ) (p : length cs ≡ length ss) (q : length ts ≡ length ss) (s c t k : ℕ) where
-  pub searched-here : k < length ss → Passed (λ e. envelope-fits e s c t) (listed ss cs ts) k → envelope-fits (envelope (getD ss k 0) (getD cs k 0) (getD ts k 0) 0) s c t ≡ true → At k ≡ earliest-fit (listed ss cs ts) s c t
+  pub searched-here : k < length ss → Passed (λ e. fits-receive e s c t) (listed ss cs ts) k → fits-receive (envelope (getD ss k 0) (getD cs k 0) (getD ts k 0) 0) s c t ≡ true → At k ≡ earliest-fit (listed ss cs ts) s c t
   searched-here l b h =
       found-here (listed ss cs ts) s c t k (subst (λ (n : ℕ). k < n) (sym (listed-length ss cs ts p q)) l) b
-      (ap (λ (e : Envelope). envelope-fits e s c t) (sym (listed-at ss cs ts k p q l)) ∙ h)
+      (ap (λ (e : Envelope). fits-receive e s c t) (sym (listed-at ss cs ts k p q l)) ∙ h)
 
-  pub searched-on : k < length ss → Passed (λ e. envelope-fits e s c t) (listed ss cs ts) k → envelope-fits (envelope (getD ss k 0) (getD cs k 0) (getD ts k 0) 0) s c t ≡ false → Passed (λ e. envelope-fits e s c t) (listed ss cs ts) (k + 1)
-  searched-on l b h = passed-on (λ e. envelope-fits e s c t) (listed ss cs ts) k b (ap (λ (e : Envelope). envelope-fits e s c t) (sym (listed-at ss cs ts k p q l)) ∙ h)
+  pub searched-on : k < length ss → Passed (λ e. fits-receive e s c t) (listed ss cs ts) k → fits-receive (envelope (getD ss k 0) (getD cs k 0) (getD ts k 0) 0) s c t ≡ false → Passed (λ e. fits-receive e s c t) (listed ss cs ts) (k + 1)
+  searched-on l b h = passed-on (λ e. fits-receive e s c t) (listed ss cs ts) k b (ap (λ (e : Envelope). fits-receive e s c t) (sym (listed-at ss cs ts k p q l)) ∙ h)
 
-  pub searched-nowhere : length ss ≤ k → Passed (λ e. envelope-fits e s c t) (listed ss cs ts) k → Nothing ≡ earliest-fit (listed ss cs ts) s c t
+  pub searched-nowhere : length ss ≤ k → Passed (λ e. fits-receive e s c t) (listed ss cs ts) k → Nothing ≡ earliest-fit (listed ss cs ts) s c t
   searched-nowhere l b = found-nowhere (listed ss cs ts) s c t k (subst (λ (n : ℕ). n ≤ k) (sym (listed-length ss cs ts p q)) l) b

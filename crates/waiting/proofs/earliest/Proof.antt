@@ -51,7 +51,7 @@ use denote.Exit.{yes}
 use Rattle.waiting.specs.declared.Envelope.{Envelope}
 use Rattle.waiting.specs.declared.Found.{Found}
 use Rattle.waiting.specs.declared.Found.the-variants.{Nothing, At as At-place}
-use Rattle.waiting.specs.Envelopes.{envelope, envelope-fits, earliest-fit, Passed, passed-on, found-here, found-nowhere}
+use Rattle.waiting.specs.Envelopes.{envelope, fits-receive, earliest-fit, Passed, passed-on, found-here, found-nowhere}
 use Rattle.waiting.proofs.Envelope as T
 use Rattle.waiting.proofs.Envelope.Laws as T′
 use Rattle.waiting.proofs.Found as F
@@ -111,8 +111,8 @@ module _ {M : Type 1} (𝓤 : URA M) (H : Heap 𝓤) (A : Atoms 𝓤) (at-mem : 
   abbrev Fits : Contract 𝓤
   Fits = tripleOf 𝓤 H A callee.signature (callee.spec 𝓤 H A at-mem run)
 
-  fits-of : (e : Envelope) (s c t : ℕ) (r : Bool) → ent 𝓤 (ensured 𝓤 H A callee.ended (callee.clauses 𝓤 H A at-mem run) tt (e, (s, (c, (t, tt)))) tt r) (fact 𝓤 (r ≡ envelope-fits e s c t))
-  fits-of e s c t r = exE 𝓤 _ (λ ws. snd∗ 𝓤 (sem 𝓤 H A (lasts callee.ended tt (e, (s, (c, (t, tt)))) ws)) (fact 𝓤 (r ≡ envelope-fits e s c t)))
+  fits-of : (e : Envelope) (s c t : ℕ) (r : Bool) → ent 𝓤 (ensured 𝓤 H A callee.ended (callee.clauses 𝓤 H A at-mem run) tt (e, (s, (c, (t, tt)))) tt r) (fact 𝓤 (r ≡ fits-receive e s c t))
+  fits-of e s c t r = exE 𝓤 _ (λ ws. snd∗ 𝓤 (sem 𝓤 H A (lasts callee.ended tt (e, (s, (c, (t, tt)))) ws)) (fact 𝓤 (r ≡ fits-receive e s c t)))
 
 module _ {M : Type 1} (𝓤 : URA M) (H : Heap 𝓤) (A : Atoms 𝓤) (W : Given 𝓤 H A) (at-mem : Memory → SProp 𝓤) (run : Routine → Fun 𝓤) (κ : Lft) (q : Share) (b o : ℕ) (γ : GName) (ys : List Envelope) (s c t : ℕ) (fs : s < 2 ^ 64) (fc : c < 2 ^ 64) (ft : t < 2 ^ 64) (room : Room T.the-row (length ys)) where
   abbrev n : ℕ
@@ -135,7 +135,7 @@ module _ {M : Type 1} (𝓤 : URA M) (H : Heap 𝓤) (A : Atoms 𝓤) (W : Given
   nth k = getD ys k (envelope 0 0 0 0)
 
   abbrev fit : Envelope → Bool
-  fit e = envelope-fits e s c t
+  fit e = fits-receive e s c t
 
   abbrev Post : Val → SProp 𝓤
   Post = walkOf 𝓤 H A earliest.ended stayed (earliest.clauses 𝓤 H A at-mem run) .post (((κ, tt), (q, tt), tt, x, at), tt)
