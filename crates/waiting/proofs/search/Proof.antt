@@ -1,6 +1,5 @@
 -- `waiting::search` meets its contract. The loop's invariant: none of the i passed fits. The measure is how many are left.
 -- Assumes nothing.
-use mathlib.Core.Path.{_∙_, sym}
 use Prim.Native.Nat.{_≤_, _-_}
 use native.Mathlib.Omega.{arith}
 use lib.ListN.{length}
@@ -44,7 +43,8 @@ returns c =
     let a = c .before .before .before .before .before .before .before .before .before .before .args in
     let p = c .before .before .before .before .before .before .before .before .before .before .pre in
     let l = c .before .before .before .before .before .before .loop in
-    searched-here (a .sources .now) (a .communicators .now) (a .tags .now) (p .0) (p .1) (a .source) (a .communicator) (a .tag) (l .i) (c .before .before .before .before .before .loop-test .taken) (l .inv .1) (sym (c .before .envelope-fits .ensures) ∙ c .if1 .taken)
+    searched-here (a .sources .now) (a .communicators .now) (a .tags .now) (p .0) (p .1) (a .source) (a .communicator) (a .tag) (l .i)
+    (c .before .before .before .before .before .loop-test .taken) (l .inv .1) (c .before .envelope-fits .ensures) (c .if1 .taken)
 
 add-i : tie.Need-add-i Inv-loop μ-loop
 add-i c = search needs
@@ -57,14 +57,18 @@ loop-again c =
     let a = c .before .before .before .before .before .before .before .before .before .before .args in
     let p = c .before .before .before .before .before .before .before .before .before .before .pre in
     let l = c .before .before .before .before .before .before .loop in
-    (omega arith, searched-on (a .sources .now) (a .communicators .now) (a .tags .now) (p .0) (p .1) (a .source) (a .communicator) (a .tag) (l .i) (c .before .before .before .before .before .loop-test .taken) (l .inv .1) (sym (c .before .envelope-fits .ensures) ∙ c .if1 .left))
+    let on =
+        searched-on (a .sources .now) (a .communicators .now) (a .tags .now) (p .0) (p .1) (a .source) (a .communicator) (a .tag) (l .i)
+        (c .before .before .before .before .before .loop-test .taken) (l .inv .1) (c .before .envelope-fits .ensures) (c .if1 .left) in
+    (omega arith, on)
 
 returns-2 : tie.Need-returns-2 Inv-loop μ-loop
 returns-2 c =
     let a = c .before .before .before .before .before .args in
     let p = c .before .before .before .before .before .pre in
     let l = c .before .loop in
-    searched-nowhere (a .sources .now) (a .communicators .now) (a .tags .now) (p .0) (p .1) (a .source) (a .communicator) (a .tag) (l .i) (c .loop-test .left) (l .inv .1)
+    searched-nowhere (a .sources .now) (a .communicators .now) (a .tags .now) (p .0) (p .1) (a .source) (a .communicator) (a .tag) (l .i)
+    (c .loop-test .left) (l .inv .1)
 
 pub search-spec : {M : Type 1} → statement M
 search-spec =
