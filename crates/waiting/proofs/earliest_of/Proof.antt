@@ -101,14 +101,16 @@ module _ {M : Type 1} (𝓤 : URA M) (H : Heap 𝓤) (A : Atoms 𝓤) (W : Given
   cuts zero es o = qed W (‵ (rowOf es o) ∷ []) ∵ nothing ! $ done !
   cuts (suc k) [] o = qed W (‵ (rowOf [] o) ∷ []) ∵ nothing ! $ done !
   cuts (suc k) (e ∷ es) o =
-      qed W (‵ (partAt T.the-row fullShare e b o) ∷ ‵ (rowOf es (o + S)) ∷ []) ∵ move ! (1 ∷ []) $ use1 W (‵ (rowOf (take k es) (o + S)) ⊛ ‵ (rowOf (drop-list k es) (place S (o + S) k))) (cuts k es (o + S)) $
+      qed W (‵ (partAt T.the-row fullShare e b o) ∷ ‵ (rowOf es (o + S)) ∷ []) ∵ move ! (1 ∷ []) $
+      use1 W (‵ (rowOf (take k es) (o + S)) ⊛ ‵ (rowOf (drop-list k es) (place S (o + S) k))) (cuts k es (o + S)) $
       split ! $ move ! (2 ∷ 0 ∷ []) $ fjoin ! $ done !
 
   pastes : (k : ℕ) (es : List Envelope) (o : ℕ) → ent 𝓤 (sep 𝓤 (sem 𝓤 H A (rowOf (take k es) o)) (sem 𝓤 H A (rowOf (drop-list k es) (place S o k)))) (sem 𝓤 H A (rowOf es o))
   pastes zero es o = qed W (‵ (rowOf [] o) ∷ ‵ (rowOf es o) ∷ []) ∵ drop ! $ done !
   pastes (suc k) [] o = qed W (‵ (rowOf [] o) ∷ ‵ (rowOf [] (place S o (suc k))) ∷ []) ∵ drop ! $ done !
   pastes (suc k) (e ∷ es) o =
-      qed W (‵ (rowOf (e ∷ take k es) o) ∷ ‵ (rowOf (drop-list k es) (place S (o + S) k)) ∷ []) ∵ fsplit ! $ move ! (1 ∷ 2 ∷ []) $ use2 W (‵ (rowOf es (o + S))) (pastes k es (o + S)) $
+      qed W (‵ (rowOf (e ∷ take k es) o) ∷ ‵ (rowOf (drop-list k es) (place S (o + S) k)) ∷ []) ∵ fsplit ! $ move ! (1 ∷ 2 ∷ []) $
+      use2 W (‵ (rowOf es (o + S))) (pastes k es (o + S)) $
       move ! (1 ∷ 0 ∷ []) $ fjoin ! $ done !
 
 -- a local that holds an array, as memory whose first k envelopes can be lent, and back
@@ -133,7 +135,8 @@ module _ {M : Type 1} (𝓤 : URA M) (H : Heap 𝓤) (A : Atoms 𝓤) (W : Given
   cell-of e =
       qed W (‵ Front ∷ ‵ Back ∷ []) ∵ fsplit ! $ drop ! $ use2 W (‵ (rowOf 𝓤 H A W l es 0)) (pastes 𝓤 H A W l k es 0) $ feqI ! ℕ (length es) most-ops e $ fjoin ! $
       use1 W (‵ (partAt R fullShare es l 0)) (array-whole 𝓤 H A W T.the-row fullShare most-ops es l 0) $ fpick ! (λ vs. fsplit ! $
-      spelt ! R (Is R) (shows 𝓤 H A R) vals tells fullShare es vs l 0 $ move ! (1 ∷ []) $ drop ! $ use1 W (‵ (fat fullShare ty l 0 (val es))) (W .laws .raw-at fullShare ty l 0 (val es)) $ done !)
+      spelt ! R (Is R) (shows 𝓤 H A R) vals tells fullShare es vs l 0 $ move ! (1 ∷ []) $ drop ! $
+      use1 W (‵ (fat fullShare ty l 0 (val es))) (W .laws .raw-at fullShare ty l 0 (val es)) $ done !)
 
 module _ {M : Type 1} (𝓤 : URA M) (H : Heap 𝓤) (A : Atoms 𝓤) (at-mem : Memory → SProp 𝓤) (run : Routine → Fun 𝓤) where
   -- the contracts that the proof cites, and of their `ensured` the clause alone
@@ -192,8 +195,11 @@ module _ {M : Type 1} (𝓤 : URA M) (H : Heap 𝓤) (A : Atoms 𝓤) (W : Given
   goes-count : ent 𝓤 (emp 𝓤) (Count 𝓤 H A at-mem run .pre to-count)
   goes-count = qed W [] ∵ nothing ! $ owned ! usize (Is usize) (uint-makes 𝓤 H A W w64) n _ (refl, fn) $ fjoin ! $ nothing ! $ join ! $ frame ! $ done !
 
+  abbrev asked : List Val × (List Val × (List Val × Unit {0}))
+  asked = (vint w64 s ∷ [], (vint w64 c ∷ [], (vint w64 t ∷ [], tt)))
+
   abbrev to : (l α : ℕ) → GName → Earliest 𝓤 H A at-mem run .Ghost
-  to l α δ = (((α ∷ [], tt), (fullShare, tt), tt, arg 𝓤 H A at-mem run l δ ys s c t, (sliceVal (l, 0) (length ys) ∷ [], (vint w64 s ∷ [], (vint w64 c ∷ [], (vint w64 t ∷ [], tt))))), tt)
+  to l α δ = (((α ∷ [], tt), (fullShare, tt), tt, arg 𝓤 H A at-mem run l δ ys s c t, (sliceVal (l, 0) (length ys) ∷ [], asked)), tt)
 
   abbrev own-at : (l α : ℕ) → GName → Fml
   own-at l α δ = ShrSlice (named 0) (α ∷ []) T.the-row .own (record { ptr = (l, 0); name = δ; now = ys }) (sliceVal (l, 0) (length ys) ∷ [])
@@ -204,19 +210,22 @@ module _ {M : Type 1} (𝓤 : URA M) (H : Heap 𝓤) (A : Atoms 𝓤) (W : Given
       owned ! usize (Is usize) (uint-makes 𝓤 H A W w64) c _ (refl, fc) $ fjoin ! $ owned ! usize (Is usize) (uint-makes 𝓤 H A W w64) s _ (refl, fs) $ fjoin ! $
       move ! (2 ∷ 0 ∷ []) $ fjoin ! $ nothing ! $ move ! (2 ∷ 0 ∷ 1 ∷ []) $ join ! $ join ! $ frame ! $ done !
 
-  module _ (C : Calls 𝓤 H) (Λ : Loops 𝓤 H) (fm : FmC 𝓤 H (W .laws) C) (counted : Triple 𝓤 (C #counter) (Count 𝓤 H A at-mem run)) (known : Triple 𝓤 (C #callee) (Earliest 𝓤 H A at-mem run)) where
+  module _ (C : Calls 𝓤 H) (Λ : Loops 𝓤 H) (fm : FmC 𝓤 H (W .laws) C)
+      (counted : Triple 𝓤 (C #counter) (Count 𝓤 H A at-mem run)) (known : Triple 𝓤 (C #callee) (Earliest 𝓤 H A at-mem run)) where
     walk : ent 𝓤 (onEntry 𝓤 H A earliest-of.signature tt tt x at) (WpFn 𝓤 H C Λ code.function args Post)
     walk =
         qed W (‵ ftrue ∷ ‵ (owns (R ∷ usize ∷ usize ∷ usize ∷ usize ∷ []) x at) ∷ []) ∵ drop ! $ drop ! $ enter ! C Λ code.function args _ $
-        alloc1 ! (λ l₀. alloc1 ! (λ l₁. alloc1 ! (λ l₂. alloc1 ! (λ l₃. alloc1 ! (λ l₄. alloc1 ! (λ l₅. alloc1 ! (λ l₆. alloc1 ! (λ l₇. alloc1 ! (λ l₈. alloc1 ! (λ l₉. alloc0 ! $ params1 ! $
+        alloc1 ! (λ l₀. alloc1 ! (λ l₁. alloc1 ! (λ l₂. alloc1 ! (λ l₃. alloc1 ! (λ l₄. alloc1 ! (λ l₅. alloc1 ! (λ l₆. alloc1 ! (λ l₇.
+        alloc1 ! (λ l₈. alloc1 ! (λ l₉. alloc0 ! $ params1 ! $
         pass1 ! (init ! 16 refl typed) $ pass1 ! (init ! 14 refl (tt, record { fits = fn })) $ pass1 ! (init ! 12 refl (tt, record { fits = fs })) $
         pass1 ! (init ! 10 refl (tt, record { fits = fc })) $ pass1 ! (init ! 8 refl (tt, record { fits = ft })) $ pass0 ! $
         -- [_9; …; _8; …; _7; …; _6; …; _5; …; _4; …; _3; …; _2; …; _1; …; _0; …]
         assigns ! (of-opd ! (load ! (from ! (stop !)) (look ! 16 refl))) (from ! (stop !)) (init ! 6 refl typed) $
         use0 W (raw (Count 𝓤 H A at-mem run .pre to-count)) goes-count $
         calls-at ! fm (Count 𝓤 H A at-mem run) counted to-count (and-then ! (load ! (from ! (stop !)) (look ! 15 refl)) (no-more !)) (λ w.
-        use1 W (later (some (λ (m : ℕ). (‵ ftrue ⊛ ‵ (usize .own m (w ∷ []))) ⊛ raw (ensured 𝓤 H A counter.ended (counter.clauses 𝓤 H A at-mem run) tt (n, tt) tt m)))) (id⊢ 𝓤 _) $
-        await ! tt $ pick ! (λ m. split ! $ move ! (1 ∷ []) $ use1 W (raw (fact 𝓤 (m ≡ k))) (count-of 𝓤 H A at-mem run n m) $ heard ! (m ≡ k) (λ few. split ! $ drop ! $
+        use1 W (later (some (λ (m : ℕ). (‵ ftrue ⊛ ‵ (usize .own m (w ∷ []))) ⊛ raw (ensured 𝓤 H A counter.ended (counter.clauses 𝓤 H A at-mem run) tt (n, tt) tt m))))
+        (id⊢ 𝓤 _) $ await ! tt $ pick ! (λ m. split ! $ move ! (1 ∷ []) $ use1 W (raw (fact 𝓤 (m ≡ k))) (count-of 𝓤 H A at-mem run n m) $
+        heard ! (m ≡ k) (λ few. split ! $ drop ! $
         peeks ! usize (Is usize) (shows 𝓤 H A usize) m (w ∷ []) (λ is-m. drop ! $
         land ! (from ! (stop !)) (init ! 4 refl (subst (λ (y : Val). Holds (hasTy (tyInt w64) y) × WT y) (sym (ap only (is-m .0))) (tt, record { fits = is-m .1 }))) $
         rewrite ! 4 (λ (y : Val). ‵ (fat fullShare (tyInt w64) l₇ 0 y)) (ap only (is-m .0) ∙ ap (vint w64) few) refl $
@@ -225,7 +234,8 @@ module _ {M : Type 1} (𝓤 : URA M) (H : Heap 𝓤) (A : Atoms 𝓤) (W : Given
         (init ! 0 refl (tt, (tt, (record { fits = fk }, tt)))) $
         rewrite ! 0 (λ (m : ℕ). ‵ (fat fullShare (sliceTy (tyRef erased imm (pointee (T.the-row .written)))) l₉ 0 (sliceVal (l₆, 0) m))) (sym long) refl $
         move ! (6 ∷ []) $ use1 W (‵ (Front 𝓤 H A W es l₆ k) ⊛ ‵ (Back 𝓤 H A W es l₆ k)) (apart-of 𝓤 H A W es l₆ k is-es) $ split ! $ lft-new ! tt (λ α. move ! (1 ∷ []) $
-        use1 W (later (some (λ (δ : GName). ‵ (own-at l₆ α δ) ⊛ ‵ (flent (α ∷ []) (Front 𝓤 H A W es l₆ k))))) (lends-shr-slice 𝓤 H A W T.the-row (named 0) (α ∷ []) fullShare ys l₆ 0 room) $
+        use1 W (later (some (λ (δ : GName). ‵ (own-at l₆ α δ) ⊛ ‵ (flent (α ∷ []) (Front 𝓤 H A W es l₆ k)))))
+        (lends-shr-slice 𝓤 H A W T.the-row (named 0) (α ∷ []) fullShare ys l₆ 0 room) $
         await ! tt $ pick ! (λ δ. split ! $ move ! (2 ∷ 0 ∷ []) $ use2 W (raw (Earliest 𝓤 H A at-mem run .pre (to l₆ α δ))) (goes-to l₆ α δ) $
         -- [what earliest asks; the lender's part; the others; _9; …; _8; …; _7; …; … of _6; _5; …; _4; …; _3; …; _2; …; _1; …; _0; …]
         calls-at ! fm (Earliest 𝓤 H A at-mem run) known (to l₆ α δ) (and-then ! (load ! (from ! (stop !)) (look ! 3 refl)) (and-then ! (load ! (from ! (stop !)) (look ! 14 refl))

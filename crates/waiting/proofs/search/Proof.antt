@@ -57,9 +57,8 @@ loop-again c =
     let a = c .before .before .before .before .before .before .before .before .before .before .args in
     let p = c .before .before .before .before .before .before .before .before .before .before .pre in
     let l = c .before .before .before .before .before .before .loop in
-    let on =
-        searched-on (a .sources .now) (a .communicators .now) (a .tags .now) (p .0) (p .1) (a .source) (a .communicator) (a .tag) (l .i)
-        (c .before .before .before .before .before .loop-test .taken) (l .inv .1) (c .before .envelope-fits .ensures) (c .if1 .left) in
+    let on = searched-on (a .sources .now) (a .communicators .now) (a .tags .now) (p .0) (p .1) (a .source) (a .communicator) (a .tag) (l .i)
+    (c .before .before .before .before .before .loop-test .taken) (l .inv .1) (c .before .envelope-fits .ensures) (c .if1 .left) in
     (omega arith, on)
 
 returns-2 : tie.Need-returns-2 Inv-loop μ-loop
