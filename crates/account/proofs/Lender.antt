@@ -76,25 +76,25 @@ module _ {M : Type 1} (𝓤 : URA M) (H : Heap 𝓤) (A : Atoms 𝓤) (W : Given
   pub record Moves (C : Calls 𝓤 H) (f : Name) (h : Account) (n : ℕ) (v : Val) (k : Account) : Type 2 where
     pub After : (l α : ℕ) → GName → Val → SProp 𝓤
     pub met : (l α : ℕ) (δ : GName) → ent 𝓤 (sep 𝓤 (A .lft (α ∷ []) fullShare) (sem 𝓤 H A (own-at l α δ h))) (C f (vptr l 0 ∷ vint w64 n ∷ []) (After l α δ))
-    pub leaves : (l α : ℕ) (δ : GName) (u : Val) → ent 𝓤 (After l α δ u) (H .⇛ (guard 𝓤 (u ≡ v) (sep 𝓤 (A .lft (α ∷ []) fullShare) (A .res δ (T.the-row .coded .code k)))))
+    pub leaves : (l α : ℕ) (δ : GName) (got : Val) → ent 𝓤 (After l α δ got) (H .⇛ (guard 𝓤 (got ≡ v) (sep 𝓤 (A .lft (α ∷ []) fullShare) (A .res δ (T.the-row .coded .code k)))))
 
   module _ {C : Calls 𝓤 H} {Λ : Loops 𝓤 H} {E : Env 𝓤 H} {q : Post 𝓤 H} {d : Place} {rest : Body} {f : Name} {xs : List Opd} {Γ : List (Item 𝓤)} where
     pub lends : FmC 𝓤 H (W .laws) C → (l : ℕ) (h : Account) (n : ℕ) (v : Val) (k : Account) → Moves C f h n v k → Is T.the-row h (vals h)
         → ((i j : Item 𝓤) → Opds (Go {0}) W (i ∷ j ∷ Γ) E xs (vptr l 0 ∷ vint w64 n ∷ []))
-        → (Is T.the-row k (vals k) → (u : Val) → u ≡ v → Sq W (‵ (fat fullShare T′.mir l 0 (val k)) ∷ Γ) (lands C Λ E d u rest q))
+        → (Is T.the-row k (vals k) → (got : Val) → got ≡ v → Sq W (‵ (fat fullShare T′.mir l 0 (val k)) ∷ Γ) (lands C Λ E d got rest q))
         → Sq W (‵ (fat fullShare T′.mir l 0 (val h)) ∷ Γ) (runs C Λ E (seq (call f xs d) rest) q)
     lends fm l h n v k moves is reads on =
         use1 W (‵ (mem T.the-row .lies h l 0)) (lies-of h l is) $ lft-new ! tt (λ α. move ! (1 ∷ []) $
         use1 W (later (some (λ (δ : GName). ‵ (own-at l α δ h) ⊛ ‵ (flent (α ∷ []) (Holds (mem T.the-row) l 0 δ))))) (lends-ref 𝓤 H A W T.the-row (named 0) (α ∷ []) h l 0) $
         await ! tt $ pick ! (λ δ. split ! $ move ! (2 ∷ 0 ∷ []) $ join ! $
-        calls-from ! fm (‵ (flft (α ∷ []) fullShare) ⊛ ‵ (own-at l α δ h)) (vptr l 0 ∷ vint w64 n ∷ []) (moves .After l α δ) (moves .met l α δ) (reads _ _) (λ u.
-        use1 W (later (given (u ≡ v) (‵ (flft (α ∷ []) fullShare) ⊛ ‵ (fres δ (T.the-row .coded .code k))))) (moves .leaves l α δ u) $ await ! tt $ learn ! (λ e. split ! $
+        calls-from ! fm (‵ (flft (α ∷ []) fullShare) ⊛ ‵ (own-at l α δ h)) (vptr l 0 ∷ vint w64 n ∷ []) (moves .After l α δ) (moves .met l α δ) (reads _ _) (λ got.
+        use1 W (later (given (got ≡ v) (‵ (flft (α ∷ []) fullShare) ⊛ ‵ (fres δ (T.the-row .coded .code k))))) (moves .leaves l α δ got) $ await ! tt $ learn ! (λ e. split ! $
         lft-end ! tt $ move ! (0 ∷ 2 ∷ 1 ∷ []) $
         use3 W (later (‵ (mem T.the-row .lies k l 0))) (ref-back 𝓤 H A W T.the-row (α ∷ []) δ k l 0) $ await ! tt $
-        use1 W (given (Is T.the-row k (vals k)) (‵ (fat fullShare T′.mir l 0 (val k)))) (cell-of k l) $ learn ! (λ was. on was u e)))))
+        use1 W (given (Is T.the-row k (vals k)) (‵ (fat fullShare T′.mir l 0 (val k)))) (cell-of k l) $ learn ! (λ was. on was got e)))))
 
   -- a callee's contract whose `ensures` is Q of the account's last value and of the answer, which is of the type R
-  module _ (R : RattleType) (spell : R .Denot → Val) (tells : (y : R .Denot) (u : Val) → Is R y (u ∷ []) → u ≡ spell y) (Q : Account → R .Denot → Type 0) where
+  module _ (R : RattleType) (spell : R .Denot → Val) (tells : (y : R .Denot) (got : Val) → Is R y (got ∷ []) → got ≡ spell y) (Q : Account → R .Denot → Type 0) where
     abbrev Args : (l α : ℕ) → GName → Account → ℕ → Fml
     Args l α δ h n = owns (MutRef (named 0) (α ∷ []) T.the-row ∷ usize ∷ []) (ref-at l δ h, (n, tt)) (vptr l 0 ∷ [], (vint w64 n ∷ [], tt))
 
@@ -105,17 +105,17 @@ module _ {M : Type 1} (𝓤 : URA M) (H : Heap 𝓤) (A : Atoms 𝓤) (W : Given
     Ensured δ y = ex 𝓤 (λ (ws : Account × (Unit {0} × Unit {0})). sep 𝓤 (sep 𝓤 (A .res δ (T.the-row .coded .code (ws .0))) (sep 𝓤 (emp 𝓤) (emp 𝓤))) (fact 𝓤 (Q (ws .0) y)))
 
     abbrev pub Answered : (α : ℕ) → GName → Val → SProp 𝓤
-    Answered α δ u = H .⇛ (ex 𝓤 (λ (y : R .Denot). sep 𝓤 (sep 𝓤 (sep 𝓤 (A .lft (α ∷ []) fullShare) (emp 𝓤)) (sem 𝓤 H A (R .own y (u ∷ [])))) (Ensured δ y)))
+    Answered α δ got = H .⇛ (ex 𝓤 (λ (y : R .Denot). sep 𝓤 (sep 𝓤 (sep 𝓤 (A .lft (α ∷ []) fullShare) (emp 𝓤)) (sem 𝓤 H A (R .own y (got ∷ [])))) (Ensured δ y)))
 
     module _ (k : Account) (z : R .Denot) (fixed : (w : Account) (y : R .Denot) → Q w y → (w ≡ k) × (y ≡ z)) where
       ends : (δ : GName) (y : R .Denot) → ent 𝓤 (Ensured δ y) (guard 𝓤 (y ≡ z) (A .res δ (T.the-row .coded .code k)))
       ends δ y = exE 𝓤 _ (λ ws.
-          let L : Account → SProp 𝓤 = λ w. A .res δ (T.the-row .coded .code w) in
-          let P : SProp 𝓤 = sep 𝓤 (L (ws .0)) (sep 𝓤 (emp 𝓤) (emp 𝓤)) in
-          fact-use 𝓤 (Q (ws .0) y) (snd∗ 𝓤 P (fact 𝓤 (Q (ws .0) y))) (λ e.
+          let Last : Account → SProp 𝓤 = λ w. A .res δ (T.the-row .coded .code w) in
+          let Lasts : SProp 𝓤 = sep 𝓤 (Last (ws .0)) (sep 𝓤 (emp 𝓤) (emp 𝓤)) in
+          fact-use 𝓤 (Q (ws .0) y) (snd∗ 𝓤 Lasts (fact 𝓤 (Q (ws .0) y))) (λ e.
           let f : (ws .0 ≡ k) × (y ≡ z) = fixed (ws .0) y e in
-          subst (λ (w : Account). ent 𝓤 (sep 𝓤 P (fact 𝓤 (Q (ws .0) y))) (guard 𝓤 (y ≡ z) (L w))) (f .0)
-          (via 𝓤 P (fst∗ 𝓤 P (fact 𝓤 (Q (ws .0) y))) (via 𝓤 (L (ws .0)) (fst∗ 𝓤 (L (ws .0)) (sep 𝓤 (emp 𝓤) (emp 𝓤))) (guardI 𝓤 (y ≡ z) (L (ws .0)) (f .1))))))
+          subst (λ (w : Account). ent 𝓤 (sep 𝓤 Lasts (fact 𝓤 (Q (ws .0) y))) (guard 𝓤 (y ≡ z) (Last w))) (f .0)
+          (via 𝓤 Lasts (fst∗ 𝓤 Lasts (fact 𝓤 (Q (ws .0) y))) (via 𝓤 (Last (ws .0)) (fst∗ 𝓤 (Last (ws .0)) (sep 𝓤 (emp 𝓤) (emp 𝓤))) (guardI 𝓤 (y ≡ z) (Last (ws .0)) (f .1))))))
 
       pub moves-by : {C : Calls 𝓤 H} {f : Name} {h : Account} {n : ℕ} → n < 2 ^ 64
           → ((l α : ℕ) (δ : GName) → ent 𝓤 (Passed l α δ h n) (C f (vptr l 0 ∷ vint w64 n ∷ []) (Answered α δ))) → Moves C f h n (spell z) k
@@ -124,11 +124,11 @@ module _ {M : Type 1} (𝓤 : URA M) (H : Heap 𝓤) (A : Atoms 𝓤) (W : Given
         met = λ l α δ. via 𝓤 (Passed l α δ h n)
             (qed W (‵ (flft (α ∷ []) fullShare) ∷ ‵ (own-at l α δ h) ∷ []) ∵ nothing ! $ owned ! usize (Is usize) (uint-makes 𝓤 H A W w64) n _ (refl, fits) $ fjoin ! $
             move ! (2 ∷ 0 ∷ []) $ fjoin ! $ nothing ! $ move ! (2 ∷ 0 ∷ 1 ∷ []) $ join ! $ join ! $ frame ! $ done !) (known l α δ);
-        leaves = λ l α δ u.
-            qed W (later (some (λ (y : R .Denot). ((‵ (flft (α ∷ []) fullShare) ⊛ ‵ ftrue) ⊛ ‵ (R .own y (u ∷ []))) ⊛ raw (Ensured δ y))) ∷ []) ∵ updating ! $ await ! tt $
+        leaves = λ l α δ got.
+            qed W (later (some (λ (y : R .Denot). ((‵ (flft (α ∷ []) fullShare) ⊛ ‵ ftrue) ⊛ ‵ (R .own y (got ∷ []))) ⊛ raw (Ensured δ y))) ∷ []) ∵ updating ! $ await ! tt $
             pick ! (λ y. split ! $ move ! (1 ∷ []) $ use1 W (given (y ≡ z) (‵ (fres δ (T.the-row .coded .code k)))) (ends δ y) $
             learn ! (λ e. move ! (1 ∷ []) $ split ! $ move ! (1 ∷ []) $
-            peeks ! R (Is R) (shows 𝓤 H A R) y (u ∷ []) (λ is. drop ! $ at-once ! $ check ! (tells y u is ∙ ap spell e) $ split ! $ keep ! (0 ∷ 2 ∷ []) $ done !)));
+            peeks ! R (Is R) (shows 𝓤 H A R) y (got ∷ []) (λ is. drop ! $ at-once ! $ check ! (tells y got is ∙ ap spell e) $ split ! $ keep ! (0 ∷ 2 ∷ []) $ done !)));
       }
 
 -- the four numbers are still there at exit, as they were passed
@@ -187,7 +187,7 @@ module _ {M : Type 1} (𝓤 : URA M) (H : Heap 𝓤) (A : Atoms 𝓤) (W : Given
       (from ! (stop !)) (init ! 4 refl (LL.lawful T.the-type T′.the-laws 𝓤 H A W .typed (account s u p) _ is .0)) $
       assigns ! (addr ! (from ! (stop !))) (from ! (stop !)) (init ! 0 refl (tt, tt)) $ move ! (4 ∷ []) $
       lends 𝓤 H A W fm l₅ (account s u p) n v k moves is
-      (λ i j. and-then ! (load ! (from ! (stop !)) (look ! 2 refl)) (and-then ! (load ! (from ! (stop !)) (look ! 7 refl)) (no-more !))) (λ was w e.
+      (λ i j. and-then ! (load ! (from ! (stop !)) (look ! 2 refl)) (and-then ! (load ! (from ! (stop !)) (look ! 7 refl)) (no-more !))) (λ was got e.
       land ! (from ! (stop !)) (init ! 3 refl (subst (λ (y : Val). Typed (hasTy t₆ y) × WT y) (sym e) typed-v)) $
       rewrite ! 3 (λ (y : Val). ‵ (fat fullShare t₆ l₆ 0 y)) e refl $ on was)
     where

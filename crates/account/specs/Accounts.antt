@@ -11,6 +11,7 @@ use borrow.Author.Tests.{le-leb, lt-leb, leb-true}
 use Rattle.laws.specs.Tests.{same-test}
 use Rattle.account.specs.declared.Account.{Account}
 
+-- an account of plain numbers
 abbrev pub account : (size in-use peak : ℕ) → Account
 account s u p =
     record {
@@ -27,6 +28,7 @@ account-of s q = account s (q .in-use) (q .peak)
 unfoldable pub place-of : Account → Place
 place-of a = place 0 false (a .in_use) (a .peak)
 
+-- room for a charge of n bytes; what a charge leaves, where there is room and where there is none; what a release leaves
 unfoldable pub has-room : Account → (n : ℕ) → Bool
 has-room a n = leb (a .in_use + n) (a .size)
 

@@ -6,6 +6,7 @@ ghost use mathlib.Core.Path.{_≡_};
 ghost use Prim.Native.Nat.{max};
 ghost use Rattle.account.specs.Accounts.{account, has-room, taken, given-back};
 
+// The attached size of a board, and of its place the bytes in use and the peak (document 01, "The report").
 pub struct Account {
     pub size: usize,
     pub in_use: usize,
@@ -18,7 +19,7 @@ pub struct Outcome {
     pub ok: bool,
 }
 
-// In use plus n is at most the size.
+// There is room for n bytes: in use plus n is at most the size.
 pub fn room(a: Account, n: usize) -> bool
     ensures { λ b. ⌜ b ≡ has-room a n ⌝ }
 {
@@ -30,13 +31,13 @@ pub fn room(a: Account, n: usize) -> bool
 }
 
 // The larger of two numbers.
-fn larger(a: usize, b: usize) -> usize
-    ensures { λ v. ⌜ v ≡ max a b ⌝ }
+fn larger(x: usize, y: usize) -> usize
+    ensures { λ v. ⌜ v ≡ max x y ⌝ }
 {
-    if a < b { b } else { a }
+    if x < y { y } else { x }
 }
 
-// n bytes are charged where there is room; else the account is as it was, and the answer says so.
+// An unmatched buffered send of n bytes is charged where there is room; else the account is as it was, and the answer says so.
 pub fn take(a: Account, n: usize) -> Outcome
     ensures { λ r. ⌜ (r .account ≡ taken a n) × (r .ok ≡ has-room a n) ⌝ }
 {
@@ -59,7 +60,7 @@ pub fn take(a: Account, n: usize) -> Outcome
     }
 }
 
-// A charge of n bytes goes; the peak stays.
+// A buffered message of n bytes is matched: its charge goes, the peak stays.
 pub fn give_back(a: Account, n: usize) -> Account
     ensures { λ r. ⌜ r ≡ given-back a n ⌝ }
 {

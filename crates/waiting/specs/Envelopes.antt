@@ -16,6 +16,7 @@ use Rattle.waiting.specs.declared.Envelope.{Envelope}
 use Rattle.waiting.specs.declared.Found.{Found}
 use Rattle.waiting.specs.declared.Found.the-variants.{Nothing, At}
 
+-- an envelope of plain numbers
 abbrev pub envelope : (source communicator tag operation : ℕ) → Envelope
 envelope s c t i =
     record {
@@ -30,7 +31,7 @@ envelope s c t i =
 unfoldable pub envelope-fits : (sender context mark source communicator tag : ℕ) → Bool
 envelope-fits sender context mark s c t = eqb context c && ((eqb s any || eqb s sender) && (eqb t any || eqb t mark))
 
--- of an envelope
+-- the same of an envelope, for a receive that asks for s, c and t
 abbrev pub fits-receive : Envelope → (source communicator tag : ℕ) → Bool
 fits-receive e s c t = envelope-fits (e .source) (e .communicator) (e .tag) s c t
 
@@ -44,6 +45,7 @@ unfoldable pub first-place : (Envelope → Bool) → List Envelope → Found
 first-place f [] = Nothing
 first-place f (e ∷ es) = cond (f e) (At 0) (one-on (first-place f es))
 
+-- the earliest that fits a receive
 unfoldable pub earliest-fit : List Envelope → (source communicator tag : ℕ) → Found
 earliest-fit es s c t = first-place (λ e. fits-receive e s c t) es
 

@@ -15,9 +15,11 @@ use Rattle.waiting.specs.declared.Found.{Found}
 use Rattle.waiting.specs.declared.Found.the-variants.{Nothing, At}
 use Rattle.waiting.specs.Envelopes.{envelope, envelope-fits, fits-receive, one-on, first-place, earliest-fit}
 
+-- the envelope of message m
 unfoldable pub envelope-of : Sheet → (m : ℕ) → Envelope
 envelope-of s m = envelope (rank-of s m) (op s m .comm) (op s m .tag) m
 
+-- the envelopes of those of a list of messages that are addressed to a rank
 unfoldable pub waiting-for : Sheet → (rank : ℕ) → List ℕ → List Envelope
 waiting-for s b [] = []
 waiting-for s b (m ∷ ms) = cond (eqb (op s m .peer) b) (envelope-of s m ∷ waiting-for s b ms) (waiting-for s b ms)

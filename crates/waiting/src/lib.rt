@@ -8,13 +8,13 @@ ghost use lib.ListN.{length, take};
 ghost use Rattle.rules.specs.Limits.{most-ops};
 ghost use Rattle.waiting.specs.Envelopes.{envelope-fits, fits-receive, earliest-fit, listed};
 
-// Any source, any tag ("The sheet, byte by byte").
+// What a receive asks for where it takes any source or any tag (document 01, "The sheet, byte by byte").
 pub const ANY: usize = 65535;
 
-// A waiting list is at most as long as the table of operations: the most operations of a sheet.
+// The most operations of a sheet: no waiting list is longer.
 pub const MOST: usize = 1024;
 
-// Where a message waits: its source, communicator and tag, and the send that it is of.
+// A message that waits: its source, communicator and tag, and the send that it is of.
 pub struct Envelope {
     pub source: usize,
     pub communicator: usize,
@@ -96,7 +96,7 @@ pub fn earliest(list: &[Envelope], source: usize, communicator: usize, tag: usiz
 
 // How many of an array's envelopes wait: the count, or all of them where it exceeds their number.
 fn waiting_of(count: usize) -> usize
-    ensures { λ k. ⌜ k ≡ min count most-ops ⌝ }
+    ensures { λ m. ⌜ m ≡ min count most-ops ⌝ }
 {
     if count < MOST { count } else { MOST }
 }
@@ -111,6 +111,6 @@ pub fn earliest_of(
 ) -> Found
     ensures { λ r. ⌜ r ≡ earliest-fit (take count list) source communicator tag ⌝ }
 {
-    let k = waiting_of(count);
-    earliest(&list[..k], source, communicator, tag)
+    let first = waiting_of(count);
+    earliest(&list[..first], source, communicator, tag)
 }
