@@ -46,10 +46,22 @@ module _ (s : Sheet) (x : Job) where
       rw (room, place-put r (charged (charge-of (op s i)) (place-at x r)) x l) (charged-account (board s r .attached) (charge-of (op s i)) (place-at x r))
 
   -- the account of another board stays as it was
+  place-others : (r b : ℕ) (q : Place) → (b ≡ r → ⊥) → board-account s (with-place r q x) b ≡ board-account s x b
+  unfolding board-account place-at with-place with-places job
+  place-others r b q other = ap (account-of (board s b .attached)) (getD-set-other (x .places) r b q (place 0 false 0 0) other)
+
   pub charge-others : (r i b : ℕ) → (b ≡ r → ⊥) → board-account s (charge s r i x) b ≡ board-account s x b
-  unfolding board-account charge place-at with-place with-places job
-  charge-others r i b other =
-      ap (account-of (board s b .attached)) (getD-set-other (x .places) r b (charged (charge-of (op s i)) (place-at x r)) (place 0 false 0 0) other)
+  unfolding charge
+  charge-others r i b other = place-others r b (charged (charge-of (op s i)) (place-at x r)) other
+
+  pub release-others : (m b : ℕ) → (b ≡ rank-of s m → ⊥) → board-account s (release s m x) b ≡ board-account s x b
+  unfolding release
+  release-others m b other = go (eqb (entry-at x m .state) 2)
+    where
+      go : (buffered : Bool)
+          → board-account s (cond buffered (with-place (rank-of s m) (released (charge-of (op s m)) (place-at x (rank-of s m))) x) x) b ≡ board-account s x b
+      go true = place-others (rank-of s m) b (released (charge-of (op s m)) (place-at x (rank-of s m))) other
+      go false = refl
 
   pub release-moves : (m : ℕ) → rank-of s m < length (x .places) → entry-at x m .state ≡ 2
       → board-account s (release s m x) (rank-of s m) ≡ given-back (board-account s x (rank-of s m)) (charge-of (op s m))
