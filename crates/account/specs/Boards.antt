@@ -8,10 +8,11 @@ use Prim.Native.Nat.{ℕ, _<_}
 use lib.ListN.{length, length-set}
 use lib.Dec.{eqb}
 use borrow.Author.Tests.{ne-eqb}
-use lib.Seq.{getD-set-same}
+use lib.Seq.{getD-set-same, getD-set-other}
 use Rattle.rules.specs.Sheet.{Sheet, board, op, rank-of, is-ready, is-buffered, is-nonblocking}
 use Rattle.rules.specs.Job.{Job, Place, place, job, place-at, entry-at, with-entries, with-places, with-messages, with-receives, with-memory, with-stop}
-use Rattle.rules.specs.Step.{charge-of, charged, released, with-place, charge, release, matched-rows, matched, with-state, pend-message, stopped, one-finished, now-waiting, initiated, fits-buffer, unmatched}
+use Rattle.rules.specs.Step.{charge-of, charged, released, with-place, charge, release, matched-rows, matched}
+use Rattle.rules.specs.Step.{with-state, pend-message, stopped, one-finished, now-waiting, initiated, fits-buffer, unmatched}
 use Rattle.laws.specs.Tests.{decided}
 use Rattle.account.specs.declared.Account.{Account}
 use Rattle.account.specs.Accounts.{account-of, place-of, has-room, taken, given-back, taken-not}
@@ -44,69 +45,100 @@ module _ (s : Sheet) (x : Job) where
       let room : has-room (account-of (board s r .attached) (place-at x r)) (charge-of (op s i)) ≡ true = sym (room-is-board's s r i x) ∙ t in
       rw (room, place-put r (charged (charge-of (op s i)) (place-at x r)) x l) (charged-account (board s r .attached) (charge-of (op s i)) (place-at x r))
 
-  pub release-moves : (m : ℕ) → rank-of s m < length (x .places) → entry-at x m .state ≡ 2 → board-account s (release s m x) (rank-of s m) ≡ given-back (board-account s x (rank-of s m)) (charge-of (op s m))
+  -- the account of another board stays as it was
+  place-others : (r b : ℕ) (q : Place) → (b ≡ r → ⊥) → board-account s (with-place r q x) b ≡ board-account s x b
+  unfolding board-account place-at with-place with-places job
+  place-others r b q other = ap (account-of (board s b .attached)) (getD-set-other (x .places) r b q (place 0 false 0 0) other)
+
+  pub charge-others : (r i b : ℕ) → (b ≡ r → ⊥) → board-account s (charge s r i x) b ≡ board-account s x b
+  unfolding charge
+  charge-others r i b other = place-others r b (charged (charge-of (op s i)) (place-at x r)) other
+
+  pub release-others : (m b : ℕ) → (b ≡ rank-of s m → ⊥) → board-account s (release s m x) b ≡ board-account s x b
+  unfolding release
+  release-others m b other = go (eqb (entry-at x m .state) 2)
+    where
+      go : (buffered : Bool)
+          → board-account s (cond buffered (with-place (rank-of s m) (released (charge-of (op s m)) (place-at x (rank-of s m))) x) x) b ≡ board-account s x b
+      go true = place-others (rank-of s m) b (released (charge-of (op s m)) (place-at x (rank-of s m))) other
+      go false = refl
+
+  pub release-moves : (m : ℕ) → rank-of s m < length (x .places) → entry-at x m .state ≡ 2
+      → board-account s (release s m x) (rank-of s m) ≡ given-back (board-account s x (rank-of s m)) (charge-of (op s m))
   unfolding board-account release
   release-moves m l e =
-      rw (e, place-put (rank-of s m) (released (charge-of (op s m)) (place-at x (rank-of s m))) x l) (released-account (board s (rank-of s m) .attached) (charge-of (op s m)) (place-at x (rank-of s m)))
+      rw (e, place-put (rank-of s m) (released (charge-of (op s m)) (place-at x (rank-of s m))) x l)
+      (released-account (board s (rank-of s m) .attached) (charge-of (op s m)) (place-at x (rank-of s m)))
 
 -- ending the initiating step changes no account, and neither does entering the row of a message
-account-settled : (size : ℕ) (q : Place) (b : Bool) → account-of size (cond b (one-finished q) (now-waiting q)) ≡ account-of size q
+account-settled : (size : ℕ) (q : Place) (nonblocking : Bool) → account-of size (cond nonblocking (one-finished q) (now-waiting q)) ≡ account-of size q
 unfolding account-of one-finished now-waiting place
 account-settled size q true = refl
 account-settled size q false = refl
 
 -- none of these steps adds or removes a place
-pended-in : (x : Job) (r i v : ℕ) → r < length (x .places) → r < length (pend-message i v x .places)
+pended-in : (x : Job) (r i : ℕ) → r < length (x .places) → r < length (pend-message i 2 x .places)
 unfolding pend-message with-messages with-state with-entries job
-pended-in x r i v l = l
+pended-in x r i l = l
 
-charged-in : (s : Sheet) (x : Job) (r i v : ℕ) → r < length (x .places) → r < length (charge s r i (pend-message i v x) .places)
+charged-in : (s : Sheet) (x : Job) (r i : ℕ) → r < length (x .places) → r < length (charge s r i (pend-message i 2 x) .places)
 unfolding charge with-place with-places pend-message with-messages with-state with-entries job
-charged-in s x r i v l = rw (length-set (x .places) r (charged (charge-of (op s i)) (place-at (pend-message i v x) r))) l
+charged-in s x r i l = rw (length-set (x .places) r (charged (charge-of (op s i)) (place-at (pend-message i 2 x) r))) l
 
 module _ (s : Sheet) (x : Job) (r i : ℕ) (l : r < length (x .places)) where
   initiated-account : board-account s (initiated s r i x) r ≡ board-account s x r
   unfolding board-account initiated
-  initiated-account = ap (account-of (board s r .attached)) (place-put r (cond (is-nonblocking (op s i)) (one-finished (place-at x r)) (now-waiting (place-at x r))) x l) ∙ account-settled (board s r .attached) (place-at x r) (is-nonblocking (op s i))
+  initiated-account =
+      ap (account-of (board s r .attached)) (place-put r (cond (is-nonblocking (op s i)) (one-finished (place-at x r)) (now-waiting (place-at x r))) x l)
+      ∙ account-settled (board s r .attached) (place-at x r) (is-nonblocking (op s i))
 
-  pended-fits : (v : ℕ) → fits-buffer s r i (pend-message i v x) ≡ fits-buffer s r i x
+  pended-fits : fits-buffer s r i (pend-message i 2 x) ≡ fits-buffer s r i x
   unfolding fits-buffer pend-message with-messages with-state with-entries job place-at
-  pended-fits v = refl
+  pended-fits = refl
 
-  pended-account : (v : ℕ) → board-account s (pend-message i v x) r ≡ board-account s x r
+  pended-account : board-account s (pend-message i 2 x) r ≡ board-account s x r
   unfolding board-account pend-message with-messages with-state with-entries job place-at
-  pended-account v = refl
+  pended-account = refl
 
-  stopped-account : (v : ℕ) → board-account s (stopped v r i x) r ≡ board-account s x r
+  stopped-account : board-account s (stopped 3 r i x) r ≡ board-account s x r
   unfolding board-account stopped with-stop job place-at
-  stopped-account v = refl
+  stopped-account = refl
 
 module _ (s : Sheet) (x : Job) (r i : ℕ) (l : r < length (x .places)) where
+  abbrev after : Account
+  after = taken (board-account s x r) (charge-of (op s i))
+
+  abbrev unmatched-job : Job
+  unmatched-job = cond (fits-buffer s r i x) (initiated s r i (charge s r i (pend-message i 2 x))) (stopped 3 r i x)
+
   -- a buffered send that no posted receive fits: the account is charged where it has room, and else stays as it was
-  pub unmatched-moves : is-ready (op s i) ≡ false → is-buffered (op s i) ≡ true → board-account s (unmatched s r i x) r ≡ taken (board-account s x r) (charge-of (op s i))
+  pub unmatched-moves : is-ready (op s i) ≡ false → is-buffered (op s i) ≡ true → board-account s (unmatched s r i x) r ≡ after
   unfolding unmatched
-  unmatched-moves n k = rw (n, k) (⊎-elim fits full (decided (fits-buffer s r i x)))
+  unmatched-moves standing buffered = rw (standing, buffered) (⊎-elim fits full (decided (fits-buffer s r i x)))
     where
-      fits : fits-buffer s r i x ≡ true → board-account s (cond (fits-buffer s r i x) (initiated s r i (charge s r i (pend-message i 2 x))) (stopped 3 r i x)) r ≡ taken (board-account s x r) (charge-of (op s i))
+      fits : fits-buffer s r i x ≡ true → board-account s unmatched-job r ≡ after
       fits t =
-          rw t (initiated-account s (charge s r i (pend-message i 2 x)) r i (charged-in s x r i 2 l)
-          ∙ (charge-moves s (pend-message i 2 x) r i (pended-in x r i 2 l) (pended-fits s x r i l 2 ∙ t) ∙ ap (λ (a : Account). taken a (charge-of (op s i))) (pended-account s x r i l 2)))
+          rw t (initiated-account s (charge s r i (pend-message i 2 x)) r i (charged-in s x r i l)
+          ∙ (charge-moves s (pend-message i 2 x) r i (pended-in x r i l) (pended-fits s x r i l ∙ t)
+          ∙ ap (λ (a : Account). taken a (charge-of (op s i))) (pended-account s x r i l)))
 
-      full : fits-buffer s r i x ≡ false → board-account s (cond (fits-buffer s r i x) (initiated s r i (charge s r i (pend-message i 2 x))) (stopped 3 r i x)) r ≡ taken (board-account s x r) (charge-of (op s i))
-      full t = rw t (stopped-account s x r i l 3 ∙ taken-not (board-account s x r) (charge-of (op s i)) (sym (room-is-board's s r i x) ∙ t))
+      full : fits-buffer s r i x ≡ false → board-account s unmatched-job r ≡ after
+      full t = rw t (stopped-account s x r i l ∙ taken-not (board-account s x r) (charge-of (op s i)) (sym (room-is-board's s r i x) ∙ t))
 
--- a match of message m: the account of its board gets the charge back if the message was buffered, and else stays as it was
-module _ (s : Sheet) (x : Job) (m r : ℕ) where
-  matched-account : (b : ℕ) → board-account s (matched s m r x) b ≡ board-account s (release s m x) b
+-- a match of message m and receive k: the account of the message's board gets the charge back if the message was buffered, and
+-- else every account stays as it was
+module _ (s : Sheet) (x : Job) (m k : ℕ) where
+  matched-account : (b : ℕ) → board-account s (matched s m k x) b ≡ board-account s (release s m x) b
   unfolding board-account matched matched-rows with-memory with-receives with-messages with-entries job place-at
   matched-account b = refl
 
-  pub matched-moves : rank-of s m < length (x .places) → entry-at x m .state ≡ 2 → board-account s (matched s m r x) (rank-of s m) ≡ given-back (board-account s x (rank-of s m)) (charge-of (op s m))
+  pub matched-moves : rank-of s m < length (x .places) → entry-at x m .state ≡ 2
+      → board-account s (matched s m k x) (rank-of s m) ≡ given-back (board-account s x (rank-of s m)) (charge-of (op s m))
   matched-moves l e = matched-account (rank-of s m) ∙ release-moves s x m l e
 
   unbuffered : eqb (entry-at x m .state) 2 ≡ false → release s m x ≡ x
   unfolding release
   unbuffered e = rw e refl
 
-  pub matched-stays : (b : ℕ) → (entry-at x m .state ≡ 2 → ⊥) → board-account s (matched s m r x) b ≡ board-account s x b
-  matched-stays b n = matched-account b ∙ ap (λ (y : Job). board-account s y b) (unbuffered (ne-eqb (entry-at x m .state) 2 n))
+  pub matched-stays : (b : ℕ) → (entry-at x m .state ≡ 2 → ⊥) → board-account s (matched s m k x) b ≡ board-account s x b
+  matched-stays b other = matched-account b ∙ ap (λ (y : Job). board-account s y b) (unbuffered (ne-eqb (entry-at x m .state) 2 other))

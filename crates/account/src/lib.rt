@@ -1,10 +1,12 @@
 // The account of a board's attached buffer (document 01, "How a board steps"; MPI buffered mode): its size, the bytes in use and
 // the most that were in use. The rules stand in two functions over accounts by value. `charge` and `release` take the account
-// by `&mut` and change it where it stands. `settle` lends an account of its own to both, for callers that have plain numbers.
+// by `&mut` and change it where it stands. `charging` and `releasing` lend an account of their own, for callers that have plain
+// numbers, as the engine has.
 ghost use mathlib.Core.Path.{_≡_};
 ghost use Prim.Native.Nat.{max};
 ghost use Rattle.account.specs.Accounts.{account, has-room, taken, given-back};
 
+// The attached size of a board, and of its place the bytes in use and the peak (document 01, "The report").
 pub struct Account {
     pub size: usize,
     pub in_use: usize,
@@ -17,7 +19,7 @@ pub struct Outcome {
     pub ok: bool,
 }
 
-// In use plus n is at most the size.
+// There is room for n bytes: in use plus n is at most the size.
 pub fn room(a: Account, n: usize) -> bool
     ensures { λ b. ⌜ b ≡ has-room a n ⌝ }
 {
@@ -29,13 +31,13 @@ pub fn room(a: Account, n: usize) -> bool
 }
 
 // The larger of two numbers.
-fn larger(a: usize, b: usize) -> usize
-    ensures { λ v. ⌜ v ≡ max a b ⌝ }
+fn larger(x: usize, y: usize) -> usize
+    ensures { λ v. ⌜ v ≡ max x y ⌝ }
 {
-    if a < b { b } else { a }
+    if x < y { y } else { x }
 }
 
-// n bytes are charged where there is room; else the account is as it was, and the answer says so.
+// An unmatched buffered send of n bytes is charged where there is room; else the account is as it was, and the answer says so.
 pub fn take(a: Account, n: usize) -> Outcome
     ensures { λ r. ⌜ (r .account ≡ taken a n) × (r .ok ≡ has-room a n) ⌝ }
 {
@@ -58,7 +60,7 @@ pub fn take(a: Account, n: usize) -> Outcome
     }
 }
 
-// A charge of n bytes goes; the peak stays.
+// A buffered message of n bytes is matched: its charge goes, the peak stays.
 pub fn give_back(a: Account, n: usize) -> Account
     ensures { λ r. ⌜ r ≡ given-back a n ⌝ }
 {
@@ -86,19 +88,31 @@ pub fn release(account: &mut Account, n: usize)
     *account = give_back(*account, n);
 }
 
-// Of an account in plain numbers `back` bytes are released, and n are then charged.
-pub fn settle(size: usize, in_use: usize, peak: usize, back: usize, n: usize) -> Outcome
-    ensures { λ r. ⌜ (r .account ≡ taken (given-back (account size in_use peak) back) n) × (r .ok ≡ has-room (given-back (account size in_use peak) back) n) ⌝ }
+// The account of plain numbers after n bytes were charged to it where there is room, and whether they were.
+pub fn charging(size: usize, in_use: usize, peak: usize, n: usize) -> Outcome
+    ensures { λ r. ⌜ (r .account ≡ taken (account size in_use peak) n) × (r .ok ≡ has-room (account size in_use peak) n) ⌝ }
 {
     let mut own = Account {
         size: size,
         in_use: in_use,
         peak: peak,
     };
-    release(&mut own, back);
     let ok = charge(&mut own, n);
     Outcome {
         account: own,
         ok: ok,
     }
+}
+
+// The account of plain numbers after a charge of n bytes went from it.
+pub fn releasing(size: usize, in_use: usize, peak: usize, n: usize) -> Account
+    ensures { λ r. ⌜ r ≡ given-back (account size in_use peak) n ⌝ }
+{
+    let mut own = Account {
+        size: size,
+        in_use: in_use,
+        peak: peak,
+    };
+    release(&mut own, n);
+    own
 }

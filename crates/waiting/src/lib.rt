@@ -1,13 +1,20 @@
 // The waiting list of one receiver (document 01, "How a board steps"): the envelopes of the messages that wait for it, in order
-// of arrival, searched for the earliest that fits what a receive asks for. The fit is tested in one function over envelopes by
-// value. `search` goes through plain slices, `earliest` through a lent list of envelopes; `earliest_of` lends a list of its own,
-// for callers that have envelopes in an array.
+// of arrival, searched for the earliest that fits what a receive asks for. The fit is tested in one function over plain numbers.
+// `search` goes through plain slices, `earliest` through a lent list of envelopes; `earliest_of` lends a list of its own, for
+// callers that have envelopes in an array.
 ghost use mathlib.Core.Path.{_≡_};
-ghost use Prim.Native.Nat.{_≤_};
+ghost use Prim.Native.Nat.{min};
 ghost use lib.ListN.{length, take};
-ghost use Rattle.waiting.specs.Envelopes.{envelope-fits, earliest-fit, listed};
+ghost use Rattle.rules.specs.Limits.{most-ops};
+ghost use Rattle.waiting.specs.Envelopes.{envelope-fits, fits-receive, earliest-fit, listed};
 
-// Where a message waits: its source, communicator and tag, and the send that it is of.
+// What a receive asks for where it takes any source or any tag (document 01, "The sheet, byte by byte").
+pub const ANY: usize = 65535;
+
+// The most operations of a sheet: no waiting list is longer.
+pub const MOST: usize = 1024;
+
+// A message that waits: its source, communicator and tag, and the send that it is of.
 pub struct Envelope {
     pub source: usize,
     pub communicator: usize,
@@ -21,12 +28,27 @@ pub enum Found {
     At(usize),
 }
 
-// Communicators equal; source equal or any; tag equal or any (004).
-pub fn fits(e: Envelope, source: usize, communicator: usize, tag: usize) -> bool
-    ensures { λ b. ⌜ b ≡ envelope-fits e source communicator tag ⌝ }
+// Fit (004) of a message that is addressed to the receiver, from `sender` in the communicator `context` with the tag `mark`:
+// communicators equal; source equal or any; tag equal or any.
+pub fn envelope_fits(
+    sender: usize,
+    context: usize,
+    mark: usize,
+    source: usize,
+    communicator: usize,
+    tag: usize,
+) -> bool
+    ensures { λ b. ⌜ b ≡ envelope-fits sender context mark source communicator tag ⌝ }
 {
-    (e.communicator == communicator)
-        & (((source == 65535) | (source == e.source)) & ((tag == 65535) | (tag == e.tag)))
+    (context == communicator)
+        & (((source == ANY) | (source == sender)) & ((tag == ANY) | (tag == mark)))
+}
+
+// The same of an envelope.
+pub fn fits(e: Envelope, source: usize, communicator: usize, tag: usize) -> bool
+    ensures { λ b. ⌜ b ≡ fits-receive e source communicator tag ⌝ }
+{
+    envelope_fits(e.source, e.communicator, e.tag, source, communicator, tag)
 }
 
 // The earliest of the messages whose sources, communicators and tags stand in three slices.
@@ -43,13 +65,14 @@ pub fn search(
 {
     let mut i = 0;
     while i < sources.len() {
-        let e = Envelope {
-            source: sources[i],
-            communicator: communicators[i],
-            tag: tags[i],
-            operation: 0,
-        };
-        if fits(e, source, communicator, tag) {
+        if envelope_fits(
+            sources[i],
+            communicators[i],
+            tags[i],
+            source,
+            communicator,
+            tag,
+        ) {
             return Found::At(i);
         }
         i += 1;
@@ -71,16 +94,23 @@ pub fn earliest(list: &[Envelope], source: usize, communicator: usize, tag: usiz
     Found::Nothing
 }
 
-// The earliest of the first `count` envelopes of an array.
+// How many of an array's envelopes wait: the count, or all of them where it exceeds their number.
+fn waiting_of(count: usize) -> usize
+    ensures { λ m. ⌜ m ≡ min count most-ops ⌝ }
+{
+    if count < MOST { count } else { MOST }
+}
+
+// The earliest of the first `count` envelopes of an array; of all, where the count exceeds their number.
 pub fn earliest_of(
-    list: [Envelope; 16],
+    list: [Envelope; MOST],
     count: usize,
     source: usize,
     communicator: usize,
     tag: usize,
 ) -> Found
-    requires { ⌜ count ≤ 16 ⌝ }
     ensures { λ r. ⌜ r ≡ earliest-fit (take count list) source communicator tag ⌝ }
 {
-    earliest(&list[..count], source, communicator, tag)
+    let first = waiting_of(count);
+    earliest(&list[..first], source, communicator, tag)
 }
