@@ -29,14 +29,14 @@ unfoldable pub operation-of : List Envelope → Found → Option ℕ
 operation-of es Nothing = none
 operation-of es (At k) = some (getD es k (envelope 0 0 0 0) .operation)
 
-next-operation : (e : Envelope) (es : List Envelope) (x : Found) → operation-of (e ∷ es) (one-on x) ≡ operation-of es x
+next-operation : (e : Envelope) (es : List Envelope) (found : Found) → operation-of (e ∷ es) (one-on found) ≡ operation-of es found
 unfolding operation-of one-on
 next-operation e es Nothing = refl
 next-operation e es (At k) = refl
 
-regroup : (a b c : Bool) → ((a && b) && c) ≡ (a && (b && c))
-regroup true b c = refl
-regroup false b c = refl
+regroup : (x y z : Bool) → ((x && y) && z) ≡ (x && (y && z))
+regroup true y z = refl
+regroup false y z = refl
 
 -- rules' fit of message m and receive r: the message is addressed to the receiver, and its envelope fits
 pub fits-with-is : (s : Sheet) (m r : ℕ)
@@ -58,8 +58,8 @@ module _ (s : Sheet) (r : ℕ) where
   Given ms = first-message s r ms ≡ found-in (waiting-for s (rank-of s r) ms)
 
   -- a message in front that is the receiver's, and fits or doesn't
-  front : (m : ℕ) (ms : List ℕ) → (b : Bool) → fits-r (envelope-of s m) ≡ b → Given ms
-      → cond b (some m) (first-by (λ k. fits-with s k r) ms) ≡ found-in (envelope-of s m ∷ waiting-for s (rank-of s r) ms)
+  front : (m : ℕ) (ms : List ℕ) → (test : Bool) → fits-r (envelope-of s m) ≡ test → Given ms
+      → cond test (some m) (first-by (λ n. fits-with s n r) ms) ≡ found-in (envelope-of s m ∷ waiting-for s (rank-of s r) ms)
   unfolding earliest-fit first-place first-message operation-of envelope-of
   front m ms true e h = rw e refl
   front m ms false e h =
@@ -72,7 +72,7 @@ module _ (s : Sheet) (r : ℕ) where
   earliest-message [] = refl
   earliest-message (m ∷ ms) = go (eqb (op s m .peer) (rank-of s r)) refl (earliest-message ms)
     where
-      go : (b : Bool) → eqb (op s m .peer) (rank-of s r) ≡ b → Given ms → cond (fits-with s m r) (some m) (first-by (λ k. fits-with s k r) ms)
-          ≡ found-in (cond b (envelope-of s m ∷ waiting-for s (rank-of s r) ms) (waiting-for s (rank-of s r) ms))
+      go : (test : Bool) → eqb (op s m .peer) (rank-of s r) ≡ test → Given ms → cond (fits-with s m r) (some m) (first-by (λ n. fits-with s n r) ms)
+          ≡ found-in (cond test (envelope-of s m ∷ waiting-for s (rank-of s r) ms) (waiting-for s (rank-of s r) ms))
       go true t h = rw (fits-with-is s m r, t) (front m ms (fits-r (envelope-of s m)) refl h)
       go false t h = rw (fits-with-is s m r, t) h
