@@ -1,22 +1,27 @@
--- The changes that steps are made of, in the words of rules' Step: what a function of src/steps leaves holds the job that the
+-- The changes that steps are made of, in the words of rules' Step: what a function of src/changes leaves holds the job that the
 -- definition of its name makes. Assumes nothing.
 use mathlib.Core.Path.{_≡_, refl, _∙_, ap, subst}
-use mathlib.Core.Bool.{cond}
-use mathlib.Core.List.{List}
-use Prim.Native.Nat.{ℕ, _+_, _<_, _≤_}
+use mathlib.Core.Bool.{Bool, true, false, cond}
+use mathlib.Core.List.{List, [], _∷_, _++_}
+use Prim.Native.Nat.{ℕ, suc, _+_, _<_, _≤_}
 use native.Mathlib.Omega.{arith}
+use lib.Dec.{leb}
 use lib.ListN.{set}
 use Rattle.rules.specs.Limits.{most-ops, absent}
 use Rattle.rules.specs.Sheet.{Sheet, op, N-of, P-of, rank-of}
 use Rattle.rules.specs.Job.{Job, Entry, Place, job, entry, bare-entry, place-at, with-entries, with-messages, with-receives}
-use Rattle.rules.specs.Step.{splice, without, is-cut, with-place, with-state, matched-rows, pend-message, pend-receive}
+use Rattle.rules.specs.Step.{splice, without, is-cut, with-place, with-state, matched-rows, charged}
 use Rattle.rules.specs.Report.{low-two, op-row}
+use Rattle.state.specs.declared.BoardPlace.{BoardPlace}
 use Rattle.state.specs.declared.Control.{Control}
 use Rattle.state.specs.Layout.{row-at, seat-at, word-at, messages-at, receives-at}
-use Rattle.state.specs.Decoded.{place-in, place-row, Fits-place}
+use Rattle.state.specs.Decoded.{place-in, place-row, place-of, Place-read, Fits-place}
+use Rattle.state.specs.declared.Queue.{Queue}
+use Rattle.state.specs.declared.Queue.the-variants.{Messages, Receives}
+use Rattle.state.specs.Queues.{base-of, count-of, recounted, list-of, with-list, pended}
 use Rattle.state.specs.Lists.{behind, First-at}
 use Rattle.state.specs.Controls.{counted}
-use Rattle.state.specs.Decodes.{Decodes, decodes-as, place-is, entry-put, state-put, place-put, message-append, receive-append, message-remove, receive-remove}
+use Rattle.state.specs.Decodes.{Decodes, decodes-as, place-is, entry-put, state-put, place-put, list-append, list-remove}
 
 -- wherever scratch c and control block t hold a job of which `ok` holds, b and u hold the job that f makes of it
 abbrev pub Becomes : (c : List ℕ) → Control → (b : List ℕ) → Control → (Sheet → Job → Type 0) → (Sheet → Job → Job) → Type 0
@@ -25,6 +30,17 @@ Becomes c t b u ok f = (s : Sheet) (x : Job) → Decodes s c t x → ok s x → 
 -- the same where the control block stays
 abbrev pub Changes : (c b : List ℕ) → (Sheet → Job → Type 0) → (Sheet → Job → Job) → Type 0
 Changes c b ok f = (t : Control) → Becomes c t b t ok f
+
+-- board r is there, and one operation more can be counted as finished
+pub record Can-finish (r : ℕ) (s : Sheet) (x : Job) : Type 0 where
+  pub there : r < P-of s
+  pub room : suc (place-at x r .finished) < 65536
+
+-- a charge of n bytes to the account of board r, whose buffer has a size: taken where there is room, which `ok` says
+pub record Charges (c b : List ℕ) (r size n : ℕ) (ok : Bool) : Type 0 where
+  pub says : (s : Sheet) (t : Control) (x : Job) → Decodes s c t x → r < P-of s → ok ≡ leb (place-at x r .in-use + n) size
+  pub taken : ok ≡ true → Changes c b (λ s x. r < P-of s) (λ s x. with-place r (charged n (place-at x r)) x)
+  pub refused : ok ≡ false → b ≡ c
 
 -- the figures of a matched receive's row: its status, that fits its bytes
 pub record Status (s : Sheet) (m r cut source tag long : ℕ) : Type 0 where
@@ -38,38 +54,34 @@ pub record Status (s : Sheet) (m r cut source tag long : ℕ) : Type 0 where
   pub tag-fits : tag < 65536
   pub long-fits : long < 65536
 
-module _ (s : Sheet) (c : List ℕ) (t : Control) (x : Job) (d : Decodes s c t x) where
-  -- an operation that nothing fits becomes pending: its row, then its entry in the waiting list
-  pub message-pend : (i v : ℕ) (a b : List ℕ) (u : Control) → i < N-of s → t .messages < most-ops → a ≡ splice c (row-at i) (op-row (bare-entry v)) →
-      b ≡ splice a (word-at messages-at (t .messages)) (low-two i) → u ≡ counted (t .messages + 1) (t .receives) t → Decodes s b u (pend-message i v x)
-  unfolding pend-message with-state with-entries job
-  message-pend i v a b u l m e f g =
-      let few : N-of s ≤ most-ops = d .few-ops in
-      let one : Decodes s a t (with-state i v x) = decodes-as s a (splice c (row-at i) (op-row (bare-entry v))) t t (with-state i v x) e refl (state-put s c t x d i v l) in
-      decodes-as s b (splice a (word-at messages-at (t .messages)) (low-two i)) u (counted (t .messages + 1) (t .receives) t) (pend-message i v x) f g
-      (message-append s a t (with-state i v x) one i (omega arith) m)
+-- a row that is put leaves the lists
+list-stays : (q : Queue) (i v : ℕ) (x : Job) → list-of q (with-state i v x) ≡ list-of q x
+unfolding list-of with-state with-entries job
+list-stays Messages i v x = refl
+list-stays Receives i v x = refl
 
-  pub receive-pend : (i : ℕ) (a b : List ℕ) (u : Control) → i < N-of s → t .receives < most-ops → a ≡ splice c (row-at i) (op-row (bare-entry 1)) →
-      b ≡ splice a (word-at receives-at (t .receives)) (low-two i) → u ≡ counted (t .messages) (t .receives + 1) t → Decodes s b u (pend-receive i x)
-  unfolding pend-receive with-state with-entries job
-  receive-pend i a b u l m e f g =
+module _ (s : Sheet) (c : List ℕ) (t : Control) (x : Job) (d : Decodes s c t x) where
+  -- an operation that nothing fits becomes pending: its row, then its entry in its waiting list
+  pub pend-by : (q : Queue) (i v : ℕ) (a b : List ℕ) (u : Control) → i < N-of s → count-of q t < most-ops →
+      a ≡ splice c (row-at i) (op-row (bare-entry v)) → b ≡ splice a (word-at (base-of q) (count-of q t)) (low-two i) →
+      u ≡ recounted q (count-of q t + 1) t → Decodes s b u (pended q i v x)
+  unfolding pended
+  pend-by q i v a b u l m e f g =
       let few : N-of s ≤ most-ops = d .few-ops in
-      let one : Decodes s a t (with-state i 1 x) = decodes-as s a (splice c (row-at i) (op-row (bare-entry 1))) t t (with-state i 1 x) e refl (state-put s c t x d i 1 l) in
-      decodes-as s b (splice a (word-at receives-at (t .receives)) (low-two i)) u (counted (t .messages) (t .receives + 1) t) (pend-receive i x) f g
-      (receive-append s a t (with-state i 1 x) one i (omega arith) m)
+      let y : Job = with-state i v x in
+      let one : Decodes s a t y = decodes-as s a (splice c (row-at i) (op-row (bare-entry v))) t t y e refl (state-put s c t x d i v l) in
+      let put = splice a (word-at (base-of q) (count-of q t)) (low-two i) in
+      let more = list-append s a t y one q i (omega arith) m in
+      decodes-as s b put u (recounted q (count-of q t + 1) t) (with-list q (list-of q x ++ (i ∷ [])) y) f g
+      (subst (λ (l : List ℕ). Decodes s put (recounted q (count-of q t + 1) t) (with-list q (l ++ (i ∷ [])) y)) (list-stays q i v x) more)
 
   -- the k-th of a waiting list, which is v, leaves it
-  pub message-take : (left k v : ℕ) (b : List ℕ) (u : Control) → left + 1 ≡ t .messages → First-at (x .messages) k v →
-      b ≡ splice c (word-at messages-at k) (behind c messages-at left k) → u ≡ counted left (t .receives) t →
-      Decodes s b u (with-messages (without v (x .messages)) x)
-  message-take left k v b u n f e g =
-      decodes-as s b (splice c (word-at messages-at k) (behind c messages-at left k)) u (counted left (t .receives) t) (with-messages (without v (x .messages)) x) e g (message-remove s c t x d left k v n f)
-
-  pub receive-take : (left k v : ℕ) (b : List ℕ) (u : Control) → left + 1 ≡ t .receives → First-at (x .receives) k v →
-      b ≡ splice c (word-at receives-at k) (behind c receives-at left k) → u ≡ counted (t .messages) left t →
-      Decodes s b u (with-receives (without v (x .receives)) x)
-  receive-take left k v b u n f e g =
-      decodes-as s b (splice c (word-at receives-at k) (behind c receives-at left k)) u (counted (t .messages) left t) (with-receives (without v (x .receives)) x) e g (receive-remove s c t x d left k v n f)
+  pub take-by : (q : Queue) (left k v : ℕ) (b : List ℕ) (u : Control) → left + 1 ≡ count-of q t → First-at (list-of q x) k v →
+      b ≡ splice c (word-at (base-of q) k) (behind c (base-of q) left k) → u ≡ recounted q left t →
+      Decodes s b u (with-list q (without v (list-of q x)) x)
+  take-by q left k v b u n f e g =
+      decodes-as s b (splice c (word-at (base-of q) k) (behind c (base-of q) left k)) u (recounted q left t)
+      (with-list q (without v (list-of q x)) x) e g (list-remove s c t x d q left k v n f)
 
   -- both rows of a match
   pub rows-match : (m r cut source tag long : ℕ) (a b : List ℕ) → Status s m r cut source tag long →
@@ -106,9 +118,16 @@ module _ (s : Sheet) (c : List ℕ) (t : Control) (x : Job) (d : Decodes s c t x
       let same : got ≡ entry 3 (cond (is-cut s m r) 1 0) m (rank-of s m) (op s m .tag) (op s m .long) = cc (q .cut-is, q .source-is, q .tag-is, q .long-is) in
       subst (λ (g : Entry). Decodes s b t (with-entries (set (y .entries) r g) y)) same two
 
-  -- a place changed by a function
-  pub place-change : (f : Place → Place) (r : ℕ) (q : Place) (b : List ℕ) → r < P-of s → q ≡ f (place-in c (seat-at r)) → Fits-place q → b ≡ splice c (seat-at r) (place-row q) → Decodes s b t (with-place r (f (place-at x r)) x)
-  place-change f r q b l e h w =
-      let same : q ≡ f (place-at x r) = e ∙ ap f (place-is s c t x d r l) in
-      decodes-as s b (splice c (seat-at r) (place-row q)) t t (with-place r (f (place-at x r)) x) w refl
-      (subst (λ (z : Place). Decodes s (splice c (seat-at r) (place-row q)) t (with-place r z x)) same (place-put s c t x d r q h l))
+  -- the place that was read is the job's
+  pub place-read : (r : ℕ) (old : BoardPlace) → r < P-of s → Place-read (place-in c (seat-at r)) old → place-of old ≡ place-at x r
+  place-read r old l q = q .is ∙ place-is s c t x d r l
+
+  -- a place changed by a function: the place that was put is what the function makes of the place that was read
+  pub place-change : (f : Place → Place) (r : ℕ) (old new : BoardPlace) (b : List ℕ) → r < P-of s →
+      Place-read (place-in c (seat-at r)) old → place-of new ≡ f (place-of old) → Fits-place (place-of new) →
+      b ≡ splice c (seat-at r) (place-row (place-of new)) → Decodes s b t (with-place r (f (place-at x r)) x)
+  place-change f r old new b l q e h w =
+      let same : place-of new ≡ f (place-at x r) = e ∙ ap f (place-read r old l q) in
+      decodes-as s b (splice c (seat-at r) (place-row (place-of new))) t t (with-place r (f (place-at x r)) x) w refl
+      (subst (λ (z : Place). Decodes s (splice c (seat-at r) (place-row (place-of new))) t (with-place r z x)) same
+      (place-put s c t x d r (place-of new) h l))

@@ -1,14 +1,16 @@
 -- What the bytes of scratch decode to: rows, places and waiting lists, each a table over its index. Assumes nothing: these are
 -- definitions.
+use mathlib.Core.Path.{_≡_}
 use mathlib.Core.Bool.{cond}
 use mathlib.Core.List.{List, [], _∷_, _++_}
 use Prim.Native.Nat.{ℕ, _+_, _<_}
 use lib.Dec.{eqb}
 use lib.ListN.{getD}
 use Rattle.rules.specs.Sheet.{two}
-use Rattle.rules.specs.Job.{Entry, Place}
+use Rattle.rules.specs.Job.{Entry, Place, place}
 use Rattle.rules.specs.Report.{low-two}
 use Rattle.words.specs.Tab.{tab}
+use Rattle.state.specs.declared.BoardPlace.{BoardPlace}
 use Rattle.state.specs.Layout.{row-at, seat-at, word-at}
 
 -- an operation row, in the report's format
@@ -56,4 +58,14 @@ pub record Fits-row (e : Entry) : Type 0 where
 pub record Fits-place (q : Place) : Type 0 where
   pub finished-fits : q .finished < 65536
   pub in-use-fits : q .in-use < 65536
+  pub peak-fits : q .peak < 65536
+
+-- a place that the code has by value; and one that was read: what it is, and that its figures fit
+abbrev pub place-of : BoardPlace → Place
+place-of q = place (q .finished) (q .waiting) (q .in_use) (q .peak)
+
+pub record Place-read (value : Place) (q : BoardPlace) : Type 0 where
+  pub is : place-of q ≡ value
+  pub finished-fits : q .finished < 65536
+  pub in-use-fits : q .in_use < 65536
   pub peak-fits : q .peak < 65536

@@ -16,6 +16,8 @@ use Rattle.words.specs.Splice.{Apart, splice-length, splice-apart, splice-take,
 use Rattle.words.specs.Putting.{part-length}
 use Rattle.words.specs.Tab.{drop-at}
 use Rattle.state.specs.declared.Control.{Control}
+use Rattle.state.specs.declared.Queue.{Queue}
+use Rattle.state.specs.declared.Queue.the-variants.{Messages, Receives}
 use Rattle.state.specs.Layout.{row-at, seat-at, word-at, places-at, messages-at, receives-at, ranks-at}
 use Rattle.state.specs.Decoded.{entry-in, entries-in, place-in, places-in, place-row, words-in, Fits-row, Fits-place}
 use Rattle.state.specs.Rows.{row-length, entries-same, entries-put, entries-at, entries-length}
@@ -23,6 +25,7 @@ use Rattle.state.specs.Written.{rows-put}
 use Rattle.state.specs.Places.{seat-length, places-same, places-put, places-at-rank}
 use Rattle.state.specs.Lists.{behind, words-same, words-at, words-length, words-append, words-remove, First-at, without-at}
 use Rattle.state.specs.Indexed.{Indexed, indexed-kept}
+use Rattle.state.specs.Queues.{list-based, base-of, count-of, recounted, list-of, with-list}
 use Rattle.state.specs.Controls.{stop-of, stop-some, control, counted, stepped, halted}
 
 pub record Decodes (s : Sheet) (c : List ℕ) (t : Control) (x : Job) : Type 0 where
@@ -55,17 +58,22 @@ module _ (s : Sheet) (c : List ℕ) (t : Control) (x : Job) (d : Decodes s c t x
   unfolding place-at
   place-is r l = sym (ap (λ (ps : List Place). getD ps r (place 0 false 0 0)) (d .places-are) ∙ places-at-rank c (P-of s) r l)
 
-  pub message-is : (k : ℕ) → k < t .messages → two c (word-at messages-at k) ≡ getD (x .messages) k 0
-  message-is k l = sym (ap (λ (ms : List ℕ). getD ms k 0) (d .messages-are) ∙ words-at c messages-at (t .messages) k l)
+  -- a waiting list
+  pub list-are : (q : Queue) → list-of q x ≡ words-in c (base-of q) (count-of q t)
+  unfolding list-of base-of count-of
+  list-are Messages = d .messages-are
+  list-are Receives = d .receives-are
 
-  pub receive-is : (k : ℕ) → k < t .receives → two c (word-at receives-at k) ≡ getD (x .receives) k 0
-  receive-is k l = sym (ap (λ (rs : List ℕ). getD rs k 0) (d .receives-are) ∙ words-at c receives-at (t .receives) k l)
+  pub few-listed : (q : Queue) → count-of q t ≤ most-ops
+  unfolding count-of
+  few-listed Messages = d .few-messages
+  few-listed Receives = d .few-receives
 
-  pub messages-length : length (x .messages) ≡ t .messages
-  messages-length = ap length (d .messages-are) ∙ words-length c messages-at (t .messages)
+  pub list-is : (q : Queue) (k : ℕ) → k < count-of q t → two c (word-at (base-of q) k) ≡ getD (list-of q x) k 0
+  list-is q k l = sym (ap (λ (ms : List ℕ). getD ms k 0) (list-are q) ∙ words-at c (base-of q) (count-of q t) k l)
 
-  pub receives-length : length (x .receives) ≡ t .receives
-  receives-length = ap length (d .receives-are) ∙ words-length c receives-at (t .receives)
+  pub list-length : (q : Queue) → length (list-of q x) ≡ count-of q t
+  list-length q = ap length (list-are q) ∙ words-length c (base-of q) (count-of q t)
 
 -- REGIONS: a splice outside a region leaves what the region decodes to
 module _ (c : List ℕ) (at : ℕ) (vs : List ℕ) (h : at + length vs ≤ length c) where
@@ -183,46 +191,41 @@ module _ (s : Sheet) (c : List ℕ) (t : Control) (x : Job) (d : Decodes s c t x
       places-spliced (seat-at r) (place-row q) (set (x .places) r q) (omega arith) (omega arith)
       (places-put c r (P-of s) q f l few (d .roomy) ∙ ap (λ (ps : List Place). set ps r q) (sym (d .places-are)))
 
-  -- the waiting lists: one appended, one removed
-  pub message-append : (i : ℕ) → i < 65536 → t .messages < most-ops → Decodes s (splice c (word-at messages-at (t .messages)) (low-two i)) (counted (t .messages + 1) (t .receives) t) (with-messages (x .messages ++ (i ∷ [])) x)
+  list-spliced : (q : Queue) (at : ℕ) (vs : List ℕ) (n : ℕ) (ms : List ℕ) → base-of q ≤ at →
+      at + length vs ≤ base-of q + 2 * most-ops → n ≤ most-ops → words-in (splice c at vs) (base-of q) n ≡ ms →
+      Decodes s (splice c at vs) (recounted q n t) (with-list q ms x)
+  unfolding base-of recounted with-list
+  list-spliced Messages at vs n ms l h m e = messages-spliced at vs n ms l h m e
+  list-spliced Receives at vs n ms l h m e = receives-spliced at vs n ms l h m e
+
+  -- a waiting list: one appended, one removed
+  pub list-append : (q : Queue) (i : ℕ) → i < 65536 → count-of q t < most-ops →
+      Decodes s (splice c (word-at (base-of q) (count-of q t)) (low-two i)) (recounted q (count-of q t + 1) t)
+      (with-list q (list-of q x ++ (i ∷ [])) x)
   unfolding low-two
-  message-append i f l =
+  list-append q i f l =
       let roomy : scratch-size ≤ length c = d .roomy in
-      messages-spliced (word-at messages-at (t .messages)) (low-two i) (t .messages + 1) (x .messages ++ (i ∷ [])) (omega arith) (omega arith) (omega arith)
-      (words-append c messages-at (t .messages) i f (omega arith) ∙ ap (λ (ms : List ℕ). ms ++ (i ∷ [])) (sym (d .messages-are)))
+      let b = list-based q in
+      list-spliced q (word-at (base-of q) (count-of q t)) (low-two i) (count-of q t + 1) (list-of q x ++ (i ∷ [])) (omega arith)
+      (omega arith) (omega arith)
+      (words-append c (base-of q) (count-of q t) i f (omega arith)
+      ∙ ap (λ (ms : List ℕ). ms ++ (i ∷ [])) (sym (list-are s c t x d q)))
 
-  pub receive-append : (i : ℕ) → i < 65536 → t .receives < most-ops → Decodes s (splice c (word-at receives-at (t .receives)) (low-two i)) (counted (t .messages) (t .receives + 1) t) (with-receives (x .receives ++ (i ∷ [])) x)
-  unfolding low-two
-  receive-append i f l =
+  pub list-remove : (q : Queue) (left k v : ℕ) → left + 1 ≡ count-of q t → First-at (list-of q x) k v →
+      Decodes s (splice c (word-at (base-of q) k) (behind c (base-of q) left k)) (recounted q left t)
+      (with-list q (without v (list-of q x)) x)
+  list-remove q left k v n f =
+      let inside : k < length (list-of q x) = f .inside in
+      let size = list-length s c t x d q in
       let roomy : scratch-size ≤ length c = d .roomy in
-      receives-spliced (word-at receives-at (t .receives)) (low-two i) (t .receives + 1) (x .receives ++ (i ∷ [])) (omega arith) (omega arith) (omega arith)
-      (words-append c receives-at (t .receives) i f (omega arith) ∙ ap (λ (rs : List ℕ). rs ++ (i ∷ [])) (sym (d .receives-are)))
-
-  pub message-remove : (left k v : ℕ) → left + 1 ≡ t .messages → First-at (x .messages) k v →
-      Decodes s (splice c (word-at messages-at k) (behind c messages-at left k)) (counted left (t .receives) t) (with-messages (without v (x .messages)) x)
-  message-remove left k v n f =
-      let inside : k < length (x .messages) = f .inside in
-      let size = messages-length s c t x d in
-      let roomy : scratch-size ≤ length c = d .roomy in
-      let few : t .messages ≤ most-ops = d .few-messages in
-      let long = part-length c (word-at messages-at k + 2) (2 * (left - k)) (omega arith) in
-      messages-spliced (word-at messages-at k) (behind c messages-at left k) left (without v (x .messages)) (omega arith) (omega arith) (omega arith)
-      (words-remove c messages-at left k (omega arith) (omega arith)
-      ∙ (ap (λ (i : ℕ). drop-at k (words-in c messages-at i)) n
-      ∙ (ap (λ (ms : List ℕ). drop-at k ms) (sym (d .messages-are)) ∙ sym (without-at (x .messages) k v f))))
-
-  pub receive-remove : (left k v : ℕ) → left + 1 ≡ t .receives → First-at (x .receives) k v →
-      Decodes s (splice c (word-at receives-at k) (behind c receives-at left k)) (counted (t .messages) left t) (with-receives (without v (x .receives)) x)
-  receive-remove left k v n f =
-      let inside : k < length (x .receives) = f .inside in
-      let size = receives-length s c t x d in
-      let roomy : scratch-size ≤ length c = d .roomy in
-      let few : t .receives ≤ most-ops = d .few-receives in
-      let long = part-length c (word-at receives-at k + 2) (2 * (left - k)) (omega arith) in
-      receives-spliced (word-at receives-at k) (behind c receives-at left k) left (without v (x .receives)) (omega arith) (omega arith) (omega arith)
-      (words-remove c receives-at left k (omega arith) (omega arith)
-      ∙ (ap (λ (i : ℕ). drop-at k (words-in c receives-at i)) n
-      ∙ (ap (λ (rs : List ℕ). drop-at k rs) (sym (d .receives-are)) ∙ sym (without-at (x .receives) k v f))))
+      let few = few-listed s c t x d q in
+      let b = list-based q in
+      let long = part-length c (word-at (base-of q) k + 2) (2 * (left - k)) (omega arith) in
+      list-spliced q (word-at (base-of q) k) (behind c (base-of q) left k) left (without v (list-of q x)) (omega arith) (omega arith)
+      (omega arith)
+      (words-remove c (base-of q) left k (omega arith) (omega arith)
+      ∙ (ap (λ (i : ℕ). drop-at k (words-in c (base-of q) i)) n
+      ∙ (ap (λ (ms : List ℕ). drop-at k ms) (sym (list-are s c t x d q)) ∙ sym (without-at (list-of q x) k v f))))
 
   -- what is kept beside scratch, and the memory, which is kept nowhere
   beside : (m : List ℕ) (o : Option Stop) (j k v r i : ℕ) → o ≡ stop-of v r i → j ≡ k → Decodes s c (control (t .messages) (t .receives) k v r i) (job (x .entries) (x .places) (x .messages) (x .receives) m o j)

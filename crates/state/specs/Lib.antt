@@ -7,6 +7,7 @@
 --   Lists    the waiting lists: searched, an entry appended, an entry removed
 --   Indexed  the tables of ranks and of waits
 --   Controls  the numbers that are kept beside scratch
+--   Queues   the two waiting lists as one
 --   Decodes  scratch and its control block hold a job; what each change of them does to the job, in the words of rules
 --   Changes  changes in two places, and a place changed by a function
 --   Start    the start of a job
@@ -18,6 +19,7 @@ pub mod Places
 pub mod Lists
 pub mod Indexed
 pub mod Controls
+pub mod Queues
 pub mod Decodes
 pub mod Changes
 pub mod Start

@@ -1,7 +1,9 @@
 // The numbers kept beside scratch, by value: each function gives a control block with one part changed.
 ghost use mathlib.Core.Path.{_≡_};
 ghost use Rattle.state.specs.Controls.{no-control, counted, stepped, halted};
+ghost use Rattle.state.specs.Queues.{count-of, recounted};
 use crate::Control;
+use crate::Queue;
 
 // The control block of a job at its start.
 pub fn none() -> Control
@@ -17,8 +19,28 @@ pub fn none() -> Control
     }
 }
 
+// How many a waiting list has.
+pub fn count(t: Control, q: Queue) -> usize
+    ensures { λ n. ⌜ n ≡ count-of q t ⌝ }
+{
+    match q {
+        Queue::Messages => t.messages,
+        Queue::Receives => t.receives,
+    }
+}
+
+// With n in a waiting list.
+pub fn recounting(t: Control, q: Queue, n: usize) -> Control
+    ensures { λ u. ⌜ u ≡ recounted q n t ⌝ }
+{
+    match q {
+        Queue::Messages => counting(t, n, t.receives),
+        Queue::Receives => counting(t, t.messages, n),
+    }
+}
+
 // With m pending messages and r posted receives.
-pub fn counting(t: Control, m: usize, r: usize) -> Control
+fn counting(t: Control, m: usize, r: usize) -> Control
     ensures { λ u. ⌜ u ≡ counted m r t ⌝ }
 {
     Control {

@@ -9,23 +9,19 @@ pub mod rows;
 pub mod start;
 pub mod waits;
 
-// Another limit changes these two numbers; the layout follows.
-const MOST_OPS: usize = 1024;
+// Where each part stands; another limit changes a number of `limits`, and the layout follows.
+const PLACES: usize = limits::OP_ROW_SIZE * limits::MOST_OPS;
 
-const MOST_BOARDS: usize = 16;
+const MESSAGES: usize = PLACES + limits::BOARD_ROW_SIZE * limits::MOST_BOARDS;
 
-const PLACES: usize = 12 * MOST_OPS;
+const RECEIVES: usize = MESSAGES + 2 * limits::MOST_OPS;
 
-pub const MESSAGES: usize = PLACES + 8 * MOST_BOARDS;
+const RANKS: usize = RECEIVES + 2 * limits::MOST_OPS;
 
-pub const RECEIVES: usize = MESSAGES + 2 * MOST_OPS;
+const WAITS: usize = RANKS + limits::MOST_OPS;
 
-const RANKS: usize = RECEIVES + 2 * MOST_OPS;
-
-const WAITS: usize = RANKS + MOST_OPS;
-
-// The numbers of a job that are kept beside scratch: lengths of the two waiting lists, steps taken, and why and where the job
-// stopped (verdict 0 while nothing stopped it).
+// The control block: the numbers of a job that are kept beside scratch. Lengths of the two waiting lists, steps taken, and why
+// and where the job stopped (verdict 0 while nothing stopped it).
 pub struct Control {
     pub messages: usize,
     pub receives: usize,
@@ -33,4 +29,18 @@ pub struct Control {
     pub verdict: usize,
     pub rank: usize,
     pub op: usize,
+}
+
+// One of the two waiting lists: pending messages in order of arrival, posted receives in order of posting.
+pub enum Queue {
+    Messages,
+    Receives,
+}
+
+// The place of a board, by value: operations finished, whether the next one is in its waiting half, bytes in use, their peak.
+pub struct BoardPlace {
+    pub finished: usize,
+    pub waiting: bool,
+    pub in_use: usize,
+    pub peak: usize,
 }

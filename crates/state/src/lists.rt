@@ -1,5 +1,4 @@
-// The two waiting lists, at MESSAGES in order of arrival and at RECEIVES in order of posting: two-byte operation numbers. How
-// many there are is kept beside scratch.
+// The two waiting lists, two-byte operation numbers. How many there are is kept in the control block.
 ghost use mathlib.Core.Path.{_≡_};
 ghost use Prim.Native.Nat.{_+_, _*_, _<_, _≤_};
 ghost use lib.ListN.{length};
@@ -9,6 +8,20 @@ ghost use Rattle.rules.specs.Report.{low-two};
 ghost use Rattle.state.specs.Layout.{word-at};
 ghost use Rattle.state.specs.Lists.{behind};
 ghost use Rattle.words.specs.Read.{Word};
+ghost use Rattle.state.specs.Queues.{Based, base-of};
+use crate::MESSAGES;
+use crate::Queue;
+use crate::RECEIVES;
+
+// Where a list starts.
+pub fn base(q: Queue) -> usize
+    ensures { λ b. ⌜ (b ≡ base-of q) × Based b ⌝ }
+{
+    match q {
+        Queue::Messages => MESSAGES,
+        Queue::Receives => RECEIVES,
+    }
+}
 
 // Entry k of the list at base.
 pub fn word_of(c: &[u8], base: usize, k: usize) -> usize

@@ -4,11 +4,11 @@ ghost use mathlib.Core.Bool.{cond};
 ghost use Prim.Native.Nat.{_<_, _≤_};
 ghost use lib.ListN.{length};
 ghost use Rattle.rules.specs.Limits.{most-boards, scratch-size};
-ghost use Rattle.rules.specs.Job.{place};
 ghost use Rattle.rules.specs.Step.{splice};
 ghost use Rattle.state.specs.Layout.{seat-at};
-ghost use Rattle.state.specs.Decoded.{place-in, place-row};
+ghost use Rattle.state.specs.Decoded.{place-in, place-row, place-of, Place-read};
 ghost use Rattle.words.specs.Read.{Word};
+use crate::BoardPlace;
 use crate::PLACES;
 
 // How many operations board r has finished.
@@ -16,7 +16,7 @@ pub fn finished_of(c: &[u8], r: usize) -> usize
     requires { ⌜ (r < most-boards) × (scratch-size ≤ length (now c)) ⌝ }
     ensures { λ v. ⌜ Word (place-in (now (c .entry)) (seat-at r) .finished) v ⌝ }
 {
-    words::two_at(c, PLACES + 8 * r)
+    words::two_at(c, PLACES + limits::BOARD_ROW_SIZE * r)
 }
 
 // Whether its next operation is in its waiting half.
@@ -24,7 +24,7 @@ pub fn waiting_of(c: &[u8], r: usize) -> bool
     requires { ⌜ (r < most-boards) × (scratch-size ≤ length (now c)) ⌝ }
     ensures { λ v. ⌜ v ≡ place-in (now (c .entry)) (seat-at r) .waiting ⌝ }
 {
-    words::byte_at(c, PLACES + 8 * r + 6) == 1
+    words::byte_at(c, PLACES + limits::BOARD_ROW_SIZE * r + 6) == 1
 }
 
 // The bytes of its attached buffer in use.
@@ -32,7 +32,7 @@ pub fn in_use_of(c: &[u8], r: usize) -> usize
     requires { ⌜ (r < most-boards) × (scratch-size ≤ length (now c)) ⌝ }
     ensures { λ v. ⌜ Word (place-in (now (c .entry)) (seat-at r) .in-use) v ⌝ }
 {
-    words::two_at(c, PLACES + 8 * r + 2)
+    words::two_at(c, PLACES + limits::BOARD_ROW_SIZE * r + 2)
 }
 
 // The most in use after any step.
@@ -40,7 +40,7 @@ pub fn peak_of(c: &[u8], r: usize) -> usize
     requires { ⌜ (r < most-boards) × (scratch-size ≤ length (now c)) ⌝ }
     ensures { λ v. ⌜ Word (place-in (now (c .entry)) (seat-at r) .peak) v ⌝ }
 {
-    words::two_at(c, PLACES + 8 * r + 4)
+    words::two_at(c, PLACES + limits::BOARD_ROW_SIZE * r + 4)
 }
 
 // A test as a byte.
@@ -50,13 +50,30 @@ fn bit(b: bool) -> usize
     if b { 1 } else { 0 }
 }
 
-// The whole place of board r.
-pub fn put_place(c: &mut [u8], r: usize, finished: usize, waiting: bool, in_use: usize, peak: usize)
+// The whole place of board r, read.
+pub fn place_of(c: &[u8], r: usize) -> BoardPlace
     requires { ⌜ (r < most-boards) × (scratch-size ≤ length (now c)) ⌝ }
-    ensures { λ _. ⌜ now (c .exit) ≡ splice (now (c .entry)) (seat-at r) (place-row (place finished waiting in_use peak)) ⌝ }
+    ensures { λ q. ⌜ Place-read (place-in (now (c .entry)) (seat-at r)) q ⌝ }
 {
-    let w = bit(waiting);
-    let at = PLACES + 8 * r;
-    words::put_pair(c, at, finished, in_use);
-    words::put_pair(c, at + 4, peak, w);
+    let finished = finished_of(c, r);
+    let waiting = waiting_of(c, r);
+    let in_use = in_use_of(c, r);
+    let peak = peak_of(c, r);
+    BoardPlace {
+        finished: finished,
+        waiting: waiting,
+        in_use: in_use,
+        peak: peak,
+    }
+}
+
+// The whole place of board r, put.
+pub fn put_place(c: &mut [u8], r: usize, q: BoardPlace)
+    requires { ⌜ (r < most-boards) × (scratch-size ≤ length (now c)) ⌝ }
+    ensures { λ _. ⌜ now (c .exit) ≡ splice (now (c .entry)) (seat-at r) (place-row (place-of q)) ⌝ }
+{
+    let w = bit(q.waiting);
+    let at = PLACES + limits::BOARD_ROW_SIZE * r;
+    words::put_pair(c, at, q.finished, q.in_use);
+    words::put_pair(c, at + 4, q.peak, w);
 }

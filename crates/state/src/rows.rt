@@ -16,7 +16,7 @@ pub fn state_of(c: &[u8], i: usize) -> usize
     requires { ⌜ (i < most-ops) × (scratch-size ≤ length (now c)) ⌝ }
     ensures { λ r. ⌜ Byte (entry-in (now (c .entry)) (row-at i) .state) r ⌝ }
 {
-    words::byte_at(c, 12 * i)
+    words::byte_at(c, limits::OP_ROW_SIZE * i)
 }
 
 // Whether its message was cut, 1 or 0.
@@ -24,7 +24,7 @@ pub fn cut_of(c: &[u8], i: usize) -> usize
     requires { ⌜ (i < most-ops) × (scratch-size ≤ length (now c)) ⌝ }
     ensures { λ r. ⌜ Byte (entry-in (now (c .entry)) (row-at i) .cut) r ⌝ }
 {
-    words::byte_at(c, 12 * i + 1)
+    words::byte_at(c, limits::OP_ROW_SIZE * i + 1)
 }
 
 // The operation that it was matched with.
@@ -32,7 +32,7 @@ pub fn partner_of(c: &[u8], i: usize) -> usize
     requires { ⌜ (i < most-ops) × (scratch-size ≤ length (now c)) ⌝ }
     ensures { λ r. ⌜ Word (entry-in (now (c .entry)) (row-at i) .partner) r ⌝ }
 {
-    words::two_at(c, 12 * i + 2)
+    words::two_at(c, limits::OP_ROW_SIZE * i + 2)
 }
 
 // State and cut, a byte each, and the partner: the first four bytes of a row.
@@ -59,7 +59,7 @@ fn put_row(
     requires { ⌜ (i < most-ops) × (scratch-size ≤ length (now c)) ⌝ }
     ensures { λ _. ⌜ now (c .exit) ≡ splice (now (c .entry)) (row-at i) (op-row (entry state cut partner source tag long)) ⌝ }
 {
-    let at = 12 * i;
+    let at = limits::OP_ROW_SIZE * i;
     put_front(c, at, state, cut, partner);
     words::put_pair(c, at + 4, source, tag);
     words::put_pair(c, at + 8, long, 0);
@@ -70,7 +70,16 @@ pub fn put_bare(c: &mut [u8], i: usize, v: u8)
     requires { ⌜ (i < most-ops) × (scratch-size ≤ length (now c)) ⌝ }
     ensures { λ _. ⌜ now (c .exit) ≡ splice (now (c .entry)) (row-at i) (op-row (bare-entry v)) ⌝ }
 {
-    put_row(c, i, v, 0, 65535, 65535, 65535, 0);
+    put_row(
+        c,
+        i,
+        v,
+        0,
+        limits::ABSENT,
+        limits::ABSENT,
+        limits::ABSENT,
+        0,
+    );
 }
 
 // The row of message m, matched with receive r.
@@ -78,7 +87,7 @@ pub fn put_sent(c: &mut [u8], m: usize, r: usize)
     requires { ⌜ (m < most-ops) × (scratch-size ≤ length (now c)) ⌝ }
     ensures { λ _. ⌜ now (c .exit) ≡ splice (now (c .entry)) (row-at m) (op-row (entry 3 0 r absent absent 0)) ⌝ }
 {
-    put_row(c, m, 3, 0, r, 65535, 65535, 0);
+    put_row(c, m, 3, 0, r, limits::ABSENT, limits::ABSENT, 0);
 }
 
 // The row of receive r, matched with message m, with its status.

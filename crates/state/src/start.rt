@@ -26,5 +26,5 @@ pub fn init(c: &mut [u8], p: usize, n: usize)
     ensures { λ _. ⌜ now (c .exit) ≡ started-bytes (now (c .entry)) p n ⌝ }
 {
     put_rows(c, n);
-    words::fill(c, PLACES, 8 * p, 0);
+    words::fill(c, PLACES, limits::BOARD_ROW_SIZE * p, 0);
 }

@@ -9,19 +9,19 @@ use native.Mathlib.Omega.{arith}
 use lib.Dec.{ltb, leb, eqb}
 use lib.ListN.{length}
 use borrow.Author.Tests.{lt-ltb, le-ltb, le-leb, lt-leb, leb-false, eq-eqb, ne-eqb}
-use Rattle.rules.specs.Limits.{most-ops, most-boards, ops-at}
-use Rattle.rules.specs.Sheet.{Sheet, Op, sheet-in, op, op-in, board, P-of, N-of, P-in, N-in, rank-of, two, is-wait, is-nonblocking}
+use Rattle.rules.specs.Sheet.{Sheet, sheet-in, op, board, P-of, N-of, rank-of, two, only-half, takes-slot, frees-slot}
 use Rattle.rules.specs.Job.{Job, Entry, Place, Stop, entry-at, place-at}
 use Rattle.rules.specs.Step.{able, next-op, is-finished, complete, complete-if, waited, waited-below, half-complete, in-waiting-half, is-none}
-use Rattle.laws.specs.Laid.{Laid}
-use Rattle.laws.specs.Decoded.{op-by}
-use Rattle.invariant.specs.sheet.Valid.{Valid}
 use Rattle.state.specs.declared.Control.{Control}
 use Rattle.state.specs.Layout.{row-at, seat-at, word-at, waits-at}
 use Rattle.state.specs.Decoded.{entry-in, place-in}
 use Rattle.state.specs.Controls.{stop-of}
 use Rattle.state.specs.Decodes.{Decodes, entry-is, place-is}
 use Rattle.simulation.specs.Represents.{Represents, Represented}
+
+-- what comes next is an initiating step, or a waiting half whose operation is complete
+unfoldable pub can-go-on : Sheet → Job → (r i : ℕ) → Bool
+can-go-on s x r i = not (in-waiting-half s x r) || half-complete s x i
 
 -- board r is there and unfinished, and operation i is its next
 pub record Next (s : Sheet) (x : Job) (r i : ℕ) : Type 0 where
@@ -48,7 +48,7 @@ next-of s x r i l h e =
 pub waited-before : (s : Sheet) (n i k : ℕ) → waited-below n s i ≡ some k → k < n
 unfolding waited-below
 waited-before s zero i k e = absurd (let z : _≡_ {A = ℕ} 0 1 = cc in omega arith)
-waited-before s (suc n) i k e = go (eqb (rank-of s n) (rank-of s i) && (is-nonblocking (op s n) && eqb (op s n .slot) (op s i .slot))) e (λ q. waited-before s n i k q)
+waited-before s (suc n) i k e = go (eqb (rank-of s n) (rank-of s i) && (takes-slot (op s n) && eqb (op s n .slot) (op s i .slot))) e (λ q. waited-before s n i k q)
   where
     go : (b : Bool) → cond b (some n) (waited-below n s i) ≡ some k → (waited-below n s i ≡ some k → k < n) → k < suc n
     go true q ih = let z : n ≡ k = cc in omega arith
@@ -76,20 +76,8 @@ module _ (bs lent c : List ℕ) (t : Control) (x : Job) (d : Represents bs lent 
       let e = n .is-next in
       omega (arith, d .good .script-inside r (n .there))
 
-  -- its kind, as it was read
-  pub kind-here : (i p k : ℕ) → i < N-of s → p ≡ P-in bs → k ≡ op-in bs (ops-at p + 16 * i) .kind → k ≡ op s i .kind
-  kind-here i p k l e q = q ∙ ap (λ (o : Op). o .kind) (op-by bs i p l e)
-
-  pub wait-read : (i p k : ℕ) → i < N-of s → p ≡ P-in bs → k ≡ op-in bs (ops-at p + 16 * i) .kind → k ≡ 6 → is-wait (op s i) ≡ true
-  unfolding is-wait
-  wait-read i p k l e q h = eq-eqb (op s i .kind) 6 (sym (kind-here i p k l e q) ∙ h)
-
-  pub no-wait-read : (i p k : ℕ) → i < N-of s → p ≡ P-in bs → k ≡ op-in bs (ops-at p + 16 * i) .kind → (k ≡ 6 → ⊥) → is-wait (op s i) ≡ false
-  unfolding is-wait
-  no-wait-read i p k l e q h = ne-eqb (op s i .kind) 6 (λ z. h (kind-here i p k l e q ∙ z))
-
   -- what a wait waits for is one of the sheet
-  pub wait-target : (i : ℕ) → is-wait (op s i) ≡ true → i < N-of s → two c (word-at waits-at i) < N-of s
+  pub wait-target : (i : ℕ) → frees-slot (op s i) ≡ true → i < N-of s → two c (word-at waits-at i) < N-of s
   unfolding waited
   wait-target i w l = let b = waited-before s i i (two c (word-at waits-at i)) (d .decodes .indexed .wait-is i l w) in omega arith
 
@@ -115,33 +103,33 @@ module _ (bs lent c : List ℕ) (t : Control) (x : Job) (d : Represents bs lent 
   able-finished r v l h = rw (going-on v, lt-ltb r (P-of s) l, le-leb (board s r .count) (place-at x r .finished) h)
 
   -- else what comes next decides
-  pub able-next : (r : ℕ) → t .verdict ≡ 0 → r < P-of s → place-at x r .finished < board s r .count → (not (in-waiting-half s x r) || half-complete s x (next-op s x r)) ≡ able s x r
-  unfolding able is-finished
+  pub able-next : (r : ℕ) → t .verdict ≡ 0 → r < P-of s → place-at x r .finished < board s r .count → can-go-on s x r (next-op s x r) ≡ able s x r
+  unfolding able is-finished can-go-on
   able-next r v l h = rw (going-on v, lt-ltb r (P-of s) l, lt-leb (board s r .count) (place-at x r .finished) h)
 
-  -- WHAT COMES NEXT: a wait, an initiating step, a waiting half
+  -- WHAT COMES NEXT
   module _ (r i : ℕ) (n : Next s x r i) where
-    abbrev ready : Bool
-    ready = not (in-waiting-half s x r) || half-complete s x i
+    -- the half, from what was read
+    pub half-read : (w h : Bool) → w ≡ place-at x r .waiting → h ≡ only-half (op s i) → (w || h) ≡ in-waiting-half s x r
+    unfolding in-waiting-half
+    half-read w h e f =
+        let o : only-half (op s i) ≡ only-half (op s (next-op s x r)) = ap (λ (k : ℕ). only-half (op s k)) (n .is-next) in
+        cc
 
-    pub next-wait : is-wait (op s i) ≡ true → leb 2 (entry-in c (row-at (two c (word-at waits-at i))) .state) ≡ ready
-    unfolding in-waiting-half half-complete complete-if complete
-    next-wait w =
+    pub next-initiating : in-waiting-half s x r ≡ false → true ≡ can-go-on s x r i
+    unfolding can-go-on
+    next-initiating h = rw h
+
+    -- the operation whose slot it frees is complete
+    pub next-freeing : in-waiting-half s x r ≡ true → frees-slot (op s i) ≡ true →
+        leb 2 (entry-in c (row-at (two c (word-at waits-at i))) .state) ≡ can-go-on s x r i
+    unfolding can-go-on half-complete complete-if complete
+    next-freeing h w =
         let j : ℕ = two c (word-at waits-at i) in
         let target : waited s i ≡ some j = d .decodes .indexed .wait-is i (next-below r i n) w in
-        let w2 : is-wait (op s (next-op s x r)) ≡ true = ap (λ (k : ℕ). is-wait (op s k)) (sym (n .is-next)) ∙ w in
-        ap (λ (v : ℕ). leb 2 v) (state-is j (wait-target i w (next-below r i n))) ∙ rw (w, w2, target) (only (place-at x r .waiting) (leb 2 (entry-at x j .state)))
-      where
-        only : (a b : Bool) → b ≡ (not (a || true) || b)
-        only true b = refl
-        only false b = refl
+        ap (λ (v : ℕ). leb 2 v) (state-is j (wait-target i w (next-below r i n))) ∙ rw (h, w, target)
 
-    pub next-initiating : is-wait (op s i) ≡ false → place-at x r .waiting ≡ false → true ≡ ready
-    unfolding in-waiting-half
-    next-initiating w h =
-        let w2 : is-wait (op s (next-op s x r)) ≡ false = ap (λ (k : ℕ). is-wait (op s k)) (sym (n .is-next)) ∙ w in
-        rw (h, w2)
-
-    pub next-half : is-wait (op s i) ≡ false → place-at x r .waiting ≡ true → leb 2 (entry-at x i .state) ≡ ready
-    unfolding in-waiting-half half-complete complete
-    next-half w h = rw (h, w)
+    -- it is complete itself
+    pub next-half : in-waiting-half s x r ≡ true → frees-slot (op s i) ≡ false → leb 2 (entry-in c (row-at i) .state) ≡ can-go-on s x r i
+    unfolding can-go-on half-complete complete
+    next-half h w = ap (λ (v : ℕ). leb 2 v) (state-is i (next-below r i n)) ∙ rw (h, w)

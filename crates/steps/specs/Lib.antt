@@ -1,13 +1,17 @@
 -- What the parts of a step ask and do, in the words of rules.
 --   Able        whether a board is able, test by test
 --   Search      the earliest that fits
---   Moves       what the parts of a step do to scratch
---   Initiate    what initiating steps ask, and what the invariant gives
+--   Parts       the ends of an initiating step and of a waiting half; a release
+--   Pairing     an operation and the one that it found in a waiting list
+--   Initiate    what the invariant gives, and rules' initiating step by what was found
 --   Unmatched   a send that nothing fits, by its mode
+--   Pending     an operation that becomes pending, and a job that stops
 --   Turn        a whole step
 pub mod Able
 pub mod Search
-pub mod Moves
+pub mod Parts
+pub mod Pairing
 pub mod Initiate
 pub mod Unmatched
+pub mod Pending
 pub mod Turn

@@ -10,13 +10,18 @@ use native.Mathlib.Nat.{add-zero, zero-add}
 use native.Mathlib.Decide.{ℕ-discrete}
 use lib.Dec.{eqb}
 use lib.ListN.{length}
-use Rattle.rules.specs.Limits.{any, most-ops, most-boards, scratch-size}
+use Rattle.rules.specs.Limits.{most-ops, most-boards, scratch-size}
 use Rattle.rules.specs.Sheet.{Sheet, sheet-in, op, N-of, rank-of, two}
 use Rattle.rules.specs.Step.{first-by, fits-with}
 use Rattle.laws.specs.Laid.{Laid}
 use Rattle.laws.specs.Tests.{cond-true, cond-false}
 use Rattle.words.specs.Tab.{tab}
+use Rattle.waiting.specs.Envelopes.{envelope-fits}
+use Rattle.waiting.specs.Messages.{fits-with-is}
+use Rattle.state.specs.declared.Queue.{Queue}
+use Rattle.state.specs.declared.Queue.the-variants.{Messages, Receives}
 use Rattle.state.specs.Layout.{word-at}
+use Rattle.state.specs.Queues.{base-of}
 use Rattle.state.specs.Decoded.{words-in}
 use Rattle.state.specs.Indexed.{Indexed}
 
@@ -29,15 +34,20 @@ pub record Readable (bs c : List ℕ) : Type 0 where
   pub ranked : (i : ℕ) → i < N-of (sheet-in bs) → rank-of (sheet-in bs) i < most-boards
 
 -- a fit, from its fields as they were read
-pub fits-read : (s : Sheet) (m r pm rr cm cr pr rm tr tm : ℕ) → pm ≡ op s m .peer → rr ≡ rank-of s r → cm ≡ op s m .comm → cr ≡ op s r .comm → pr ≡ op s r .peer → rm ≡ rank-of s m → tr ≡ op s r .tag → tm ≡ op s m .tag → ((eqb pm rr && eqb cm cr) && ((eqb pr any || eqb pr rm) && (eqb tr any || eqb tr tm))) ≡ fits-with s m r
-unfolding fits-with
-fits-read s m r pm rr cm cr pr rm tr tm e f g h i j k l = cc
+pub fits-read : (s : Sheet) (m q pm rq rm cm tm pq cq tq : ℕ) → pm ≡ op s m .peer → rq ≡ rank-of s q → rm ≡ rank-of s m →
+    cm ≡ op s m .comm → tm ≡ op s m .tag → pq ≡ op s q .peer → cq ≡ op s q .comm → tq ≡ op s q .tag →
+    (eqb pm rq && envelope-fits rm cm tm pq cq tq) ≡ fits-with s m q
+fits-read s m q pm rq rm cm tm pq cq tq e f g h i j k l = cc (fits-with-is s m q)
 
--- a list of `count` operations of the sheet stands at base
-pub record Listed (bs c : List ℕ) (base count : ℕ) : Type 0 where
+-- operation i, which searches a list, fits operation j of that list
+unfoldable pub pair-fits : Queue → Sheet → (i j : ℕ) → Bool
+pair-fits Messages s i j = fits-with s j i
+pair-fits Receives s i j = fits-with s i j
+
+-- a list of `count` operations of the sheet stands in scratch
+pub record Listed (bs c : List ℕ) (list : Queue) (count : ℕ) : Type 0 where
   pub short : count ≤ most-ops
-  pub placed : word-at base most-ops ≤ scratch-size
-  pub members : (k : ℕ) → k < count → two c (word-at base k) < N-of (sheet-in bs)
+  pub members : (k : ℕ) → k < count → two c (word-at (base-of list) k) < N-of (sheet-in bs)
 
 -- k is the first index below `count` at which a test passes, or `count` where none does
 pub record First (f : ℕ → Bool) (count k : ℕ) : Type 0 where

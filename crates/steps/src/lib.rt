@@ -1,7 +1,9 @@
-// Steps of boards in lent scratch: able, the searches of the waiting lists, initiating steps, waiting halves, a whole step.
+// Steps of boards in lent scratch (document 01, "How a board steps"): able, the search of a waiting list, a match, initiating
+// steps, waiting halves, a whole step. Only scratch changes: deliveries are made at the end of a job, from the rows.
 pub mod able;
-mod receives;
+mod initiating;
+mod matching;
+mod parts;
 mod search;
 mod sends;
-mod step;
 pub mod turn;

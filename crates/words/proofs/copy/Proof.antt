@@ -20,25 +20,10 @@ loop-holds c =
     let a = c .args in
     putting-none (a .s .now) (a .at) (take (a .n) (drop (a .from) (a .src .now))) (omega (arith, part-length (a .src .now) (a .from) (a .n) (omega arith)))
 
-add-s : tie.Need-add-s Inv-loop μ-loop
-add-s c = search needs
-
-shared-slice-read-s : tie.Need-shared-slice-read-s Inv-loop μ-loop
-shared-slice-read-s c = search needs
-
-add-s-2 : tie.Need-add-s-2 Inv-loop μ-loop
-add-s-2 c = search needs
-
 slice-write-s : tie.Need-slice-write-s Inv-loop μ-loop
 slice-write-s c =
     let a = c .before .before .before .args in
     omega (arith, part-length (a .src .now) (a .from) (a .n) (omega arith))
-
-add-i : tie.Need-add-i Inv-loop μ-loop
-add-i c = search needs
-
-loop-less : tie.Need-loop-less Inv-loop μ-loop
-loop-less c = search needs
 
 loop-again : tie.Need-loop-again Inv-loop μ-loop
 loop-again c =
@@ -46,9 +31,6 @@ loop-again c =
     let l = c .before .before .loop in
     let long = part-length (a .src .now) (a .from) (a .n) (omega arith) in
     putting-more (a .s .now) (a .at) (take (a .n) (drop (a .from) (a .src .now))) (l .s) (l .i) (l .inv) _ (omega arith) (sym (part-at (a .src .now) (a .from) (a .n) (l .i) (c .before .loop-test .taken)))
-
-same-length : tie.Need-same-length Inv-loop μ-loop
-same-length c = search needs
 
 returns : tie.Need-returns Inv-loop μ-loop
 returns c =
@@ -64,12 +46,12 @@ copy-spec =
     Inv-loop
     μ-loop
     loop-holds
-    add-s
-    shared-slice-read-s
-    add-s-2
+    (λ c. search needs)
+    (λ c. search needs)
+    (λ c. search needs)
     slice-write-s
-    add-i
-    loop-less
+    (λ c. search needs)
+    (λ c. search needs)
     loop-again
-    same-length
+    (λ c. search needs)
     returns)

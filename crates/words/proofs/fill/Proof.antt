@@ -20,28 +20,16 @@ loop-holds c =
     let a = c .args in
     putting-none (a .s .now) (a .at) (replicate (a .n) (a .v)) (omega (arith, length-replicate (a .n) (a .v)))
 
-add-s : tie.Need-add-s Inv-loop μ-loop
-add-s c = search needs
-
 slice-write-s : tie.Need-slice-write-s Inv-loop μ-loop
 slice-write-s c =
     let a = c .before .before .args in
     omega (arith, length-replicate (a .n) (a .v))
-
-add-i : tie.Need-add-i Inv-loop μ-loop
-add-i c = search needs
-
-loop-less : tie.Need-loop-less Inv-loop μ-loop
-loop-less c = search needs
 
 loop-again : tie.Need-loop-again Inv-loop μ-loop
 loop-again c =
     let a = c .before .before .args in
     let l = c .before .loop in
     putting-more (a .s .now) (a .at) (replicate (a .n) (a .v)) (l .s) (l .i) (l .inv) (a .v) (omega (arith, length-replicate (a .n) (a .v))) (sym (getD-replicate (a .n) (l .i) (a .v) 0 (c .loop-test .taken)))
-
-same-length : tie.Need-same-length Inv-loop μ-loop
-same-length c = search needs
 
 returns : tie.Need-returns Inv-loop μ-loop
 returns c =
@@ -56,10 +44,10 @@ fill-spec =
     Inv-loop
     μ-loop
     loop-holds
-    add-s
+    (λ c. search needs)
     slice-write-s
-    add-i
-    loop-less
+    (λ c. search needs)
+    (λ c. search needs)
     loop-again
-    same-length
+    (λ c. search needs)
     returns)

@@ -15,36 +15,21 @@ Inv-loop s₀ at gap n from i₀ s i = Putting s₀ at (take n (drop from s₀))
 abbrev μ-loop : tie.MeasureT-loop
 μ-loop s₀ at gap n from i₀ s i = n - i
 
-add-from : tie.Need-add-from Inv-loop μ-loop
-add-from c = search needs
-
 loop-holds : tie.Need-loop-holds Inv-loop μ-loop
 loop-holds c =
     let a = c .args in
     let long = part-length (a .s .now) (a .at + a .gap) (a .n) (omega arith) in
     putting-none (a .s .now) (a .at) (take (a .n) (drop (a .at + a .gap) (a .s .now))) (omega arith)
 
-add-s : tie.Need-add-s Inv-loop μ-loop
-add-s c = search needs
-
 slice-read-s : tie.Need-slice-read-s Inv-loop μ-loop
 slice-read-s c =
     let a = c .before .before .before .args in
     omega (arith, part-length (a .s .now) (a .at + a .gap) (a .n) (omega arith))
 
-add-s-2 : tie.Need-add-s-2 Inv-loop μ-loop
-add-s-2 c = search needs
-
 slice-write-s : tie.Need-slice-write-s Inv-loop μ-loop
 slice-write-s c =
     let a = c .before .before .before .args in
     omega (arith, part-length (a .s .now) (a .at + a .gap) (a .n) (omega arith))
-
-add-i : tie.Need-add-i Inv-loop μ-loop
-add-i c = search needs
-
-loop-less : tie.Need-loop-less Inv-loop μ-loop
-loop-less c = search needs
 
 loop-again : tie.Need-loop-again Inv-loop μ-loop
 loop-again c =
@@ -55,9 +40,6 @@ loop-again c =
     let long = part-length (a .s .now) from (a .n) (omega arith) in
     putting-more (a .s .now) (a .at) xs (l .s) (l .i) (l .inv) _ (omega arith)
     (putting-ahead (a .s .now) (a .at) xs (l .s) (l .i) (l .inv) (from + l .i) (omega arith) ∙ sym (part-at (a .s .now) from (a .n) (l .i) (c .before .loop-test .taken)))
-
-same-length : tie.Need-same-length Inv-loop μ-loop
-same-length c = search needs
 
 returns : tie.Need-returns Inv-loop μ-loop
 returns c =
@@ -72,14 +54,14 @@ move-down-spec =
     (tie.spec
     Inv-loop
     μ-loop
-    add-from
+    (λ c. search needs)
     loop-holds
-    add-s
+    (λ c. search needs)
     slice-read-s
-    add-s-2
+    (λ c. search needs)
     slice-write-s
-    add-i
-    loop-less
+    (λ c. search needs)
+    (λ c. search needs)
     loop-again
-    same-length
+    (λ c. search needs)
     returns)

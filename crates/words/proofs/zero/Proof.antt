@@ -8,16 +8,10 @@ use Rattle.words.specs.Splice.{splice-whole}
 use Rattle.words.proofs.zero.Statement.{statement}
 use Rattle.words.proofs.zero.Tie as tie
 
-fill-requires : tie.Need-fill-requires
-fill-requires c κs = omega arith
-
-same-length : tie.Need-same-length
-same-length c = search needs
-
 returns : tie.Need-returns
 returns c =
     let s = c .before .before .before .before .before .args .s .now in
     c .before .before .fill .ensures ∙ splice-whole s (replicate {A = ℕ} (length s) 0) (length-replicate {A = ℕ} (length s) 0)
 
 pub zero-spec : {M : Type 1} → statement M
-zero-spec = tie.close (tie.spec fill-requires same-length returns)
+zero-spec = tie.close (tie.spec (λ c κs. omega arith) (λ c. search needs) returns)

@@ -4,15 +4,6 @@ use borrow.Author.Needs.{needs}
 use Rattle.state.proofs.changes.match_rows.Statement.{statement}
 use Rattle.state.proofs.changes.match_rows.Tie as tie
 
-put-sent-requires : tie.Need-put-sent-requires
-put-sent-requires c κs = search needs
-
-put-received-requires : tie.Need-put-received-requires
-put-received-requires c κs = search needs
-
-same-length : tie.Need-same-length
-same-length c = search needs
-
 returns : tie.Need-returns
 returns c =
     λ t s x d q.
@@ -20,4 +11,4 @@ returns c =
     rows-match s (a .c .now) t x d (a .m) (a .r) (a .cut) (a .source) (a .tag) (a .long) (c .before .before .before .before .before .before .put-sent .last .0) (c .before .before .put-received .last .0) q (c .before .before .before .before .before .before .put-sent .ensures) (c .before .before .put-received .ensures)
 
 pub match-rows-spec : {M : Type 1} → statement M
-match-rows-spec = tie.close (tie.spec put-sent-requires put-received-requires same-length returns)
+match-rows-spec = tie.close (tie.spec (λ c κs. search needs) (λ c κs. search needs) (λ c. search needs) returns)

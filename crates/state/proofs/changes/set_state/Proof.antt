@@ -9,12 +9,6 @@ use borrow.Author.Needs.{needs}
 use Rattle.state.proofs.changes.set_state.Statement.{statement}
 use Rattle.state.proofs.changes.set_state.Tie as tie
 
-put-bare-requires : tie.Need-put-bare-requires
-put-bare-requires c κs = search needs
-
-same-length : tie.Need-same-length
-same-length c = search needs
-
 returns : tie.Need-returns
 returns c =
     λ t s x d l.
@@ -23,4 +17,4 @@ returns c =
     (c .before .before .put-bare .ensures) refl (state-put s (a .c .now) t x d (a .i) (a .v) l)
 
 pub set-state-spec : {M : Type 1} → statement M
-set-state-spec = tie.close (tie.spec put-bare-requires same-length returns)
+set-state-spec = tie.close (tie.spec (λ c κs. search needs) (λ c. search needs) returns)

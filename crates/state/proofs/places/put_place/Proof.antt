@@ -1,4 +1,4 @@
--- `state::places::put_place` meets its contract: two splices side by side are the place's eight bytes. Assumes nothing.
+-- `state::places::put_place` meets its contract: two pairs of numbers side by side are the row. Assumes nothing.
 use mathlib.Core.Path.{_≡_, refl, _∙_, ap}
 use mathlib.Core.Bool.{cond}
 use mathlib.Core.List.{List, [], _∷_, _++_}
@@ -14,27 +14,10 @@ use Rattle.state.specs.Places.{waiting-bytes}
 use borrow.Author.Needs.{needs}
 use Rattle.state.proofs.places.put_place.Statement.{statement}
 use Rattle.state.proofs.places.put_place.Tie as tie
-
-bit-requires : tie.Need-bit-requires
-bit-requires c κs = search needs
-
-mul-at : tie.Need-mul-at
-mul-at c = search needs
-
-add-at : tie.Need-add-at
-add-at c = search needs
-
-put-pair-requires : tie.Need-put-pair-requires
-put-pair-requires c κs = search needs
-
-add-put-pair : tie.Need-add-put-pair
-add-put-pair c = search needs
-
-put-pair-requires-2 : tie.Need-put-pair-requires-2
-put-pair-requires-2 c κs = search needs
-
-same-length : tie.Need-same-length
-same-length c = search needs
+use Rattle.state.proofs.places.put_place.Reads as reads
+use Rattle.state.proofs.places.put_place.Lts as lts
+use Rattle.state.proofs.places.bit.Reads as bit-reads
+use Rattle.words.proofs.put_pair.Reads as put-pair-reads
 
 returns : tie.Need-returns
 unfolding low-two place place-row
@@ -42,20 +25,22 @@ returns c =
     let a = c .before .before .before .before .before .before .before .before .before .before .args in
     let one = c .before .before .before .before .before .before .put-pair in
     let two = c .before .before .put-pair2 in
-    let u = low-two (a .finished) ++ low-two (a .in-use) in
-    let w : low-two (c .before .before .before .before .before .before .before .before .bit .result) ≡ cond (a .waiting) 1 0 ∷ 0 ∷ [] = ap low-two (c .before .before .before .before .before .before .before .before .bit .ensures) ∙ waiting-bytes (a .waiting) in
-    splice-then (a .c .now) (one .last .0) (two .last .0) (seat-at (a .r)) 4 u (low-two (a .peak) ++ low-two (c .before .before .before .before .before .before .before .before .bit .result)) (one .ensures) refl (two .ensures) (omega arith)
-    ∙ ap (λ (vs : List ℕ). splice (a .c .now) (seat-at (a .r)) (u ++ (low-two (a .peak) ++ vs))) w
+    let half = c .before .before .before .before .before .before .before .before .bit in
+    let u = low-two (a .q .finished) ++ low-two (a .q .in_use) in
+    let w : low-two (half .result) ≡ cond (a .q .waiting) 1 0 ∷ 0 ∷ [] = ap low-two (half .ensures) ∙ waiting-bytes (a .q .waiting) in
+    splice-then (a .c .now) (one .last .0) (two .last .0) (seat-at (a .r)) 4 u (low-two (a .q .peak) ++ low-two (half .result))
+    (one .ensures) refl (two .ensures) (omega arith)
+    ∙ ap (λ (vs : List ℕ). splice (a .c .now) (seat-at (a .r)) (u ++ (low-two (a .q .peak) ++ vs))) w
 
 pub put-place-spec : {M : Type 1} → statement M
 put-place-spec =
     tie.close
     (tie.spec
-    bit-requires
-    mul-at
-    add-at
-    put-pair-requires
-    add-put-pair
-    put-pair-requires-2
-    same-length
+    (λ c κs. search needs)
+    (λ c. search needs)
+    (λ c. search needs)
+    (λ c κs. search needs)
+    (λ c. search needs)
+    (λ c κs. search needs)
+    (λ c. search needs)
     returns)

@@ -6,21 +6,9 @@ use borrow.Author.Needs.{needs}
 use Rattle.state.proofs.places.waiting_of.Statement.{statement}
 use Rattle.state.proofs.places.waiting_of.Tie as tie
 
-mul-byte-at : tie.Need-mul-byte-at
-mul-byte-at c = search needs
-
-add-byte-at : tie.Need-add-byte-at
-add-byte-at c = search needs
-
-add-byte-at-2 : tie.Need-add-byte-at-2
-add-byte-at-2 c = search needs
-
-byte-at-requires : tie.Need-byte-at-requires
-byte-at-requires c κs = search needs
-
 returns : tie.Need-returns
 returns c = ap (λ (k : ℕ). eqb k 1) (c .byte-at .ensures .is)
 
 pub waiting-of-spec : {M : Type 1} → statement M
 waiting-of-spec =
-    tie.close (tie.spec mul-byte-at add-byte-at add-byte-at-2 byte-at-requires returns)
+    tie.close (tie.spec (λ c. search needs) (λ c. search needs) (λ c. search needs) (λ c κs. search needs) returns)

@@ -4,15 +4,9 @@ use borrow.Author.Needs.{needs}
 use Rattle.state.proofs.rows.put_bare.Statement.{statement}
 use Rattle.state.proofs.rows.put_bare.Tie as tie
 
-put-row-requires : tie.Need-put-row-requires
-put-row-requires c κs = search needs
-
-same-length : tie.Need-same-length
-same-length c = search needs
-
 returns : tie.Need-returns
 unfolding bare-entry
 returns c = c .before .before .put-row .ensures
 
 pub put-bare-spec : {M : Type 1} → statement M
-put-bare-spec = tie.close (tie.spec put-row-requires same-length returns)
+put-bare-spec = tie.close (tie.spec (λ c κs. search needs) (λ c. search needs) returns)

@@ -8,24 +8,6 @@ use borrow.Author.Needs.{needs}
 use Rattle.state.proofs.rows.put_front.Statement.{statement}
 use Rattle.state.proofs.rows.put_front.Tie as tie
 
-put-byte-requires : tie.Need-put-byte-requires
-put-byte-requires c κs = search needs
-
-add-put-byte : tie.Need-add-put-byte
-add-put-byte c = search needs
-
-put-byte-requires-2 : tie.Need-put-byte-requires-2
-put-byte-requires-2 c κs = search needs
-
-add-put-two : tie.Need-add-put-two
-add-put-two c = search needs
-
-put-two-requires : tie.Need-put-two-requires
-put-two-requires c κs = search needs
-
-same-length : tie.Need-same-length
-same-length c = search needs
-
 returns : tie.Need-returns
 unfolding low-two
 returns c =
@@ -40,10 +22,10 @@ pub put-front-spec : {M : Type 1} → statement M
 put-front-spec =
     tie.close
     (tie.spec
-    put-byte-requires
-    add-put-byte
-    put-byte-requires-2
-    add-put-two
-    put-two-requires
-    same-length
+    (λ c κs. search needs)
+    (λ c. search needs)
+    (λ c κs. search needs)
+    (λ c. search needs)
+    (λ c κs. search needs)
+    (λ c. search needs)
     returns)

@@ -10,27 +10,6 @@ use borrow.Author.Needs.{needs}
 use Rattle.state.proofs.rows.put_row.Statement.{statement}
 use Rattle.state.proofs.rows.put_row.Tie as tie
 
-mul-at : tie.Need-mul-at
-mul-at c = search needs
-
-put-front-requires : tie.Need-put-front-requires
-put-front-requires c κs = search needs
-
-add-put-pair : tie.Need-add-put-pair
-add-put-pair c = search needs
-
-put-pair-requires : tie.Need-put-pair-requires
-put-pair-requires c κs = search needs
-
-add-put-pair-2 : tie.Need-add-put-pair-2
-add-put-pair-2 c = search needs
-
-put-pair-requires-2 : tie.Need-put-pair-requires-2
-put-pair-requires-2 c κs = search needs
-
-same-length : tie.Need-same-length
-same-length c = search needs
-
 returns : tie.Need-returns
 unfolding low-two op-row entry
 returns c =
@@ -47,11 +26,11 @@ pub put-row-spec : {M : Type 1} → statement M
 put-row-spec =
     tie.close
     (tie.spec
-    mul-at
-    put-front-requires
-    add-put-pair
-    put-pair-requires
-    add-put-pair-2
-    put-pair-requires-2
-    same-length
+    (λ c. search needs)
+    (λ c κs. search needs)
+    (λ c. search needs)
+    (λ c κs. search needs)
+    (λ c. search needs)
+    (λ c κs. search needs)
+    (λ c. search needs)
     returns)

@@ -9,18 +9,6 @@ use borrow.Author.Needs.{needs}
 use Rattle.state.proofs.start.init.Statement.{statement}
 use Rattle.state.proofs.start.init.Tie as tie
 
-put-rows-requires : tie.Need-put-rows-requires
-put-rows-requires c κs = search needs
-
-mul-fill : tie.Need-mul-fill
-mul-fill c = search needs
-
-fill-requires : tie.Need-fill-requires
-fill-requires c κs = search needs
-
-same-length : tie.Need-same-length
-same-length c = search needs
-
 returns : tie.Need-returns
 returns c =
     let a = c .before .before .before .before .before .before .before .before .before .args in
@@ -28,4 +16,4 @@ returns c =
 
 pub init-spec : {M : Type 1} → statement M
 init-spec =
-    tie.close (tie.spec put-rows-requires mul-fill fill-requires same-length returns)
+    tie.close (tie.spec (λ c κs. search needs) (λ c. search needs) (λ c κs. search needs) (λ c. search needs) returns)

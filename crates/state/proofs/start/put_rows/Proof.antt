@@ -19,23 +19,11 @@ loop-holds c =
     let a = c .before .args in
     bare-none (a .c .now) (a .n) (c .before .pre .0) (c .before .pre .1)
 
-put-bare-requires : tie.Need-put-bare-requires Inv-loop μ-loop
-put-bare-requires c κs = omega arith
-
-add-i : tie.Need-add-i Inv-loop μ-loop
-add-i c = omega arith
-
-loop-less : tie.Need-loop-less Inv-loop μ-loop
-loop-less c = omega arith
-
 loop-again : tie.Need-loop-again Inv-loop μ-loop
 loop-again c =
     let a = c .before .before .before .before .before .before .before .args in
     let l = c .before .before .before .before .before .loop in
     bare-more (a .c .now) (l .c) (c .before .before .put-bare .last .0) (a .n) (l .i) (l .inv) (c .before .before .before .before .loop-test .taken) (c .before .before .put-bare .ensures)
-
-same-length : tie.Need-same-length Inv-loop μ-loop
-same-length c = omega arith
 
 returns : tie.Need-returns Inv-loop μ-loop
 returns c =
@@ -51,9 +39,9 @@ put-rows-spec =
     Inv-loop
     μ-loop
     loop-holds
-    put-bare-requires
-    add-i
-    loop-less
+    (λ c κs. omega arith)
+    (λ c. omega arith)
+    (λ c. omega arith)
     loop-again
-    same-length
+    (λ c. omega arith)
     returns)

@@ -1,95 +1,48 @@
 -- `steps::search::fits` meets its contract: each part of the test is the definition's. Assumes nothing.
-use mathlib.Core.Path.{_≡_, _∙_, ap}
-use native.Mathlib.Omega.{arith}
-use Rattle.rules.specs.Sheet.{Op, sheet-in}
-use Rattle.laws.specs.Decoded.{op-by, op-within}
+use mathlib.Core.Path.{_≡_, refl, sym, _∙_, ap, subst}
+use mathlib.Core.Bool.{Bool, _&&_}
+use lib.Dec.{eqb}
+use Rattle.rules.specs.Sheet.{sheet-in, N-of}
 use Rattle.steps.specs.Search.{fits-read}
 use borrow.Author.Needs.{needs}
 use Rattle.steps.proofs.search.fits.Statement.{statement}
 use Rattle.steps.proofs.search.fits.Tie as tie
 use Rattle.steps.proofs.search.fits.Reads as reads
 use Rattle.steps.proofs.search.fits.Lts as lts
-use Rattle.sheet.proofs.header.boards.Reads as boards-reads
-use Rattle.sheet.proofs.op_bytes.comm.Reads as comm-reads
-use Rattle.sheet.proofs.op_bytes.peer.Reads as peer-reads
-use Rattle.sheet.proofs.op_bytes.tag.Reads as tag-reads
+use Rattle.sheet.proofs.ops.comm.Reads as comm-reads
+use Rattle.sheet.proofs.ops.peer.Reads as peer-reads
+use Rattle.sheet.proofs.ops.tag.Reads as tag-reads
 use Rattle.state.proofs.ranks.rank_at.Reads as rank-at-reads
-
-boards-requires : tie.Need-boards-requires
-boards-requires c κs = search needs
-
-mul-table : tie.Need-mul-table
-mul-table c = search needs
-
-add-table : tie.Need-add-table
-add-table c = search needs
-
-mul-sent : tie.Need-mul-sent
-mul-sent c = search needs
-
-add-sent : tie.Need-add-sent
-add-sent c = search needs
-
-mul-posted : tie.Need-mul-posted
-mul-posted c = search needs
-
-add-posted : tie.Need-add-posted
-add-posted c = search needs
-
-peer-requires : tie.Need-peer-requires
-peer-requires c κs = op-within (c .before .before .before .args .s .now) (c .before .before .before .args .r) (c .boards .result) (c .before .before .before .pre .2) (c .boards .ensures .is) (c .before .before .before .pre .0 .laid .whole)
-
-tag-requires : tie.Need-tag-requires
-tag-requires c κs = op-within (c .before .before .before .before .args .s .now) (c .before .before .before .before .args .r) (c .before .boards .result) (c .before .before .before .before .pre .2) (c .before .boards .ensures .is) (c .before .before .before .before .pre .0 .laid .whole)
-
-peer-requires-2 : tie.Need-peer-requires-2
-peer-requires-2 c κs = op-within (c .before .before .before .before .before .args .s .now) (c .before .before .before .before .before .args .m) (c .before .before .boards .result) (c .before .before .before .before .before .pre .1) (c .before .before .boards .ensures .is) (c .before .before .before .before .before .pre .0 .laid .whole)
-
-rank-at-requires : tie.Need-rank-at-requires
-rank-at-requires c κs = search needs
-
-comm-requires : tie.Need-comm-requires
-comm-requires c κs = op-within (c .before .before .before .before .before .before .before .args .s .now) (c .before .before .before .before .before .before .before .args .m) (c .before .before .before .before .boards .result) (c .before .before .before .before .before .before .before .pre .1) (c .before .before .before .before .boards .ensures .is) (c .before .before .before .before .before .before .before .pre .0 .laid .whole)
-
-comm-requires-2 : tie.Need-comm-requires-2
-comm-requires-2 c κs = op-within (c .before .before .before .before .before .before .before .before .args .s .now) (c .before .before .before .before .before .before .before .before .args .r) (c .before .before .before .before .before .boards .result) (c .before .before .before .before .before .before .before .before .pre .2) (c .before .before .before .before .before .boards .ensures .is) (c .before .before .before .before .before .before .before .before .pre .0 .laid .whole)
-
-rank-at-requires-2 : tie.Need-rank-at-requires-2
-rank-at-requires-2 c κs = search needs
-
-tag-requires-2 : tie.Need-tag-requires-2
-tag-requires-2 c κs = op-within (c .before .before .before .before .before .before .before .before .before .before .args .s .now) (c .before .before .before .before .before .before .before .before .before .before .args .m) (c .before .before .before .before .before .before .before .boards .result) (c .before .before .before .before .before .before .before .before .before .before .pre .1) (c .before .before .before .before .before .before .before .boards .ensures .is) (c .before .before .before .before .before .before .before .before .before .before .pre .0 .laid .whole)
+use Rattle.waiting.proofs.envelope_fits.Reads as envelope-fits-reads
 
 returns : tie.Need-returns
 returns c =
     let a = c .before .before .before .before .before .before .before .before .before .before .before .args in
     let p = c .before .before .before .before .before .before .before .before .before .before .before .pre in
-    let sent = op-by (a .s .now) (a .m) (c .before .before .before .before .before .before .before .before .boards .result) (p .1) (c .before .before .before .before .before .before .before .before .boards .ensures .is) in
-    let posted = op-by (a .s .now) (a .r) (c .before .before .before .before .before .before .before .before .boards .result) (p .2) (c .before .before .before .before .before .before .before .before .boards .ensures .is) in
-    fits-read (sheet-in (a .s .now)) (a .m) (a .r) (c .before .before .before .before .before .peer2 .result) (c .before .before .before .before .rank-at .result) (c .before .before .before .comm .result) (c .before .before .comm2 .result) (c .before .before .before .before .before .before .before .peer .result)
-    (c .before .rank-at2 .result) (c .before .before .before .before .before .before .tag .result) (c .tag2 .result)
-    (c .before .before .before .before .before .peer2 .ensures .is ∙ ap (λ (o : Op). o .peer) sent) (c .before .before .before .before .rank-at .ensures .is ∙ p .0 .tables .rank-is (a .r) (p .2))
-    (c .before .before .before .comm .ensures .is ∙ ap (λ (o : Op). o .comm) sent) (c .before .before .comm2 .ensures .is ∙ ap (λ (o : Op). o .comm) posted)
-    (c .before .before .before .before .before .before .before .peer .ensures .is ∙ ap (λ (o : Op). o .peer) posted) (c .before .rank-at2 .ensures .is ∙ p .0 .tables .rank-is (a .m) (p .1))
-    (c .before .before .before .before .before .before .tag .ensures .is ∙ ap (λ (o : Op). o .tag) posted) (c .tag2 .ensures .is ∙ ap (λ (o : Op). o .tag) sent)
+    let rq = c .rank-at2 in
+    let pm = c .before .peer2 in
+    let rm = c .before .before .before .before .before .before .before .before .rank-at in
+    let cm = c .before .before .before .before .before .before .before .comm in
+    let tm = c .before .before .before .before .before .before .tag in
+    let pq = c .before .before .before .before .before .peer in
+    let cq = c .before .before .before .before .comm2 in
+    let tq = c .before .before .before .tag2 in
+    ap (λ (b : Bool). eqb (pm .result) (rq .result) && b) (c .before .before .envelope-fits .ensures)
+    ∙ fits-read (sheet-in (a .s .now)) (a .m) (a .q) (pm .result) (rq .result) (rm .result) (cm .result) (tm .result) (pq .result) (cq .result)
+    (tq .result) (pm .ensures .is) (rq .ensures .is ∙ p .0 .tables .rank-is (a .q) (p .2)) (rm .ensures .is ∙ p .0 .tables .rank-is (a .m) (p .1))
+    (cm .ensures .is) (tm .ensures .is) (pq .ensures .is) (cq .ensures .is) (tq .ensures .is)
 
 pub fits-spec : {M : Type 1} → statement M
 fits-spec =
     tie.close
     (tie.spec
-    boards-requires
-    mul-table
-    add-table
-    mul-sent
-    add-sent
-    mul-posted
-    add-posted
-    peer-requires
-    tag-requires
-    peer-requires-2
-    rank-at-requires
-    comm-requires
-    comm-requires-2
-    rank-at-requires-2
-    tag-requires-2
+    (λ c κs. search needs)
+    (λ c κs. search needs)
+    (λ c κs. search needs)
+    (λ c κs. search needs)
+    (λ c κs. search needs)
+    (λ c κs. search needs)
+    (λ c κs. search needs)
+    (λ c κs. search needs)
+    (λ c κs. search needs)
     returns)

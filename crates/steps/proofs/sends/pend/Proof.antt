@@ -1,47 +1,39 @@
--- `steps::sends::pend` meets its contract: the send is pending, then its board goes on. Assumes nothing.
+-- `steps::sends::pend` meets its contract: it becomes pending, and its board goes on. Assumes nothing.
+use mathlib.Core.Path.{_≡_, refl, sym, _∙_, ap, subst}
+use Prim.Native.Nat.{ℕ, _<_}
 use native.Mathlib.Omega.{arith}
-use Rattle.rules.specs.Sheet.{sheet-in}
-use Rattle.rules.specs.Step.{pend-message}
-use Rattle.state.specs.Decodes.{messages-length}
-use Rattle.steps.specs.Initiate.{pended-seated}
+use Rattle.rules.specs.Sheet.{sheet-in, N-of}
+use Rattle.rules.specs.Job.{Job}
+use Rattle.rules.specs.Step.{initiated}
+use Rattle.state.specs.declared.Queue.the-variants.{Messages}
+use Rattle.simulation.specs.Simulates.{simulates-as}
+use Rattle.steps.specs.Pairing.{pended-message}
+use Rattle.steps.specs.Pending.{enters, pended-holds, pended-initiated}
 use borrow.Author.Needs.{needs}
 use Rattle.steps.proofs.sends.pend.Statement.{statement}
 use Rattle.steps.proofs.sends.pend.Tie as tie
 use Rattle.steps.proofs.sends.pend.Reads as reads
 use Rattle.steps.proofs.sends.pend.Lts as lts
-use Rattle.steps.proofs.step.initiate.Reads as initiate-reads
-use Rattle.state.proofs.changes.pend_message.Reads as pend-message-reads
+use Rattle.state.proofs.changes.pend.Reads as pend-reads
+use Rattle.steps.proofs.parts.initiate.Reads as initiate-reads
 
-pend-message-requires : tie.Need-pend-message-requires
-pend-message-requires c κs =
-    let a = c .before .before .before .args in
+pend-requires : tie.Need-pend-requires
+pend-requires c κs =
     let p = c .before .before .before .pre in
-    omega (arith, p .fine .inside, p .fine .messages-roomy, p .decodes .few-ops, p .decodes .roomy, messages-length (sheet-in (a .s .now)) (a .c .now) (a .t) (p .job) (p .decodes))
+    let e = enters Messages p in
+    (e .few, e .room, omega (arith, p .decodes .roomy))
 
 initiate-requires : tie.Need-initiate-requires
 initiate-requires c κs =
     let a = c .before .before .before .before .before .before .before .args in
     let p = c .before .before .before .before .before .before .before .pre in
-    let s = sheet-in (a .s .now) in (
-      record {
-        laid = p .laid;
-        good = p .good;
-        job = pend-message (a .i) 1 (p .job);
-        decodes = c .before .before .before .pend-message .ensures s (p .job) (p .decodes) (p .fine .inside);
-        fine = pended-seated s (a .r) (a .i) 1 (p .job) (p .fine .seated);
-      },
-      p .fine .inside,
-    )
-
-same-length : tie.Need-same-length
-same-length c = search needs
+    (pended-holds Messages (a .r) (a .i) 1 (c .before .before .before .pend .ensures) p, p .fine .inside)
 
 returns : tie.Need-returns
 returns c =
-    λ x d ok.
     let a = c .before .before .before .before .before .before .before .before .before .before .args in
-    let s = sheet-in (a .s .now) in
-    c .before .before .initiate .ensures (pend-message (a .i) 1 x) (c .before .before .before .before .before .before .pend-message .ensures s x d (ok .inside)) (pended-seated s (a .r) (a .i) 1 x (ok .seated))
+    simulates-as (λ x o. ap (λ (y : Job). initiated (sheet-in (a .s .now)) (a .r) (a .i) y) (pended-message (a .i) 1 x))
+    (pended-initiated Messages (a .r) (a .i) 1 (c .before .before .before .before .before .before .pend .ensures) (c .before .before .initiate .ensures))
 
 pub pend-spec : {M : Type 1} → statement M
-pend-spec = tie.close (tie.spec pend-message-requires initiate-requires same-length returns)
+pend-spec = tie.close (tie.spec pend-requires initiate-requires (λ c. search needs) returns)

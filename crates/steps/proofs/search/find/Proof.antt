@@ -1,0 +1,86 @@
+-- `steps::search::find` meets its contract. The loop's invariant: none of the k passed fits. The measure is how many are left.
+-- Assumes nothing.
+use mathlib.Core.Path.{_≡_, sym, _∙_, ap, subst}
+use mathlib.Core.Bool.{Bool, true, false}
+use mathlib.Core.List.{List}
+use Prim.Native.Nat.{ℕ, _-_, _<_, _≤_}
+use native.Mathlib.Omega.{arith}
+use borrow.Author.Count.{below-more}
+use borrow.Author.Needs.{needs}
+use Rattle.rules.specs.Sheet.{sheet-in, N-of, two}
+use Rattle.state.specs.declared.Queue.{Queue}
+use Rattle.state.specs.Layout.{word-at}
+use Rattle.state.specs.Queues.{base-of}
+use Rattle.steps.specs.Search.{First, first-past, pair-fits}
+use Rattle.steps.proofs.search.find.Statement.{statement}
+use Rattle.steps.proofs.search.find.Tie as tie
+use Rattle.steps.proofs.search.find.Reads as reads
+use Rattle.steps.proofs.search.find.Lts as lts
+use Rattle.state.proofs.lists.base.Reads as base-reads
+use Rattle.state.proofs.lists.word_of.Reads as word-of-reads
+use Rattle.steps.proofs.search.pair_fits.Reads as pair-fits-reads
+
+-- the test at index j of the list
+abbrev test : (s c : List ℕ) → Queue → (i j : ℕ) → Bool
+test s c list i j = pair-fits list (sheet-in s) i (two c (word-at (base-of list) j))
+
+abbrev Inv-loop : tie.InvT-loop
+Inv-loop s c list count i base k₀ k = (k ≤ count) × ((j : ℕ) → j < k → test s c list i j ≡ false)
+
+abbrev μ-loop : tie.MeasureT-loop
+μ-loop s c list count i base k₀ k = count - k
+
+-- what was read at index k is the k-th of the list
+read : (c : tie.After-word-of Inv-loop μ-loop) → c .word-of .result ≡ two (c .before .before .before .before .before .before .args .c .now) (word-at (base-of (c .before .before .before .before .before .before .args .list)) (c .before .before .loop .k))
+read c = c .word-of .ensures .is ∙ ap (λ (b : ℕ). two (c .before .before .before .before .before .before .args .c .now) (word-at b (c .before .before .loop .k))) (c .before .before .before .base .ensures .0)
+
+word-of-requires : tie.Need-word-of-requires Inv-loop μ-loop
+word-of-requires c κs = omega (arith, c .before .before .before .before .before .pre .1 .short, c .before .before .base .ensures .1 .high, c .before .before .before .before .before .pre .0 .roomy)
+
+pair-fits-requires : tie.Need-pair-fits-requires Inv-loop μ-loop
+pair-fits-requires c κs =
+    let p = c .before .before .before .before .before .before .pre in
+    let member = p .1 .members (c .before .before .loop .k) (c .before .loop-test .taken) in
+    (p .0, p .2, subst (λ (n : ℕ). n < N-of (sheet-in (c .before .before .before .before .before .before .args .s .now))) (sym (read c)) member)
+
+-- what the test answered, of the k-th of the list
+tested : (c : tie.After-pair-fits Inv-loop μ-loop) → test (c .before .before .before .before .before .before .before .args .s .now) (c .before .before .before .before .before .before .before .args .c .now) (c .before .before .before .before .before .before .before .args .list) (c .before .before .before .before .before .before .before .args .i) (c .before .before .before .loop .k) ≡ c .pair-fits .result
+tested c =
+    let a = c .before .before .before .before .before .before .before .args in
+    sym (c .pair-fits .ensures ∙ ap (λ (n : ℕ). pair-fits (a .list) (sheet-in (a .s .now)) (a .i) n) (read (c .before)))
+
+returns : tie.Need-returns Inv-loop μ-loop
+returns c =
+    record {
+      within = c .before .before .before .before .loop .inv .0;
+      before = c .before .before .before .before .loop .inv .1;
+      found = λ l. tested (c .before) ∙ c .if1 .taken;
+    }
+
+loop-again : tie.Need-loop-again Inv-loop μ-loop
+loop-again c =
+    let a = c .before .before .before .before .before .before .before .before .args in
+    let l = c .before .before .before .before .loop in
+    (omega arith, below-more (λ j. test (a .s .now) (a .c .now) (a .list) (a .i) j ≡ false) (l .k) (l .inv .1) (tested (c .before) ∙ c .if1 .left))
+
+returns-2 : tie.Need-returns-2 Inv-loop μ-loop
+returns-2 c =
+    let a = c .before .before .before .before .before .args in
+    let l = c .before .loop in
+    first-past (λ j. test (a .s .now) (a .c .now) (a .list) (a .i) j) (a .count) (l .k) (c .loop-test .left) (l .inv .0) (l .inv .1)
+
+pub find-spec : {M : Type 1} → statement M
+find-spec =
+    tie.close
+    (tie.spec
+    Inv-loop
+    μ-loop
+    (λ c κs. search needs)
+    (λ c. (omega arith, λ j l. absurd (omega arith)))
+    word-of-requires
+    pair-fits-requires
+    returns
+    (λ c. omega arith)
+    (λ c. omega arith)
+    loop-again
+    returns-2)
