@@ -30,7 +30,7 @@ fn tables(s: &[u8]) -> Answer
 pub fn check(s: &[u8]) -> Answer
     ensures { λ a. ⌜ Check-says (now (s .entry)) (a .number) (a .place) ⌝ }
 {
-    if s.len() < 16 {
+    if s.len() < limits::HEADER_SIZE {
         return Answer {
             number: 1,
             place: 0,

@@ -6,7 +6,7 @@ use Rattle.rules.specs.Sheet.{sheet-in, Sheet}
 use Rattle.rules.specs.Refusal.{Refusal, or-else, boards-refusal, ops-refusal, requests-refusal, tables-refusal}
 use Rattle.laws.specs.Scripts.{answers-number}
 use Rattle.laws.specs.Tabled.{Tabled, tabled}
-use Rattle.sheet.specs.Ops.{Fielded, fielded}
+use Rattle.laws.specs.Fields.{fielded}
 use Rattle.refusals.specs.Chain.{or-else-told, or-else-next}
 use borrow.Author.Needs.{needs}
 use Rattle.refusals.proofs.check.tables.Statement.{statement}
@@ -50,7 +50,7 @@ refusal-requires-3 c κs =
     let b = c .before .before .refusal2 in (
       c .before .before .before .before .before .before .before .pre,
       tabled s (sym (answers-number (boards-refusal s) (a .result .number) (a .result .place) (a .ensures)) ∙ c .before .before .before .if1 .left),
-      fielded bs (sym (answers-number (ops-refusal s) (b .result .number) (b .result .place) (b .ensures)) ∙ c .if2 .left),
+      fielded s (sym (answers-number (ops-refusal s) (b .result .number) (b .result .place) (b .ensures)) ∙ c .if2 .left),
     )
 
 returns-3 : tie.Need-returns-3
