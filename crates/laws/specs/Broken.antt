@@ -7,7 +7,7 @@ use native.Mathlib.Omega.{arith}
 use native.Mathlib.Decide.{ℕ-discrete}
 use native.Mathlib.Nat.{add-suc, add-zero, zero-add, suc-add}
 use lib.Dec.{eqb}
-use borrow.Author.Tests.{eq-eqb, ne-eqb}
+use borrow.Author.Tests.{eq-eqb, ne-eqb, not-true, not-false}
 use Rattle.rules.specs.Refusal.{Refusal, refusal, accepted, or-else, first-broken}
 use Rattle.laws.specs.Tests.{cond-true, cond-false, true-not-false}
 
@@ -19,6 +19,13 @@ or-else-passed a b h = cond-true (eqb (a .number) 0) b a (eq-eqb (a .number) 0 h
 pub or-else-stopped : (a b : Refusal) → (a .number ≡ 0 → ⊥) → or-else a b ≡ a
 unfolding or-else
 or-else-stopped a b h = cond-false (eqb (a .number) 0) b a (ne-eqb (a .number) 0 h)
+
+-- TESTS that code makes by `if !good`, where `good` is a rule's answer
+pub rule-kept : {good rule : Bool} → good ≡ rule → not good ≡ false → rule ≡ true
+rule-kept {good} {rule} e h = sym e ∙ not-false good h
+
+pub rule-broken : {good rule : Bool} → good ≡ rule → not good ≡ true → rule ≡ false
+rule-broken {good} {rule} e h = sym e ∙ not-true good h
 
 -- SEARCHES
 module _ (n : ℕ) (f : ℕ → Bool) where

@@ -3,14 +3,14 @@
 -- refusal and for its end. The rule is any test f of an operation's index, n the number that it is refused with.
 -- Assumes nothing.
 use mathlib.Core.Path.{_≡_, refl, sym, _∙_, ap, subst}
-use mathlib.Core.Bool.{Bool, true, false}
+use mathlib.Core.Bool.{Bool, true, false, not}
 use Prim.Native.Nat.{ℕ, zero, suc, _+_, _-_, _<_, _≤_}
 use native.Mathlib.Omega.{arith}
 use native.Mathlib.Numerals.{add-one}
 use Rattle.rules.specs.Sheet.{Sheet, board, P-of, N-of, counts-before, rank-of}
 use Rattle.rules.specs.Refusal.{Refusal, refusal, or-else, first-broken}
 use Rattle.rules.specs.Service.{answers}
-use Rattle.laws.specs.Broken.{or-else-passed, or-else-stopped, broken-none, broken-more, broken-here, broken-part}
+use Rattle.laws.specs.Broken.{or-else-passed, or-else-stopped, rule-kept, rule-broken, broken-none, broken-more, broken-here, broken-part}
 use Rattle.laws.specs.Ranks.{counts-none, script-next, script-before, rank-in-script}
 use Rattle.laws.specs.Tabled.{Tabled}
 
@@ -33,6 +33,10 @@ all-broken n f s = first-broken n f (N-of s) 0
 abbrev pub script-broken : (number : ℕ) → (ℕ → Bool) → Sheet → (r : ℕ) → Refusal
 script-broken n f s r = first-broken n f (board s r .count) (board s r .first)
 
+-- and from board r on
+abbrev pub broken-from : (number : ℕ) → (ℕ → Bool) → Sheet → (r : ℕ) → Refusal
+broken-from n f s r = first-broken n f (N-of s - counts-before s r) (counts-before s r)
+
 -- a script lies inside the operations
 pub script-inside : (s : Sheet) → Tabled s → (r : ℕ) → r < P-of s → board s r .first + board s r .count ≤ N-of s
 script-inside s t r l = let e = script-before s (t .consecutive) r (P-of s) l (omega arith) in omega (arith, t .total)
@@ -42,7 +46,7 @@ pub record Passed (s : Sheet) (n : ℕ) (f : ℕ → Bool) (r : ℕ) : Type 0 wh
   pub tabled : Tabled s
   pub refuses : n ≡ 0 → ⊥
   pub within : r ≤ P-of s
-  pub left : all-broken n f s ≡ first-broken n f (N-of s - counts-before s r) (counts-before s r)
+  pub left : all-broken n f s ≡ broken-from n f s r
 
 pub passed-none : {s : Sheet} {n : ℕ} {f : ℕ → Bool} → Tabled s → (n ≡ 0 → ⊥) → Passed s n f 0
 passed-none {s} {n} {f} t h =
@@ -55,7 +59,7 @@ passed-none {s} {n} {f} t h =
 
 module _ {s : Sheet} {n : ℕ} {f : ℕ → Bool} {r : ℕ} (q : Passed s n f r) where
   -- the script of board r, else what is behind it
-  split : r < P-of s → all-broken n f s ≡ or-else (script-broken n f s r) (first-broken n f (N-of s - counts-before s (r + 1)) (counts-before s (r + 1)))
+  split : r < P-of s → all-broken n f s ≡ or-else (script-broken n f s r) (broken-from n f s (r + 1))
   split l =
       let first = q .tabled .consecutive r l in
       let behind : board s r .first + board s r .count ≡ counts-before s (r + 1) = rw (add-one r) (script-next s (q .tabled .consecutive) r l) in
@@ -65,6 +69,9 @@ module _ {s : Sheet} {n : ℕ} {f : ℕ → Bool} {r : ℕ} (q : Passed s n f r)
       ∙ ap (λ (k : ℕ). or-else (script-broken n f s r) (first-broken n f (N-of s - k) k)) behind))
 
   module _ (k p : ℕ) (l : r < P-of s) (told : answers (script-broken n f s r) k p) where
+    number : k ≡ script-broken n f s r .number
+    number = answers-number (script-broken n f s r) k p told
+
     -- the script is accepted: the search goes on
     pub passed-more : k ≡ 0 → Passed s n f (r + 1)
     passed-more e =
@@ -72,14 +79,14 @@ module _ {s : Sheet} {n : ℕ} {f : ℕ → Bool} {r : ℕ} (q : Passed s n f r)
           tabled = q .tabled;
           refuses = q .refuses;
           within = omega arith;
-          left = split l ∙ or-else-passed (script-broken n f s r) (first-broken n f (N-of s - counts-before s (r + 1)) (counts-before s (r + 1))) (sym (answers-number (script-broken n f s r) k p told) ∙ e);
+          left = split l ∙ or-else-passed (script-broken n f s r) (broken-from n f s (r + 1)) (sym number ∙ e);
         }
 
     -- it is refused: so is the sheet
     pub passed-bad : (k ≡ 0 → ⊥) → answers (all-broken n f s) k p
     passed-bad d =
         told-same (all-broken n f s) (script-broken n f s r) k p
-        (split l ∙ or-else-stopped (script-broken n f s r) (first-broken n f (N-of s - counts-before s (r + 1)) (counts-before s (r + 1))) (λ z. d (answers-number (script-broken n f s r) k p told ∙ z)))
+        (split l ∙ or-else-stopped (script-broken n f s r) (broken-from n f s (r + 1)) (λ z. d (number ∙ z)))
         told
 
   -- behind the last script nothing is refused at all
@@ -123,19 +130,19 @@ module _ {s : Sheet} {n : ℕ} {f : ℕ → Bool} {r i end : ℕ} (q : Searched 
     pub searched-rank : rank-of s i ≡ r
     searched-rank = rank-in-script s (q .tabled .consecutive) r i (q .ranked) (q .lower) (omega (arith, q .end-is))
 
-    -- it keeps the rule: the search goes on
-    pub searched-more : f i ≡ true → Searched s n f r (i + 1) end
-    searched-more t =
-        let less : (end - i) - 1 ≡ end - (i + 1) = omega arith in
-        record {
-          tabled = q .tabled;
-          ranked = q .ranked;
-          lower = omega (arith, q .lower);
-          upper = omega arith;
-          end-is = q .end-is;
-          left = q .left ∙ (broken-more n f (end - i) i (omega arith) t ∙ ap (λ (m : ℕ). first-broken n f m (i + 1)) less);
-        }
+    -- what the code found of operation i: it keeps the rule and the search goes on, or it is the place
+    module _ {good : Bool} (told : good ≡ f i) where
+      pub searched-more : not good ≡ false → Searched s n f r (i + 1) end
+      searched-more h =
+          let less : (end - i) - 1 ≡ end - (i + 1) = omega arith in
+          record {
+            tabled = q .tabled;
+            ranked = q .ranked;
+            lower = omega (arith, q .lower);
+            upper = omega arith;
+            end-is = q .end-is;
+            left = q .left ∙ (broken-more n f (end - i) i (omega arith) (rule-kept told h) ∙ ap (λ (m : ℕ). first-broken n f m (i + 1)) less);
+          }
 
-    -- it breaks the rule: it is the place
-    pub searched-bad : f i ≡ false → answers (script-broken n f s r) n i
-    searched-bad t = told-is (script-broken n f s r) n i (q .left ∙ broken-here n f (end - i) i (omega arith) t)
+      pub searched-bad : not good ≡ true → answers (script-broken n f s r) n i
+      searched-bad h = told-is (script-broken n f s r) n i (q .left ∙ broken-here n f (end - i) i (omega arith) (rule-broken told h))

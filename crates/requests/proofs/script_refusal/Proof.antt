@@ -6,9 +6,9 @@ use mathlib.Core.List.{List}
 use Prim.Native.Nat.{ℕ, _+_, _-_, _<_}
 use native.Mathlib.Omega.{arith}
 use borrow.Author.Needs.{needs}
-use borrow.Author.Tests.{not-true, not-false}
 use Rattle.rules.specs.Sheet.{Sheet, sheet-in, op, N-of, rank-of}
 use Rattle.rules.specs.Refusal.{request-good}
+use Rattle.laws.specs.Broken.{rule-kept}
 use Rattle.laws.specs.Scripts.{Searched, searched-none, searched-inside, searched-rank, searched-more, searched-bad, searched-all}
 use Rattle.requests.specs.Slots.{Slotted, table-good}
 use Rattle.requests.specs.Requests.{Kept, kept-none, kept-more, table-answer, slotted}
@@ -61,8 +61,7 @@ table-is-good-requires c κs =
 returns : tie.Need-returns Inv-loop μ-loop
 returns c =
     let d = c .before .before .before .before in
-    let test = c .before .table-is-good in
-    searched-bad (d .before .loop .inv .0) (d .loop-test .taken) (sym (answered d) ∙ (sym (test .ensures) ∙ not-true (test .result) (c .if1 .taken)))
+    searched-bad (d .before .loop .inv .0) (d .loop-test .taken) (c .before .table-is-good .ensures ∙ answered d) (c .if1 .taken)
 
 note-requires : tie.Need-note-requires Inv-loop μ-loop
 note-requires c κs =
@@ -72,11 +71,11 @@ note-requires c κs =
 loop-again : tie.Need-loop-again Inv-loop μ-loop
 loop-again c =
     let d = c .before .before .before .before .before .before .before in
-    let test = c .before .before .before .before .table-is-good in
-    let good = sym (test .ensures) ∙ not-false (test .result) (c .before .before .before .if1 .left) in (
-      searched-more (d .before .loop .inv .0) (d .loop-test .taken) (sym (answered d) ∙ good),
+    let good = c .before .before .before .before .table-is-good .ensures in
+    let kept = c .before .before .before .if1 .left in (
+      searched-more (d .before .loop .inv .0) (d .loop-test .taken) (good ∙ answered d) kept,
       subst₂ (λ (x y : List ℕ). Kept (s d) (z d .args .r) (i d + 1) x y) (sym (c .note .ensures .0)) (sym (c .note .ensures .1))
-          (kept-more (d .before .loop .inv .1) (ranked d) (slotted-at d (i d) (inside d)) good),
+          (kept-more (d .before .loop .inv .1) (ranked d) (slotted-at d (i d) (inside d)) (rule-kept good kept)),
     )
 
 returns-2 : tie.Need-returns-2 Inv-loop μ-loop

@@ -1,10 +1,9 @@
 -- `refusals::ops::script_refusal` meets its contract. The loop's invariant: the search inside the script has come to operation i.
 -- The measure is how many operations of the script are left. Assumes nothing.
-use mathlib.Core.Path.{_≡_, sym, _∙_}
-use Prim.Native.Nat.{ℕ, _-_, _<_}
+use mathlib.Core.Path.{_≡_}
+use Prim.Native.Nat.{_-_}
 use native.Mathlib.Omega.{arith}
-use borrow.Author.Tests.{not-true, not-false}
-use Rattle.rules.specs.Sheet.{Sheet, sheet-in, N-of}
+use Rattle.rules.specs.Sheet.{sheet-in}
 use Rattle.rules.specs.Refusal.{op-good, room-for}
 use Rattle.laws.specs.Decoded.{comms-decoded}
 use Rattle.laws.specs.Scripts.{Searched, searched-none, searched-inside, searched-rank, searched-more, searched-bad, searched-all}
@@ -31,24 +30,22 @@ fields-are-good-requires : tie.Need-fields-are-good-requires Inv-loop μ-loop
 fields-are-good-requires c κs =
     (c .before .before .before .before .before .before .before .before .before .before .pre .0, searched-inside (c .before .before .loop .inv) (c .before .loop-test .taken))
 
--- what the test of the fields said, in the definition's terms
+-- what the test of the fields says is the definition's
 module _ (c : tie.After-fields-are-good Inv-loop μ-loop) where
   abbrev z : tie.Start Inv-loop μ-loop
   z = c .before .before .before .before .before .before .before .before .before .before .before
 
-  tested : op-good (sheet-in (z .args .s .now)) (c .before .before .before .loop .i) ≡ c .fields-are-good .result
+  tested : c .fields-are-good .result ≡ op-good (sheet-in (z .args .s .now)) (c .before .before .before .loop .i)
   unfolding op-good room-for
   tested = cc (comms-decoded (z .args .s .now), searched-rank (c .before .before .before .loop .inv) (c .before .before .loop-test .taken))
 
 returns : tie.Need-returns Inv-loop μ-loop
 returns c =
-    searched-bad (c .before .before .before .before .loop .inv) (c .before .before .before .loop-test .taken)
-    (tested (c .before) ∙ not-true (c .before .fields-are-good .result) (c .if1 .taken))
+    searched-bad (c .before .before .before .before .loop .inv) (c .before .before .before .loop-test .taken) (tested (c .before)) (c .if1 .taken)
 
 loop-again : tie.Need-loop-again Inv-loop μ-loop
 loop-again c =
-    searched-more (c .before .before .before .before .loop .inv) (c .before .before .before .loop-test .taken)
-    (tested (c .before) ∙ not-false (c .before .fields-are-good .result) (c .if1 .left))
+    searched-more (c .before .before .before .before .loop .inv) (c .before .before .before .loop-test .taken) (tested (c .before)) (c .if1 .left)
 
 returns-2 : tie.Need-returns-2 Inv-loop μ-loop
 returns-2 c = searched-all (c .before .loop .inv) (c .loop-test .left)
