@@ -7,7 +7,7 @@ use native.Mathlib.Omega.{arith}
 use lib.Dec.{ltb, leb, eqb}
 use borrow.Author.Tests.{ltb-true, leb-true, eqb-true, ne-eqb}
 use Rattle.rules.specs.Limits.{most-length, slot-limit}
-use Rattle.rules.specs.Sheet.{Sheet, Op, op, P-of, N-of, is-send, is-receive, is-wait, is-nonblocking, names-slot, frees-slot, takes-slot}
+use Rattle.rules.specs.Sheet.{Sheet, Op, op, P-of, N-of, is-send, is-receive, is-nonblocking, names-slot, frees-slot, takes-slot}
 use Rattle.rules.specs.Refusal.{fields-good, wait-good, envelope-good, extent-good, slot-good, room-for, op-good, ops-refusal}
 use Rattle.laws.specs.Tests.{and-left, and-right, true-not-false, cond-true, cond-false}
 use Rattle.laws.specs.Broken.{broken-passed}
