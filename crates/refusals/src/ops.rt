@@ -3,7 +3,7 @@ ghost use mathlib.Core.Path.{_≡_};
 ghost use Prim.Native.Nat.{_<_};
 ghost use mathlib.Core.Bool.{cond};
 ghost use Rattle.rules.specs.Sheet.{sheet-in, op, P-of, N-of, is-receive};
-ghost use Rattle.rules.specs.Refusal.{envelope-good, extent-good, wait-good, fields-good, op-good, ops-refusal};
+ghost use Rattle.rules.specs.Refusal.{envelope-good, extent-good, wait-good, fields-good, op-good};
 ghost use Rattle.rules.specs.Service.{answers};
 ghost use Rattle.laws.specs.Laid.{Laid};
 ghost use Rattle.laws.specs.Tabled.{Tabled};
@@ -75,9 +75,10 @@ fn room(s: &[u8], i: usize, inbox: usize, payload: usize) -> usize
 }
 
 // Refusal 6 in the script of board r.
-fn script_refusal(s: &[u8], r: usize) -> Answer
+pub fn script_refusal(s: &[u8], r: usize) -> Answer
     requires { ⌜ Laid (now s) × Tabled (sheet-in (now s)) × (r < P-of (sheet-in (now s))) ⌝ }
-    ensures { λ a. ⌜ answers (script-broken 6 (op-good (sheet-in (now (s .entry)))) (sheet-in (now (s .entry))) r) (a .number) (a .place) ⌝ }
+    ensures { λ a. ⌜ answers (script-broken 6 (op-good (sheet-in (now (s .entry)))) (sheet-in (now (s .entry))) r)
+        (a .number) (a .place) ⌝ }
 {
     let p = header::boards(s);
     let c = header::comms(s);
@@ -93,26 +94,6 @@ fn script_refusal(s: &[u8], r: usize) -> Answer
             };
         }
         i += 1;
-    }
-    Answer {
-        number: 0,
-        place: 0,
-    }
-}
-
-// Refusal 6: the first operation with a wrong field.
-pub fn refusal(s: &[u8]) -> Answer
-    requires { ⌜ Laid (now s) × Tabled (sheet-in (now s)) ⌝ }
-    ensures { λ a. ⌜ answers (ops-refusal (sheet-in (now (s .entry)))) (a .number) (a .place) ⌝ }
-{
-    let p = header::boards(s);
-    let mut r = 0;
-    while r < p {
-        let a = script_refusal(s, r);
-        if a.number != 0 {
-            return a;
-        }
-        r += 1;
     }
     Answer {
         number: 0,

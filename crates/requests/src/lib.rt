@@ -4,7 +4,7 @@ ghost use mathlib.Core.Path.{_≡_};
 ghost use Prim.Native.Nat.{_<_};
 ghost use Rattle.rules.specs.Limits.{slot-limit};
 ghost use Rattle.rules.specs.Sheet.{sheet-in, op, P-of, N-of};
-ghost use Rattle.rules.specs.Refusal.{some-below, request-good, requests-refusal};
+ghost use Rattle.rules.specs.Refusal.{some-below, request-good};
 ghost use Rattle.rules.specs.Service.{answers};
 ghost use Rattle.laws.specs.Laid.{Laid};
 ghost use Rattle.laws.specs.Tabled.{Tabled};
@@ -13,7 +13,6 @@ ghost use Rattle.laws.specs.Scripts.{script-broken};
 ghost use Rattle.requests.specs.Slots.{hit, table-good, starts-after, ends-after, Slotted};
 use sheet::Answer;
 use sheet::boards;
-use sheet::header;
 use sheet::ops;
 
 // The start of a slot that nobody holds.
@@ -96,9 +95,10 @@ fn note(
 }
 
 // Refusal 7 in the script of board r.
-fn script_refusal(s: &[u8], r: usize) -> Answer
+pub fn script_refusal(s: &[u8], r: usize) -> Answer
     requires { ⌜ Laid (now s) × Tabled (sheet-in (now s)) × Fielded (sheet-in (now s)) × (r < P-of (sheet-in (now s))) ⌝ }
-    ensures { λ a. ⌜ answers (script-broken 7 (request-good (sheet-in (now (s .entry)))) (sheet-in (now (s .entry))) r) (a .number) (a .place) ⌝ }
+    ensures { λ a. ⌜ answers (script-broken 7 (request-good (sheet-in (now (s .entry)))) (sheet-in (now (s .entry))) r)
+        (a .number) (a .place) ⌝ }
 {
     let mut starts = [FREE; limits::SLOT_LIMIT];
     let mut ends = [0u16; limits::SLOT_LIMIT];
@@ -113,26 +113,6 @@ fn script_refusal(s: &[u8], r: usize) -> Answer
         }
         note(s, i, &mut starts, &mut ends);
         i += 1;
-    }
-    Answer {
-        number: 0,
-        place: 0,
-    }
-}
-
-// Refusal 7: the first operation that breaks a rule of slots or areas.
-pub fn refusal(s: &[u8]) -> Answer
-    requires { ⌜ Laid (now s) × Tabled (sheet-in (now s)) × Fielded (sheet-in (now s)) ⌝ }
-    ensures { λ a. ⌜ answers (requests-refusal (sheet-in (now (s .entry)))) (a .number) (a .place) ⌝ }
-{
-    let p = header::boards(s);
-    let mut r = 0;
-    while r < p {
-        let a = script_refusal(s, r);
-        if a.number != 0 {
-            return a;
-        }
-        r += 1;
     }
     Answer {
         number: 0,

@@ -1,6 +1,7 @@
 -- `refusals::check::tables` meets its contract: the first of refusals 5, 6 and 7 that does not accept is the answer, and each
 -- settles what the next one asks. Assumes nothing.
 use Rattle.rules.specs.Sheet.{Sheet, sheet-in}
+use Rattle.rules.specs.Refusal.{ops-refusal, requests-refusal}
 use Rattle.refusals.specs.Chain.{boards-settled, ops-settled, tables-5, tables-6, tables-7}
 use borrow.Author.Needs.{needs}
 use Rattle.refusals.proofs.check.tables.Statement.{statement}
@@ -18,9 +19,11 @@ refusal-requires-2 : tie.Need-refusal-requires-2
 refusal-requires-2 c κs =
     let z = c .before .before .before .before in
     let fifth = c .before .before .refusal in
-    (z .pre, boards-settled (sheet z) (fifth .result .number) (fifth .result .place) (fifth .ensures) (c .if1 .left))
+    let settled = boards-settled (sheet z) (fifth .result .number) (fifth .result .place) (fifth .ensures) (c .if1 .left) in
+    (z .pre, settled, settled)
 
 returns-2 : tie.Need-returns-2
+unfolding ops-refusal requests-refusal
 returns-2 c =
     let b = c .before .before .before in
     let fifth = b .before .before .refusal in
@@ -29,6 +32,7 @@ returns-2 c =
     (sixth .result .number) (sixth .result .place) (sixth .ensures) (c .if2 .taken)
 
 refusal-requires-3 : tie.Need-refusal-requires-3
+unfolding ops-refusal requests-refusal
 refusal-requires-3 c κs =
     let b = c .before .before .before in
     let z = b .before .before .before .before in
@@ -41,6 +45,7 @@ refusal-requires-3 c κs =
     )
 
 returns-3 : tie.Need-returns-3
+unfolding ops-refusal requests-refusal
 returns-3 c =
     let b = c .before .before .before .before in
     let fifth = b .before .before .refusal in
