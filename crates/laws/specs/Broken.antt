@@ -74,13 +74,15 @@ module _ (n : ℕ) (f : ℕ → Bool) where
   broken-passed zero i h e j lo hi = absurd (omega arith)
   broken-passed (suc k) i h e j lo hi = go (λ q l. broken-passed k (suc i) h q j l (omega arith)) (f i) refl e (ℕ-discrete j i)
     where
-      go : (first-broken n f k (suc i) .number ≡ 0 → suc i ≤ j → f j ≡ true) → (t : Bool) → f i ≡ t → cond t (first-broken n f k (suc i)) (refusal n i) .number ≡ 0 → Dec (j ≡ i) → f j ≡ true
+      go : (first-broken n f k (suc i) .number ≡ 0 → suc i ≤ j → f j ≡ true)
+          → (t : Bool) → f i ≡ t → cond t (first-broken n f k (suc i)) (refusal n i) .number ≡ 0 → Dec (j ≡ i) → f j ≡ true
       go ih true p q (yes d) = subst (λ (m : ℕ). f m ≡ true) (sym d) p
       go ih true p q (no d) = ih q (omega arith)
       go ih false p q d = absurd (h q)
 
   -- a search that has come to i: the part of k indices from there, else what is behind it
-  pub broken-part : (total i k : ℕ) → (n ≡ 0 → ⊥) → i + k ≤ total → first-broken n f (total - i) i ≡ or-else (first-broken n f k i) (first-broken n f (total - (i + k)) (i + k))
+  pub broken-part : (total i k : ℕ) → (n ≡ 0 → ⊥) → i + k ≤ total
+      → first-broken n f (total - i) i ≡ or-else (first-broken n f k i) (first-broken n f (total - (i + k)) (i + k))
   broken-part total i k h l =
       let split : total - i ≡ k + (total - (i + k)) = omega arith in
       ap (λ (m : ℕ). first-broken n f m i) split ∙ broken-parts k (total - (i + k)) i h

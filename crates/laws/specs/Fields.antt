@@ -29,9 +29,13 @@ module _ (o : Op) (g : wait-good o ≡ true) where
   pub wait-empty : o .offset + o .long ≡ 0
   unfolding wait-good
   wait-empty =
+      let tag = eqb (o .tag) 0 in
+      let offset = eqb (o .offset) 0 in
+      let long = eqb (o .long) 0 in
+      let slot = ltb (o .slot) slot-limit in
       let q = and-right front back g in
-      let a = eqb-true (o .offset) 0 (and-right (eqb (o .tag) 0) (eqb (o .offset) 0) (and-left (eqb (o .tag) 0 && eqb (o .offset) 0) (eqb (o .long) 0 && ltb (o .slot) slot-limit) q)) in
-      let b = eqb-true (o .long) 0 (and-left (eqb (o .long) 0) (ltb (o .slot) slot-limit) (and-right (eqb (o .tag) 0 && eqb (o .offset) 0) (eqb (o .long) 0 && ltb (o .slot) slot-limit) q)) in
+      let a = eqb-true (o .offset) 0 (and-right tag offset (and-left (tag && offset) (long && slot) q)) in
+      let b = eqb-true (o .long) 0 (and-left long slot (and-right (tag && offset) (long && slot) q)) in
       omega arith
 
   pub wait-slot : o .slot < slot-limit

@@ -87,7 +87,10 @@ pub held-stricter : (s : Sheet) (r i : ℕ) (f g : ℕ → Bool) → ((j : ℕ) 
 unfolding held-by
 held-stricter s r i f g e none =
     below-none i (λ j. holds-for s r j i && g j)
-    (λ j l h. true-not-false (below-some i (λ j. holds-for s r j i && f j) j l (and-both (and-left (holds-for s r j i) (g j) h) (e j (and-right (holds-for s r j i) (g j) h)))) none)
+    (λ j l h.
+    let held = and-left (holds-for s r j i) (g j) h in
+    let passes = e j (and-right (holds-for s r j i) (g j) h) in
+    true-not-false (below-some i (λ j. holds-for s r j i && f j) j l (and-both held passes)) none)
 
 -- a holder of the slot k passes the test `rest`
 abbrev pub by-slot : Sheet → (r i k : ℕ) → (ℕ → Bool) → Bool
@@ -101,7 +104,8 @@ module _ (s : Sheet) (r i : ℕ) (e : rank-of s i ≡ r) (rest : ℕ → Bool) w
   pub by-slot-other : (k : ℕ) → (k ≡ op s i .slot → ⊥) → by-slot s r (suc i) k rest ≡ by-slot s r i k rest
   by-slot-other k d =
       held-more s r i e (named k)
-      ∙ (ap₂ (λ (a b : Bool). a || b) (none-new (takes-slot (op s i)) (eqb (op s i .slot) k) refl) (held-equal s r i (λ j. not (ends s r i j) && named k j) (named k) same))
+      ∙ (ap₂ (λ (a b : Bool). a || b) (none-new (takes-slot (op s i)) (eqb (op s i .slot) k) refl)
+      (held-equal s r i (λ j. not (ends s r i j) && named k j) (named k) same))
     where
       none-new : (a b : Bool) → eqb (op s i .slot) k ≡ b → (a && (b && rest i)) ≡ false
       none-new true true h = absurd (d (sym (eqb-true (op s i .slot) k h)))
@@ -127,11 +131,13 @@ module _ (s : Sheet) (r i : ℕ) (e : rank-of s i ≡ r) (rest : ℕ → Bool) w
   by-slot-freed w n =
       held-more s r i e (named (op s i .slot))
       ∙ (ap₂ (λ (a b : Bool). a || b) (ap (λ (b : Bool). b && named (op s i .slot) i) n)
-      (below-none i (λ j. holds-for s r j i && (not (ends s r i j) && named (op s i .slot) j)) (λ j l h. ended j (and-right (holds-for s r j i) (not (ends s r i j) && named (op s i .slot) j) h))))
+      (below-none i (λ j. holds-for s r j i && (not (ends s r i j) && named (op s i .slot) j))
+      (λ j l h. ended j (and-right (holds-for s r j i) (not (ends s r i j) && named (op s i .slot) j) h))))
     where
       ended : (j : ℕ) → (not (ends s r i j) && named (op s i .slot) j) ≡ true → ⊥
       ended j h =
-          let k : op s j .slot ≡ op s i .slot = eqb-true (op s j .slot) (op s i .slot) (and-left (eqb (op s j .slot) (op s i .slot)) (rest j) (and-right (not (ends s r i j)) (named (op s i .slot) j) h)) in
+          let q = and-right (not (ends s r i j)) (named (op s i .slot) j) h in
+          let k : op s j .slot ≡ op s i .slot = eqb-true (op s j .slot) (op s i .slot) (and-left (eqb (op s j .slot) (op s i .slot)) (rest j) q) in
           let z : ends s r i j ≡ true = and-both w (eq-eqb (op s i .slot) (op s j .slot) (sym k)) in
           true-not-false z (not-true (ends s r i j) (and-left (not (ends s r i j)) (named (op s i .slot) j) h))
 

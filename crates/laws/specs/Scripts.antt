@@ -105,7 +105,8 @@ pub record Searched (s : Sheet) (n : ℕ) (f : ℕ → Bool) (r i end : ℕ) : T
   pub end-is : end ≡ board s r .first + board s r .count
   pub left : script-broken n f s r ≡ first-broken n f (end - i) i
 
-pub searched-none : {s : Sheet} {n : ℕ} {f : ℕ → Bool} {r i end : ℕ} → Tabled s → r < P-of s → i ≡ board s r .first → end ≡ i + board s r .count → Searched s n f r i end
+pub searched-none : {s : Sheet} {n : ℕ} {f : ℕ → Bool} {r i end : ℕ} → Tabled s → r < P-of s
+    → i ≡ board s r .first → end ≡ i + board s r .count → Searched s n f r i end
 searched-none {s} {n} {f} {r} {i} {end} t l a b =
     let long : board s r .count ≡ end - i = omega arith in
     record {

@@ -47,23 +47,26 @@ walked-none s =
 module _ {s : Sheet} {r sum total : ℕ} (w : Walked s r sum total) where
   module _ (l : r < P-of s) {good : Bool} (told : good ≡ board-good s r) where
     -- a good entry: the walk goes on, with the board's count and inbox added
-    pub walked-more : not good ≡ false → (c t : ℕ) → c ≡ board s r .count → c < 65536 → t ≡ total + board s r .inbox → Walked s (r + 1) (sum + c) t
+    pub walked-more : not good ≡ false → (count t : ℕ) → count ≡ board s r .count → count < 65536 → t ≡ total + board s r .inbox
+        → Walked s (r + 1) (sum + count) t
     unfolding board-good
-    walked-more h c t ec lc et =
+    walked-more h count t ec lc et =
         let counts = counts-more s r l in
         let starts = inbox-start-more s r l in
         let next : r + 1 ≡ suc r = add-one r in
-        let fits : inbox-start s (suc r) ≤ most-inbox =
-        leb-true (inbox-start s (suc r)) most-inbox
-        (and-right (leb (board s r .attached) most-attached) (leb (inbox-start s (suc r)) most-inbox)
-        (and-right (eqb (board s r .first) (counts-before s r)) (leb (board s r .attached) most-attached && leb (inbox-start s (suc r)) most-inbox) (rule-kept told h))) in
+        let attached = leb (board s r .attached) most-attached in
+        let inboxes = leb (inbox-start s (suc r)) most-inbox in
+        let sizes = and-right (eqb (board s r .first) (counts-before s r)) (attached && inboxes) (rule-kept told h) in
+        let fits = leb-true (inbox-start s (suc r)) most-inbox (and-right attached inboxes sizes) in
+        let on = broken-more 5 (board-good s) (P-of s - r) r (omega arith) (rule-kept told h) in
+        let rest : entries-broken s r ≡ entries-broken s (r + 1) = on ∙ ap (λ (n : ℕ). first-broken 5 (board-good s) n (r + 1)) (omega arith) in
         record {
           within = omega arith;
           sum-is = rw next (omega (arith, w .sum-is));
           total-is = rw next (omega (arith, w .total-is));
           small = omega (arith, w .small);
           fits = omega (arith, w .total-is);
-          left = w .left ∙ ap (λ (f : Refusal). or-else f (total-broken s)) (broken-more 5 (board-good s) (P-of s - r) r (omega arith) (rule-kept told h) ∙ ap (λ (n : ℕ). first-broken 5 (board-good s) n (r + 1)) (omega arith));
+          left = w .left ∙ ap (λ (f : Refusal). or-else f (total-broken s)) rest;
         }
 
     -- a bad entry is the answer
@@ -83,7 +86,8 @@ module _ {s : Sheet} {r sum total : ℕ} (w : Walked s r sum total) where
     unfolding refusal
     behind =
         w .left
-        ∙ (ap (λ (f : Refusal). or-else f (total-broken s)) (broken-none 5 (board-good s) (P-of s - r) r (omega arith)) ∙ or-else-passed accepted (total-broken s) refl)
+        ∙ (ap (λ (f : Refusal). or-else f (total-broken s)) (broken-none 5 (board-good s) (P-of s - r) r (omega arith))
+        ∙ or-else-passed accepted (total-broken s) refl)
 
     pub walked-total : sum ≡ N-of s → answers (boards-refusal s) 0 0
     walked-total e =

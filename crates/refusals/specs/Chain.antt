@@ -9,7 +9,8 @@ use lib.ListN.{length}
 use borrow.Author.Tests.{lt-ltb, le-ltb}
 use Rattle.rules.specs.Limits.{header-size}
 use Rattle.rules.specs.Sheet.{Sheet, sheet-in}
-use Rattle.rules.specs.Refusal.{Refusal, refusal, or-else, boards-refusal, ops-refusal, requests-refusal, tables-refusal, sizes-good, layout-good, crc-good, sheet-refusal}
+use Rattle.rules.specs.Refusal.{Refusal, refusal, or-else, sizes-good, layout-good, crc-good, sheet-refusal}
+use Rattle.rules.specs.Refusal.{boards-refusal, ops-refusal, requests-refusal, tables-refusal}
 use Rattle.rules.specs.Service.{answers, Check-says}
 use Rattle.laws.specs.Broken.{or-else-passed, or-else-stopped, rule-kept, rule-broken}
 use Rattle.laws.specs.Fields.{Fielded, fielded}

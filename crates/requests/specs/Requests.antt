@@ -50,14 +50,17 @@ kept-none s c r i h e =
         below-none i (λ j. holds-for s r j i && g j)
         (λ j l t.
         let q = and-left (holds-for s r j i) (g j) t in
-        let p = eqb-true (rank-of s j) r (and-right (ltb j i) (eqb (rank-of s j) r) (and-left (ltb j i && eqb (rank-of s j) r) (takes-slot (op s j) && not (freed s (i - suc j) (suc j) (op s j .slot))) q)) in
+        let earlier = and-left (ltb j i && eqb (rank-of s j) r) (takes-slot (op s j) && not (freed s (i - suc j) (suc j) (op s j .slot))) q in
+        let p = eqb-true (rank-of s j) r (and-right (ltb j i) (eqb (rank-of s j) r) earlier) in
         omega (arith, rank-before-script s c r j h (omega arith)))
 
     free : (k : ℕ) → k < slot-limit → slot-taken (replicate slot-limit absent) k ≡ false
     free k l = rw (getD-replicate {A = ℕ} slot-limit k absent 0 l)
 
     missed : (from to k : ℕ) → k < slot-limit → hit (replicate slot-limit absent) (replicate slot-limit 0) from to k ≡ false
-    missed from to k l = rw (getD-replicate {A = ℕ} slot-limit k 0 0 l) (ap (λ (b : Bool). b && ltb (getD (replicate slot-limit absent) k 0) to) (le-ltb from 0 (omega arith)))
+    missed from to k l =
+        rw (getD-replicate {A = ℕ} slot-limit k 0 0 l)
+        (ap (λ (b : Bool). b && ltb (getD (replicate slot-limit absent) k 0) to) (le-ltb from 0 (omega arith)))
 
 -- one operation more
 module _ {s : Sheet} {r i : ℕ} {starts ends : List ℕ} (kept : Kept s r i starts ends) (rank : rank-of s i ≡ r) (o : Slotted (op s i)) where
@@ -70,7 +73,8 @@ module _ {s : Sheet} {r i : ℕ} {starts ends : List ℕ} (kept : Kept s r i sta
   other-taken v k l d =
       ap (λ (n : ℕ). not (eqb n absent)) (getD-set-other starts slot k v 0 d) ∙ (kept .taken k l ∙ sym (by-slot-other s r i rank (λ j. true) k d))
 
-  other-hits : (v w from to k : ℕ) → k < slot-limit → (k ≡ slot → ⊥) → hit (set starts slot v) (set ends slot w) from to k ≡ by-slot s r (suc i) k (area-test s from to)
+  other-hits : (v w from to k : ℕ) → k < slot-limit → (k ≡ slot → ⊥)
+      → hit (set starts slot v) (set ends slot w) from to k ≡ by-slot s r (suc i) k (area-test s from to)
   unfolding hit
   other-hits v w from to k l d =
       ap₂ (λ (a b : ℕ). ltb from a && ltb b to) (getD-set-other ends slot k w 0 d) (getD-set-other starts slot k v 0 d)
@@ -88,7 +92,9 @@ module _ {s : Sheet} {r i : ℕ} {starts ends : List ℕ} (kept : Kept s r i sta
       (getD-set-same starts slot v 0 (omega (arith, kept .starts-long, o .slot-small)))
 
   -- a change of one row is right where that row is
-  changed : (v w : ℕ) → not (eqb v absent) ≡ by-slot s r (suc i) slot (λ j. true) → ((from to : ℕ) → (ltb from w && ltb v to) ≡ by-slot s r (suc i) slot (area-test s from to)) → Kept s r (suc i) (set starts slot v) (set ends slot w)
+  changed : (v w : ℕ) → not (eqb v absent) ≡ by-slot s r (suc i) slot (λ j. true)
+      → ((from to : ℕ) → (ltb from w && ltb v to) ≡ by-slot s r (suc i) slot (area-test s from to))
+      → Kept s r (suc i) (set starts slot v) (set ends slot w)
   changed v w a b =
       record {
         starts-long = length-set starts slot v ∙ kept .starts-long;
@@ -101,8 +107,11 @@ module _ {s : Sheet} {r i : ℕ} {starts ends : List ℕ} (kept : Kept s r i sta
       taken-at k l (yes e) = subst (λ (n : ℕ). slot-taken (set starts slot v) n ≡ by-slot s r (suc i) n (λ j. true)) (sym e) (same-taken v ∙ a)
       taken-at k l (no d) = other-taken v k l d
 
-      hits-at : (from to k : ℕ) → k < slot-limit → Dec (k ≡ slot) → hit (set starts slot v) (set ends slot w) from to k ≡ by-slot s r (suc i) k (area-test s from to)
-      hits-at from to k l (yes e) = subst (λ (n : ℕ). hit (set starts slot v) (set ends slot w) from to n ≡ by-slot s r (suc i) n (area-test s from to)) (sym e) (same-hits v w from to ∙ b from to)
+      hits-at : (from to k : ℕ) → k < slot-limit → Dec (k ≡ slot)
+          → hit (set starts slot v) (set ends slot w) from to k ≡ by-slot s r (suc i) k (area-test s from to)
+      hits-at from to k l (yes e) =
+          subst (λ (n : ℕ). hit (set starts slot v) (set ends slot w) from to n ≡ by-slot s r (suc i) n (area-test s from to)) (sym e)
+          (same-hits v w from to ∙ b from to)
       hits-at from to k l (no d) = other-hits v w from to k l d
 
   -- an operation frees its slot
@@ -116,7 +125,9 @@ module _ {s : Sheet} {r i : ℕ} {starts ends : List ℕ} (kept : Kept s r i sta
   unfolding area-test area-to area-from
   area-kept from to = go (has-area (op s i))
     where
-      go : (b : Bool) → (ltb from (cond b (op s i .offset + op s i .long) 0) && ltb (cond b (op s i .offset) 0) to) ≡ (b && (ltb from (op s i .offset + op s i .long) && ltb (op s i .offset) to))
+      go : (b : Bool)
+          → (ltb from (cond b (op s i .offset + op s i .long) 0) && ltb (cond b (op s i .offset) 0) to)
+          ≡ (b && (ltb from (op s i .offset + op s i .long) && ltb (op s i .offset) to))
       go true = refl
       go false = ap (λ (b : Bool). b && ltb 0 to) (le-ltb from 0 (omega arith))
 
@@ -128,11 +139,13 @@ module _ {s : Sheet} {r i : ℕ} {starts ends : List ℕ} (kept : Kept s r i sta
       go true = omega (arith, o .end-small)
       go false = omega arith
 
-  kept-taken : takes-slot (op s i) ≡ true → slot-taken starts slot ≡ false → Kept s r (suc i) (set starts slot (area-from (op s i))) (set ends slot (area-to (op s i)))
+  kept-taken : takes-slot (op s i) ≡ true → slot-taken starts slot ≡ false
+      → Kept s r (suc i) (set starts slot (area-from (op s i))) (set ends slot (area-to (op s i)))
   kept-taken n free =
       let nobody = sym (kept .taken slot (o .slot-small)) ∙ free in
       changed (area-from (op s i)) (area-to (op s i))
-      (ap (λ (b : Bool). not b) (ne-eqb (area-from (op s i)) absent (λ e. absurd (omega (arith, area-from-small)))) ∙ sym (by-slot-taken s r i rank (λ j. true) n nobody))
+      (ap (λ (b : Bool). not b) (ne-eqb (area-from (op s i)) absent (λ e. absurd (omega (arith, area-from-small))))
+      ∙ sym (by-slot-taken s r i rank (λ j. true) n nobody))
       (λ from to. area-kept from to ∙ sym (by-slot-taken s r i rank (area-test s from to) n nobody))
 
   kept-same : frees-slot (op s i) ≡ false → takes-slot (op s i) ≡ false → Kept s r (suc i) starts ends
@@ -166,7 +179,8 @@ module _ {s : Sheet} {r i : ℕ} {starts ends : List ℕ} (kept : Kept s r i sta
       go false f false e = kept-same f e
 
 -- THE ANSWER: what the table says of operation i is rule 7's
-module _ {s : Sheet} {r i : ℕ} {starts ends : List ℕ} (kept : Kept s r i starts ends) (rank : rank-of s i ≡ r) (small : (j : ℕ) → j ≤ i → op s j .slot < slot-limit) where
+module _ {s : Sheet} {r i : ℕ} {starts ends : List ℕ} (kept : Kept s r i starts ends) (rank : rank-of s i ≡ r)
+    (small : (j : ℕ) → j ≤ i → op s j .slot < slot-limit) where
   holds-is : (j : ℕ) → holds s j i ≡ holds-for s r j i
   unfolding holds holds-for
   holds-is j = ap (λ (n : ℕ). (ltb j i && eqb (rank-of s j) n) && (takes-slot (op s j) && not (freed s (i - suc j) (suc j) (op s j .slot)))) rank
@@ -225,7 +239,8 @@ module _ {s : Sheet} {r i : ℕ} {starts ends : List ℕ} (kept : Kept s r i sta
           let held = and-left (holds s (j .at) i) (is-receive (op s (j .at)) && share (op s (j .at)) (op s i)) (j .passed) in
           below-some slot-limit (hit starts ends from to) k under
           (kept .hits from to k under
-          ∙ below-some i (hitting k) (j .at) (j .below) (and-both (sym (holds-is (j .at)) ∙ held) (and-both (eq-eqb k k refl) (sym (share-is l (j .at)) ∙ shared))))
+          ∙ below-some i (hitting k) (j .at) (j .below)
+          (and-both (sym (holds-is (j .at)) ∙ held) (and-both (eq-eqb k k refl) (sym (share-is l (j .at)) ∙ shared))))
 
   -- an empty area shares nothing
   empty-answer : ltb 0 (op s i .long) ≡ false → area-taken s i ≡ false
@@ -235,11 +250,14 @@ module _ {s : Sheet} {r i : ℕ} {starts ends : List ℕ} (kept : Kept s r i sta
       (λ j h t.
       let q = and-right (is-receive (op s j)) (share (op s j) (op s i)) (and-right (holds s j i) (is-receive (op s j) && share (op s j) (op s i)) t) in
       true-not-false (and-right (ltb 0 (op s j .long)) (ltb 0 (op s i .long))
-      (and-left (ltb 0 (op s j .long) && ltb 0 (op s i .long)) (ltb (op s j .offset) (op s i .offset + op s i .long) && ltb (op s i .offset) (op s j .offset + op s j .long)) q)) l)
+      (and-left (ltb 0 (op s j .long) && ltb 0 (op s i .long))
+      (ltb (op s j .offset) (op s i .offset + op s i .long) && ltb (op s i .offset) (op s j .offset + op s j .long)) q)) l)
 
   area-answer : some-hit starts ends (op s i) ≡ (is-receive (op s i) && area-taken s i)
   unfolding some-hit has-area
-  area-answer = and-assoc (is-receive (op s i)) (ltb 0 (op s i .long)) (some-below slot-limit (hit starts ends from to)) ∙ ap (λ (b : Bool). is-receive (op s i) && b) (go (ltb 0 (op s i .long)) refl)
+  area-answer =
+      and-assoc (is-receive (op s i)) (ltb 0 (op s i .long)) (some-below slot-limit (hit starts ends from to))
+      ∙ ap (λ (b : Bool). is-receive (op s i) && b) (go (ltb 0 (op s i .long)) refl)
     where
       go : (b : Bool) → ltb 0 (op s i .long) ≡ b → (b && some-below slot-limit (hit starts ends from to)) ≡ area-taken s i
       go true l = hit-answer l

@@ -65,12 +65,14 @@ module _ (o : Op) (starts ends : List ℕ) where
   unfolding starts-after ends-after
   after-same f t = (rw (f, t), rw (f, t))
 
-  pub after-area : frees-slot o ≡ false → takes-slot o ≡ true → (is-receive o && ltb 0 (o .long)) ≡ true → After o starts ends (set starts (o .slot) (o .offset)) (set ends (o .slot) (o .offset + o .long))
-  unfolding starts-after ends-after area-from area-to has-area
+  pub after-area : frees-slot o ≡ false → takes-slot o ≡ true → has-area o ≡ true
+      → After o starts ends (set starts (o .slot) (o .offset)) (set ends (o .slot) (o .offset + o .long))
+  unfolding starts-after ends-after area-from area-to
   after-area f t a = (rw (f, t, a), rw (f, t, a))
 
-  pub after-no-area : frees-slot o ≡ false → takes-slot o ≡ true → (is-receive o && ltb 0 (o .long)) ≡ false → After o starts ends (set starts (o .slot) 0) (set ends (o .slot) 0)
-  unfolding starts-after ends-after area-from area-to has-area
+  pub after-no-area : frees-slot o ≡ false → takes-slot o ≡ true → has-area o ≡ false
+      → After o starts ends (set starts (o .slot) 0) (set ends (o .slot) 0)
+  unfolding starts-after ends-after area-from area-to
   after-no-area f t a = (rw (f, t, a), rw (f, t, a))
 
   -- and what it asks
@@ -82,10 +84,11 @@ module _ (o : Op) (starts ends : List ℕ) where
   unfolding table-good
   good-not-free n t = rw (n, t)
 
-  pub good-area : names-slot o ≡ false → (takes-slot o && slot-taken starts (o .slot)) ≡ false → (is-receive o && ltb 0 (o .long)) ≡ true → not (some-below slot-limit (hit starts ends (o .offset) (o .offset + o .long))) ≡ table-good starts ends o
-  unfolding table-good some-hit has-area
+  pub good-area : names-slot o ≡ false → (takes-slot o && slot-taken starts (o .slot)) ≡ false → has-area o ≡ true
+      → not (some-below slot-limit (hit starts ends (o .offset) (o .offset + o .long))) ≡ table-good starts ends o
+  unfolding table-good some-hit
   good-area n t a = rw (n, t, a)
 
-  pub good-no-area : names-slot o ≡ false → (takes-slot o && slot-taken starts (o .slot)) ≡ false → (is-receive o && ltb 0 (o .long)) ≡ false → true ≡ table-good starts ends o
-  unfolding table-good some-hit has-area
+  pub good-no-area : names-slot o ≡ false → (takes-slot o && slot-taken starts (o .slot)) ≡ false → has-area o ≡ false → true ≡ table-good starts ends o
+  unfolding table-good some-hit
   good-no-area n t a = rw (n, t, a)

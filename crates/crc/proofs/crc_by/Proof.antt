@@ -18,7 +18,8 @@ unfolding crc
 returns c =
     let s = c .before .before .before .before .before .args .s .now in
     let head = c .before .before .crc-over .ensures .is in
-    let rest : take (length s - header-size) (drop header-size s) ≡ drop header-size s = take-all (length s - header-size) (drop header-size s) (omega (arith, length-drop header-size s)) in
+    let rest : take (length s - header-size) (drop header-size s) ≡ drop header-size s =
+    take-all (length s - header-size) (drop header-size s) (omega (arith, length-drop header-size s)) in
     record {
       is =
           c .crc-over2 .ensures .is

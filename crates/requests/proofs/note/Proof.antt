@@ -1,12 +1,11 @@
 -- `requests::note` meets its contract: by role, each way leaves what the definition says. Assumes nothing.
 use mathlib.Core.Path.{_≡_}
-use mathlib.Core.Bool.{true, false, _&&_}
+use mathlib.Core.Bool.{true, false}
 use mathlib.Core.List.{List}
 use Prim.Native.Nat.{ℕ}
-use lib.Dec.{ltb}
 use borrow.Author.Tests.{not-true, not-false}
-use Rattle.rules.specs.Sheet.{Op, op, sheet-in, is-receive, frees-slot, takes-slot}
-use Rattle.requests.specs.Slots.{after-freed, after-same, after-area, after-no-area}
+use Rattle.rules.specs.Sheet.{Op, op, sheet-in, frees-slot, takes-slot}
+use Rattle.requests.specs.Slots.{has-area, after-freed, after-same, after-area, after-no-area}
 use borrow.Author.Needs.{needs}
 use Rattle.requests.proofs.note.Statement.{statement}
 use Rattle.requests.proofs.note.Tie as tie
@@ -37,22 +36,24 @@ returns-2 c =
     after-same (o z) (starts z) (ends z) frees takes
 
 returns-3 : tie.Need-returns-3
+unfolding has-area
 returns-3 c =
     let z = c .before .before .before .before .before .before .before .before .before .before in
     let test = c .before .before .before .before .before .takes-slot .result in
     let frees : frees-slot (o z) ≡ false = cc in
     let takes : takes-slot (o z) ≡ true = cc (not-false test (c .before .before .before .before .if2 .left)) in
-    let area : (is-receive (o z) && ltb 0 (o z .long)) ≡ true = cc in
+    let area : has-area (o z) ≡ true = cc in
     let left = after-area (o z) (starts z) (ends z) frees takes area in
     (cc (left .0), cc (left .1))
 
 returns-4 : tie.Need-returns-4
+unfolding has-area
 returns-4 c =
     let z = c .before .before .before .before .before .before .before .before .before .before in
     let test = c .before .before .before .before .before .takes-slot .result in
     let frees : frees-slot (o z) ≡ false = cc in
     let takes : takes-slot (o z) ≡ true = cc (not-false test (c .before .before .before .before .if2 .left)) in
-    let area : (is-receive (o z) && ltb 0 (o z .long)) ≡ false = cc in
+    let area : has-area (o z) ≡ false = cc in
     let left = after-no-area (o z) (starts z) (ends z) frees takes area in
     (cc (left .0), cc (left .1))
 

@@ -3,9 +3,8 @@ use mathlib.Core.Path.{_≡_}
 use mathlib.Core.Bool.{true, false, _&&_}
 use mathlib.Core.List.{List}
 use Prim.Native.Nat.{ℕ}
-use lib.Dec.{ltb}
-use Rattle.rules.specs.Sheet.{Op, op, sheet-in, is-receive, names-slot, takes-slot}
-use Rattle.requests.specs.Slots.{slot-taken, good-named, good-not-free, good-area, good-no-area}
+use Rattle.rules.specs.Sheet.{Op, op, sheet-in, names-slot, takes-slot}
+use Rattle.requests.specs.Slots.{has-area, slot-taken, good-named, good-not-free, good-area, good-no-area}
 use borrow.Author.Needs.{needs}
 use Rattle.requests.proofs.table_is_good.Statement.{statement}
 use Rattle.requests.proofs.table_is_good.Tie as tie
@@ -37,21 +36,21 @@ returns-2 c =
     good-not-free (o z) (starts z) (ends z) names takes
 
 returns-3 : tie.Need-returns-3
-unfolding slot-taken
+unfolding slot-taken has-area
 returns-3 c =
     let z = c .before .before .before .before .before .before .before .before .before .before .before .before in
     let names : names-slot (o z) ≡ false = cc in
     let takes : (takes-slot (o z) && slot-taken (starts z) (o z .slot)) ≡ false = cc in
-    let area : (is-receive (o z) && ltb 0 (o z .long)) ≡ true = cc in
+    let area : has-area (o z) ≡ true = cc in
     cc (good-area (o z) (starts z) (ends z) names takes area)
 
 returns-4 : tie.Need-returns-4
-unfolding slot-taken
+unfolding slot-taken has-area
 returns-4 c =
     let z = c .before .before .before .before .before .before .before .before .before .before .before in
     let names : names-slot (o z) ≡ false = cc in
     let takes : (takes-slot (o z) && slot-taken (starts z) (o z .slot)) ≡ false = cc in
-    let area : (is-receive (o z) && ltb 0 (o z .long)) ≡ false = cc in
+    let area : has-area (o z) ≡ false = cc in
     good-no-area (o z) (starts z) (ends z) names takes area
 
 pub table-is-good-spec : {M : Type 1} → statement M

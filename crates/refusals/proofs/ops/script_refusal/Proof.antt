@@ -23,12 +23,16 @@ loop-holds c =
     searched-none (z .pre .1) (z .pre .2) (c .before .first .ensures .is) (omega arith)
 
 room-requires : tie.Need-room-requires Inv-loop μ-loop
-room-requires c κs =
-    (c .before .before .before .before .before .before .before .before .before .pre .0, searched-inside (c .before .loop .inv) (c .loop-test .taken))
+room-requires c κs = (
+  c .before .before .before .before .before .before .before .before .before .pre .0,
+  searched-inside (c .before .loop .inv) (c .loop-test .taken),
+)
 
 fields-are-good-requires : tie.Need-fields-are-good-requires Inv-loop μ-loop
-fields-are-good-requires c κs =
-    (c .before .before .before .before .before .before .before .before .before .before .pre .0, searched-inside (c .before .before .loop .inv) (c .before .loop-test .taken))
+fields-are-good-requires c κs = (
+  c .before .before .before .before .before .before .before .before .before .before .pre .0,
+  searched-inside (c .before .before .loop .inv) (c .before .loop-test .taken),
+)
 
 -- what the test of the fields says is the definition's
 module _ (c : tie.After-fields-are-good Inv-loop μ-loop) where
