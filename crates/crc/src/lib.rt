@@ -3,9 +3,14 @@ ghost use mathlib.Core.Path.{_≡_};
 ghost use Prim.Native.Nat.{_<_};
 ghost use lib.ListN.{length, getD};
 ghost use Rattle.rules.specs.Crc.{crc-from, crc};
-ghost use Rattle.rules.specs.Refusal.{crc-good};
 ghost use Rattle.crc.specs.Remainders.{Remainders};
 ghost use Rattle.words.specs.Read.{Word};
+
+// Where every CRC starts.
+const START: usize = 0xffff;
+
+// Where the header's own CRC stands, which is left out.
+const CRC_AT: usize = 14;
 
 // Entry k is what eight shifts leave of the byte k at the high end.
 const REMAINDERS: [u16; 256] = [
@@ -301,8 +306,8 @@ fn crc_by(table: &[u16; 256], s: &[u8]) -> usize
     requires { ⌜ (15 < length (now s)) × Remainders (now table) ⌝ }
     ensures { λ r. ⌜ Word (crc (now (s .entry))) r ⌝ }
 {
-    let head = crc_over(table, 0xffff, &s[0..14]);
-    crc_over(table, head, &s[16..])
+    let head = crc_over(table, START, &s[0..CRC_AT]);
+    crc_over(table, head, &s[limits::HEADER_SIZE..])
 }
 
 // The table as a value, to be bound once and lent: an index into the constant itself would make it anew at each call.
@@ -317,7 +322,7 @@ pub fn crc_of_bytes(s: &[u8]) -> usize
     ensures { λ r. ⌜ Word (crc-from 65535 (now (s .entry))) r ⌝ }
 {
     let table = remainders();
-    crc_over(&table, 0xffff, s)
+    crc_over(&table, START, s)
 }
 
 // The CRC of a sheet.

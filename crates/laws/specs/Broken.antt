@@ -1,4 +1,4 @@
--- Laws of `first-broken`: what a search from the front may forget, and what it answers when it stops. A search's invariant is
+-- Laws of `or-else` and `first-broken`: what a search from the front may forget, and what it answers when it stops. A search's invariant is
 -- that the answer over the whole range is the answer over what is left. Assumes nothing.
 use mathlib.Core.Path.{_≡_, refl, sym, _∙_, ap, subst}
 use mathlib.Core.Bool.{Bool, true, false, not, cond}
@@ -7,10 +7,27 @@ use native.Mathlib.Omega.{arith}
 use native.Mathlib.Decide.{ℕ-discrete}
 use native.Mathlib.Nat.{add-suc, add-zero, zero-add, suc-add}
 use lib.Dec.{eqb}
-use borrow.Author.Tests.{eq-eqb, ne-eqb}
+use borrow.Author.Tests.{eq-eqb, ne-eqb, not-true, not-false}
 use Rattle.rules.specs.Refusal.{Refusal, refusal, accepted, or-else, first-broken}
 use Rattle.laws.specs.Tests.{cond-true, cond-false, true-not-false}
 
+-- CHAINS: a refusal that accepts is passed over, another is the answer
+pub or-else-passed : (a b : Refusal) → a .number ≡ 0 → or-else a b ≡ b
+unfolding or-else
+or-else-passed a b h = cond-true (eqb (a .number) 0) b a (eq-eqb (a .number) 0 h)
+
+pub or-else-stopped : (a b : Refusal) → (a .number ≡ 0 → ⊥) → or-else a b ≡ a
+unfolding or-else
+or-else-stopped a b h = cond-false (eqb (a .number) 0) b a (ne-eqb (a .number) 0 h)
+
+-- TESTS that code makes by `if !good`, where `good` is a rule's answer
+pub rule-kept : {good rule : Bool} → good ≡ rule → not good ≡ false → rule ≡ true
+rule-kept {good} {rule} e h = sym e ∙ not-false good h
+
+pub rule-broken : {good rule : Bool} → good ≡ rule → not good ≡ true → rule ≡ false
+rule-broken {good} {rule} e h = sym e ∙ not-true good h
+
+-- SEARCHES
 module _ (n : ℕ) (f : ℕ → Bool) where
   -- the test passes: the search goes on behind it
   pub broken-more : (left i : ℕ) → 0 < left → f i ≡ true → first-broken n f left i ≡ first-broken n f (left - 1) (i + 1)
@@ -39,11 +56,17 @@ module _ (n : ℕ) (f : ℕ → Bool) where
   broken-parts zero b i h = rw (zero-add b, add-zero i)
   broken-parts (suc a) b i h = rw (suc-add a b) (go (broken-parts a b (suc i) h) (f i) refl)
     where
-      go : first-broken n f (a + b) (suc i) ≡ or-else (first-broken n f a (suc i)) (first-broken n f b (suc i + a)) → (t : Bool) → f i ≡ t → cond t (first-broken n f (a + b) (suc i)) (refusal n i) ≡ or-else (cond t (first-broken n f a (suc i)) (refusal n i)) (first-broken n f b (i + suc a))
+      rest : (at : ℕ) → Refusal
+      rest at = first-broken n f b at
+
+      go : first-broken n f (a + b) (suc i) ≡ or-else (first-broken n f a (suc i)) (rest (suc i + a))
+          → (t : Bool) → f i ≡ t
+          → cond t (first-broken n f (a + b) (suc i)) (refusal n i)
+          ≡ or-else (cond t (first-broken n f a (suc i)) (refusal n i)) (rest (i + suc a))
       go ih true e =
           let s : i + suc a ≡ suc i + a = omega arith in
           rw s ih
-      go ih false e = sym (cond-false (eqb n 0) (first-broken n f b (i + suc a)) (refusal n i) (ne-eqb n 0 h))
+      go ih false e = sym (or-else-stopped (refusal n i) (rest (i + suc a)) h)
 
   -- what a search that accepts has seen: the test passes at each index of its range
   pub broken-passed : (left i : ℕ) → (n ≡ 0 → ⊥) → first-broken n f left i .number ≡ 0 → (j : ℕ) → i ≤ j → j < i + left → f j ≡ true
@@ -51,24 +74,15 @@ module _ (n : ℕ) (f : ℕ → Bool) where
   broken-passed zero i h e j lo hi = absurd (omega arith)
   broken-passed (suc k) i h e j lo hi = go (λ q l. broken-passed k (suc i) h q j l (omega arith)) (f i) refl e (ℕ-discrete j i)
     where
-      go : (first-broken n f k (suc i) .number ≡ 0 → suc i ≤ j → f j ≡ true) → (t : Bool) → f i ≡ t → cond t (first-broken n f k (suc i)) (refusal n i) .number ≡ 0 → Dec (j ≡ i) → f j ≡ true
+      go : (first-broken n f k (suc i) .number ≡ 0 → suc i ≤ j → f j ≡ true)
+          → (t : Bool) → f i ≡ t → cond t (first-broken n f k (suc i)) (refusal n i) .number ≡ 0 → Dec (j ≡ i) → f j ≡ true
       go ih true p q (yes d) = subst (λ (m : ℕ). f m ≡ true) (sym d) p
       go ih true p q (no d) = ih q (omega arith)
       go ih false p q d = absurd (h q)
 
-  -- a search that has come to i, and the part of k indices from there: passed, or refused
-  pub broken-part-on : (total i k : ℕ) → (n ≡ 0 → ⊥) → i + k ≤ total → first-broken n f k i .number ≡ 0 → first-broken n f (total - i) i ≡ first-broken n f (total - (i + k)) (i + k)
-  unfolding or-else
-  broken-part-on total i k h l e =
+  -- a search that has come to i: the part of k indices from there, else what is behind it
+  pub broken-part : (total i k : ℕ) → (n ≡ 0 → ⊥) → i + k ≤ total
+      → first-broken n f (total - i) i ≡ or-else (first-broken n f k i) (first-broken n f (total - (i + k)) (i + k))
+  broken-part total i k h l =
       let split : total - i ≡ k + (total - (i + k)) = omega arith in
-      ap (λ (m : ℕ). first-broken n f m i) split
-      ∙ (broken-parts k (total - (i + k)) i h
-      ∙ cond-true (eqb (first-broken n f k i .number) 0) (first-broken n f (total - (i + k)) (i + k)) (first-broken n f k i) (eq-eqb (first-broken n f k i .number) 0 e))
-
-  pub broken-part-here : (total i k : ℕ) → (n ≡ 0 → ⊥) → i + k ≤ total → (first-broken n f k i .number ≡ 0 → ⊥) → first-broken n f (total - i) i ≡ first-broken n f k i
-  unfolding or-else
-  broken-part-here total i k h l e =
-      let split : total - i ≡ k + (total - (i + k)) = omega arith in
-      ap (λ (m : ℕ). first-broken n f m i) split
-      ∙ (broken-parts k (total - (i + k)) i h
-      ∙ cond-false (eqb (first-broken n f k i .number) 0) (first-broken n f (total - (i + k)) (i + k)) (first-broken n f k i) (ne-eqb (first-broken n f k i .number) 0 e))
+      ap (λ (m : ℕ). first-broken n f m i) split ∙ broken-parts k (total - (i + k)) i h

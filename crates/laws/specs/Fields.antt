@@ -1,4 +1,5 @@
--- What refusal 6 has settled of an operation's fields. Assumes nothing.
+-- What refusal 6 has settled: the fields of every operation are good. From that, field by field, what the other refusals and the
+-- steps rely on; and how an operation's roles exclude each other. Assumes nothing.
 use mathlib.Core.Path.{_≡_, refl, sym, _∙_, ap, subst}
 use mathlib.Core.Bool.{Bool, true, false, _&&_, _||_, cond}
 use Prim.Native.Nat.{ℕ, _+_, _<_, _≤_}
@@ -6,11 +7,12 @@ use native.Mathlib.Omega.{arith}
 use lib.Dec.{ltb, leb, eqb}
 use borrow.Author.Tests.{ltb-true, leb-true, eqb-true, ne-eqb}
 use Rattle.rules.specs.Limits.{most-length, slot-limit}
-use Rattle.rules.specs.Sheet.{Op, is-send, is-receive, is-wait, is-nonblocking}
-use Rattle.rules.specs.Refusal.{fields-good, wait-good, envelope-good, extent-good, slot-good}
+use Rattle.rules.specs.Sheet.{Sheet, Op, op, P-of, N-of, is-send, is-receive, is-nonblocking, names-slot, frees-slot, takes-slot}
+use Rattle.rules.specs.Refusal.{fields-good, wait-good, envelope-good, extent-good, slot-good, room-for, op-good, ops-refusal}
 use Rattle.laws.specs.Tests.{and-left, and-right, true-not-false, cond-true, cond-false}
+use Rattle.laws.specs.Broken.{broken-passed}
 
--- of a wait
+-- of an operation that names a slot
 module _ (o : Op) (g : wait-good o ≡ true) where
   abbrev front : Bool
   front = (eqb (o .flag) 0 && eqb (o .peer) 0) && (eqb (o .comm) 0 && eqb (o .zero-field) 0)
@@ -27,9 +29,13 @@ module _ (o : Op) (g : wait-good o ≡ true) where
   pub wait-empty : o .offset + o .long ≡ 0
   unfolding wait-good
   wait-empty =
+      let tag = eqb (o .tag) 0 in
+      let offset = eqb (o .offset) 0 in
+      let long = eqb (o .long) 0 in
+      let slot = ltb (o .slot) slot-limit in
       let q = and-right front back g in
-      let a = eqb-true (o .offset) 0 (and-right (eqb (o .tag) 0) (eqb (o .offset) 0) (and-left (eqb (o .tag) 0 && eqb (o .offset) 0) (eqb (o .long) 0 && ltb (o .slot) slot-limit) q)) in
-      let b = eqb-true (o .long) 0 (and-left (eqb (o .long) 0) (ltb (o .slot) slot-limit) (and-right (eqb (o .tag) 0 && eqb (o .offset) 0) (eqb (o .long) 0 && ltb (o .slot) slot-limit) q)) in
+      let a = eqb-true (o .offset) 0 (and-right tag offset (and-left (tag && offset) (long && slot) q)) in
+      let b = eqb-true (o .long) 0 (and-left long slot (and-right (tag && offset) (long && slot) q)) in
       omega arith
 
   pub wait-slot : o .slot < slot-limit
@@ -69,40 +75,60 @@ module _ (room : ℕ) (o : Op) (g : extent-good room o ≡ true) where
       go true h = let e = eqb-true (o .slot) 0 h in omega arith
       go false h = ltb-true (o .slot) slot-limit h
 
--- of any operation, by its kind
+-- of any operation
 module _ (p c room : ℕ) (o : Op) (g : fields-good p c room o ≡ true) where
-  pub fields-wait : is-wait o ≡ true → wait-good o ≡ true
+  abbrev transfer-good : Bool
+  transfer-good = (is-send o || is-receive o) && (envelope-good p c o && extent-good room o)
+
+  pub fields-named : names-slot o ≡ true → wait-good o ≡ true
   unfolding fields-good
-  fields-wait w = sym (cond-true (is-wait o) (wait-good o) ((is-send o || is-receive o) && (envelope-good p c o && extent-good room o)) w) ∙ g
+  fields-named w = sym (cond-true (names-slot o) (wait-good o) transfer-good w) ∙ g
 
-  fields-transfer : is-wait o ≡ false → ((is-send o || is-receive o) && (envelope-good p c o && extent-good room o)) ≡ true
+  fields-transfer : names-slot o ≡ false → transfer-good ≡ true
   unfolding fields-good
-  fields-transfer w = sym (cond-false (is-wait o) (wait-good o) ((is-send o || is-receive o) && (envelope-good p c o && extent-good room o)) w) ∙ g
+  fields-transfer w = sym (cond-false (names-slot o) (wait-good o) transfer-good w) ∙ g
 
-  pub fields-kind : is-wait o ≡ false → (is-send o || is-receive o) ≡ true
-  fields-kind w = and-left (is-send o || is-receive o) (envelope-good p c o && extent-good room o) (fields-transfer w)
-
-  pub fields-envelope : is-wait o ≡ false → envelope-good p c o ≡ true
-  fields-envelope w = and-left (envelope-good p c o) (extent-good room o) (and-right (is-send o || is-receive o) (envelope-good p c o && extent-good room o) (fields-transfer w))
-
-  pub fields-extent : is-wait o ≡ false → extent-good room o ≡ true
-  fields-extent w = and-right (envelope-good p c o) (extent-good room o) (and-right (is-send o || is-receive o) (envelope-good p c o && extent-good room o) (fields-transfer w))
-
-  -- a wait is blocking
-  pub fields-wait-blocking : is-wait o ≡ true → is-nonblocking o ≡ false
-  unfolding is-nonblocking
-  fields-wait-blocking w = ne-eqb (o .flag) 1 (λ e. absurd (omega (arith, wait-flag o (fields-wait w))))
+  pub fields-extent : names-slot o ≡ false → extent-good room o ≡ true
+  fields-extent w =
+      and-right (envelope-good p c o) (extent-good room o)
+      (and-right (is-send o || is-receive o) (envelope-good p c o && extent-good room o) (fields-transfer w))
 
   pub fields-slot : o .slot < slot-limit
-  fields-slot = go (is-wait o) refl
+  fields-slot = go (names-slot o) refl
     where
-      go : (b : Bool) → is-wait o ≡ b → o .slot < slot-limit
-      go true w = wait-slot o (fields-wait w)
+      go : (b : Bool) → names-slot o ≡ b → o .slot < slot-limit
+      go true w = wait-slot o (fields-named w)
       go false w = extent-slot room o (fields-extent w)
 
   pub fields-end : o .offset + o .long ≤ room
-  fields-end = go (is-wait o) refl
+  fields-end = go (names-slot o) refl
     where
-      go : (b : Bool) → is-wait o ≡ b → o .offset + o .long ≤ room
-      go true w = omega (arith, wait-empty o (fields-wait w))
+      go : (b : Bool) → names-slot o ≡ b → o .offset + o .long ≤ room
+      go true w = omega (arith, wait-empty o (fields-named w))
       go false w = extent-inside room o (fields-extent w)
+
+-- ROLES of an operation whose fields are good: what frees a slot names it, and what names a slot takes none
+pub record Roles (o : Op) : Type 0 where
+  pub frees-named : frees-slot o ≡ true → names-slot o ≡ true
+  pub named-takes-none : names-slot o ≡ true → takes-slot o ≡ false
+
+pub roles : (p c room : ℕ) (o : Op) → fields-good p c room o ≡ true → Roles o
+unfolding is-nonblocking
+roles p c room o g =
+    record {
+      frees-named = λ f. f;
+      named-takes-none = λ w. ne-eqb (o .flag) 1 (λ e. absurd (omega (arith, wait-flag o (fields-named p c room o g w))));
+    }
+
+-- REFUSAL 6 of a whole sheet: every operation's fields are good
+pub record Fielded (s : Sheet) : Type 0 where
+  pub good : (i : ℕ) → i < N-of s → op-good s i ≡ true
+
+pub fielded : (s : Sheet) → ops-refusal s .number ≡ 0 → Fielded s
+unfolding ops-refusal
+fielded s e =
+    record { good = λ i l. broken-passed 6 (op-good s) (N-of s) 0 (λ z. absurd (omega arith)) e i (omega arith) (omega arith) }
+
+pub fielded-at : (s : Sheet) → Fielded s → (i : ℕ) → i < N-of s → fields-good (P-of s) (s .comms) (room-for s i) (op s i) ≡ true
+unfolding op-good
+fielded-at s f i l = f .good i l

@@ -1,23 +1,24 @@
--- A search over all operations, script by script: what holds before board r, one script more, and what the search answers. It
--- serves refusals 6 and 7 alike. Assumes nothing.
+-- The search for the first operation that breaks a rule, as refusals 6 and 7 make it: board by board, and in a board's script
+-- operation by operation. Two records say how far a search has come; each has a law for its beginning, for one more, for a
+-- refusal and for its end. The rule is any test f of an operation's index, n the number that it is refused with.
+-- Assumes nothing.
 use mathlib.Core.Path.{_≡_, refl, sym, _∙_, ap, subst}
-use mathlib.Core.Bool.{Bool, true, false}
+use mathlib.Core.Bool.{Bool, true, false, not}
 use Prim.Native.Nat.{ℕ, zero, suc, _+_, _-_, _<_, _≤_}
 use native.Mathlib.Omega.{arith}
 use native.Mathlib.Numerals.{add-one}
-use Rattle.rules.specs.Sheet.{Sheet, board, P-of, N-of, counts-before}
-use Rattle.rules.specs.Refusal.{Refusal, refusal, accepted, first-broken}
+use Rattle.rules.specs.Sheet.{Sheet, board, P-of, N-of, counts-before, rank-of}
+use Rattle.rules.specs.Refusal.{Refusal, refusal, or-else, first-broken}
 use Rattle.rules.specs.Service.{answers}
-use Rattle.laws.specs.Broken.{broken-none, broken-more, broken-here, broken-part-on, broken-part-here}
-use Rattle.laws.specs.Ranks.{counts-none, script-next, script-before}
+use Rattle.laws.specs.Broken.{or-else-passed, or-else-stopped, rule-kept, rule-broken, broken-none, broken-more, broken-here, broken-part}
+use Rattle.laws.specs.Ranks.{counts-none, script-next, script-before, rank-in-script}
 use Rattle.laws.specs.Tabled.{Tabled}
 
--- an answer, from an equation of refusals
+-- ANSWERS: from an equation of refusals, and from an answer to an equal one
 pub told-is : (f : Refusal) (n p : ℕ) → f ≡ refusal n p → answers f n p
 unfolding answers refusal
 told-is f n p e = (ap (λ (g : Refusal). g .number) (sym e), ap (λ (g : Refusal). g .place) (sym e))
 
--- and from an answer to an equal one
 pub told-same : (f g : Refusal) (n p : ℕ) → f ≡ g → answers g n p → answers f n p
 told-same f g n p e t = subst (λ (h : Refusal). answers h n p) (sym e) t
 
@@ -25,84 +26,124 @@ pub answers-number : (f : Refusal) (n p : ℕ) → answers f n p → n ≡ f .nu
 unfolding answers
 answers-number f n p t = t .0
 
--- the search over the script of board r alone
+-- the search over all operations, and over the script of board r alone
+abbrev pub all-broken : (number : ℕ) → (ℕ → Bool) → Sheet → Refusal
+all-broken n f s = first-broken n f (N-of s) 0
+
 abbrev pub script-broken : (number : ℕ) → (ℕ → Bool) → Sheet → (r : ℕ) → Refusal
 script-broken n f s r = first-broken n f (board s r .count) (board s r .first)
 
--- before the script of board r nothing is refused
-abbrev pub Passed : Sheet → (number : ℕ) → (ℕ → Bool) → (r : ℕ) → Type 0
-Passed s n f r = first-broken n f (N-of s) 0 ≡ first-broken n f (N-of s - counts-before s r) (counts-before s r)
+-- and from board r on
+abbrev pub broken-from : (number : ℕ) → (ℕ → Bool) → Sheet → (r : ℕ) → Refusal
+broken-from n f s r = first-broken n f (N-of s - counts-before s r) (counts-before s r)
 
 -- a script lies inside the operations
 pub script-inside : (s : Sheet) → Tabled s → (r : ℕ) → r < P-of s → board s r .first + board s r .count ≤ N-of s
 script-inside s t r l = let e = script-before s (t .consecutive) r (P-of s) l (omega arith) in omega (arith, t .total)
 
-module _ (s : Sheet) (t : Tabled s) (n : ℕ) (f : ℕ → Bool) (h : n ≡ 0 → ⊥) where
-  pub passed-none : Passed s n f 0
-  passed-none = rw (counts-none s) (ap (λ (k : ℕ). first-broken n f k 0) (omega arith))
+-- BOARD BY BOARD: nothing is refused before the script of board r
+pub record Passed (s : Sheet) (n : ℕ) (f : ℕ → Bool) (r : ℕ) : Type 0 where
+  pub tabled : Tabled s
+  pub refuses : n ≡ 0 → ⊥
+  pub within : r ≤ P-of s
+  pub left : all-broken n f s ≡ broken-from n f s r
 
-  pub passed-more : (r : ℕ) → r < P-of s → Passed s n f r → script-broken n f s r .number ≡ 0 → Passed s n f (r + 1)
-  passed-more r l e q =
-      let first = t .consecutive r l in
-      let next = script-next s (t .consecutive) r l in
-      let inside = script-inside s t r l in
-      let part : first-broken n f (N-of s - counts-before s r) (counts-before s r) ≡ first-broken n f (N-of s - (counts-before s r + board s r .count)) (counts-before s r + board s r .count) =
-      broken-part-on n f (N-of s) (counts-before s r) (board s r .count) h (omega arith) (subst (λ (k : ℕ). first-broken n f (board s r .count) k .number ≡ 0) first q) in
-      let end : counts-before s r + board s r .count ≡ counts-before s (r + 1) = ends first next in
-      e ∙ (part ∙ ap (λ (k : ℕ). first-broken n f (N-of s - k) k) end)
-    where
-      ends : board s r .first ≡ counts-before s r → board s r .first + board s r .count ≡ counts-before s (suc r) → counts-before s r + board s r .count ≡ counts-before s (r + 1)
-      ends a b = rw (add-one r) (omega arith)
+pub passed-none : {s : Sheet} {n : ℕ} {f : ℕ → Bool} → Tabled s → (n ≡ 0 → ⊥) → Passed s n f 0
+passed-none {s} {n} {f} t h =
+    record {
+      tabled = t;
+      refuses = h;
+      within = omega arith;
+      left = rw (counts-none s) (ap (λ (k : ℕ). first-broken n f k 0) (omega arith));
+    }
 
-  -- a refusal in board r's script is the refusal of the whole search
-  pub passed-bad : (r : ℕ) → r < P-of s → Passed s n f r → (script-broken n f s r .number ≡ 0 → ⊥) → first-broken n f (N-of s) 0 ≡ script-broken n f s r
-  passed-bad r l e q =
-      let first = t .consecutive r l in
-      let inside = script-inside s t r l in
-      e ∙ (ap (λ (k : ℕ). first-broken n f (N-of s - k) k) (sym first)
-      ∙ broken-part-here n f (N-of s) (board s r .first) (board s r .count) h inside q)
+module _ {s : Sheet} {n : ℕ} {f : ℕ → Bool} {r : ℕ} (q : Passed s n f r) where
+  -- the script of board r, else what is behind it
+  split : r < P-of s → all-broken n f s ≡ or-else (script-broken n f s r) (broken-from n f s (r + 1))
+  split l =
+      let first = q .tabled .consecutive r l in
+      let behind : board s r .first + board s r .count ≡ counts-before s (r + 1) = rw (add-one r) (script-next s (q .tabled .consecutive) r l) in
+      q .left
+      ∙ (ap (λ (k : ℕ). first-broken n f (N-of s - k) k) (sym first)
+      ∙ (broken-part n f (N-of s) (board s r .first) (board s r .count) (q .refuses) (script-inside s (q .tabled) r l)
+      ∙ ap (λ (k : ℕ). or-else (script-broken n f s r) (first-broken n f (N-of s - k) k)) behind))
 
-  -- the same of answers: what a board's script is told is what the whole search is told, or the search goes on
-  pub passed-answer : (r k p : ℕ) → r < P-of s → Passed s n f r → answers (script-broken n f s r) k p → (k ≡ 0 → ⊥) → answers (first-broken n f (N-of s) 0) k p
-  passed-answer r k p l e a q =
-      told-same (first-broken n f (N-of s) 0) (script-broken n f s r) k p (passed-bad r l e (λ z. q (answers-number (script-broken n f s r) k p a ∙ z))) a
+  module _ (k p : ℕ) (l : r < P-of s) (told : answers (script-broken n f s r) k p) where
+    number : k ≡ script-broken n f s r .number
+    number = answers-number (script-broken n f s r) k p told
 
-  pub passed-on : (r k p : ℕ) → r < P-of s → Passed s n f r → answers (script-broken n f s r) k p → k ≡ 0 → Passed s n f (r + 1)
-  passed-on r k p l e a q = passed-more r l e (sym (answers-number (script-broken n f s r) k p a) ∙ q)
+    -- the script is accepted: the search goes on
+    pub passed-more : k ≡ 0 → Passed s n f (r + 1)
+    passed-more e =
+        record {
+          tabled = q .tabled;
+          refuses = q .refuses;
+          within = omega arith;
+          left = split l ∙ or-else-passed (script-broken n f s r) (broken-from n f s (r + 1)) (sym number ∙ e);
+        }
+
+    -- it is refused: so is the sheet
+    pub passed-bad : (k ≡ 0 → ⊥) → answers (all-broken n f s) k p
+    passed-bad d =
+        told-same (all-broken n f s) (script-broken n f s r) k p
+        (split l ∙ or-else-stopped (script-broken n f s r) (broken-from n f s (r + 1)) (λ z. d (number ∙ z)))
+        told
 
   -- behind the last script nothing is refused at all
-  pub passed-all : (r : ℕ) → r ≡ P-of s → Passed s n f r → first-broken n f (N-of s) 0 ≡ accepted
-  passed-all r l e =
-      let all : counts-before s r ≡ N-of s = ap (λ (k : ℕ). counts-before s k) l ∙ t .total in
-      e ∙ broken-none n f (N-of s - counts-before s r) (counts-before s r) (omega arith)
+  pub passed-all : P-of s ≤ r → answers (all-broken n f s) 0 0
+  passed-all l =
+      let last : r ≡ P-of s = omega (arith, q .within) in
+      let all : counts-before s r ≡ N-of s = ap (λ (k : ℕ). counts-before s k) last ∙ q .tabled .total in
+      told-is (all-broken n f s) 0 0 (q .left ∙ broken-none n f (N-of s - counts-before s r) (counts-before s r) (omega arith))
 
--- a search inside the script of board r has come to operation i
+-- OPERATION BY OPERATION: nothing is refused in the script of board r before operation i; the script ends before `end`
 pub record Searched (s : Sheet) (n : ℕ) (f : ℕ → Bool) (r i end : ℕ) : Type 0 where
+  pub tabled : Tabled s
+  pub ranked : r < P-of s
   pub lower : board s r .first ≤ i
   pub upper : i ≤ end
+  pub end-is : end ≡ board s r .first + board s r .count
   pub left : script-broken n f s r ≡ first-broken n f (end - i) i
 
-module _ (s : Sheet) (n : ℕ) (f : ℕ → Bool) (r : ℕ) where
-  pub searched-none : (i end : ℕ) → i ≡ board s r .first → end ≡ i + board s r .count → Searched s n f r i end
-  searched-none i end a b =
-      let c : board s r .count ≡ end - i = omega arith in
-      record {
-        lower = omega arith;
-        upper = omega arith;
-        left = ap (λ (k : ℕ). first-broken n f k (board s r .first)) c ∙ ap (λ (k : ℕ). first-broken n f (end - i) k) (sym a);
-      }
+pub searched-none : {s : Sheet} {n : ℕ} {f : ℕ → Bool} {r i end : ℕ} → Tabled s → r < P-of s
+    → i ≡ board s r .first → end ≡ i + board s r .count → Searched s n f r i end
+searched-none {s} {n} {f} {r} {i} {end} t l a b =
+    let long : board s r .count ≡ end - i = omega arith in
+    record {
+      tabled = t;
+      ranked = l;
+      lower = omega arith;
+      upper = omega arith;
+      end-is = omega arith;
+      left = ap (λ (k : ℕ). first-broken n f k (board s r .first)) long ∙ ap (λ (k : ℕ). first-broken n f (end - i) k) (sym a);
+    }
 
-  pub searched-more : (i end : ℕ) → Searched s n f r i end → i < end → f i ≡ true → Searched s n f r (i + 1) end
-  searched-more i end q l t =
-      let k : (end - i) - 1 ≡ end - (i + 1) = omega arith in
-      record {
-        lower = omega (arith, q .lower);
-        upper = omega arith;
-        left = q .left ∙ (broken-more n f (end - i) i (omega arith) t ∙ ap (λ (m : ℕ). first-broken n f m (i + 1)) k);
-      }
+module _ {s : Sheet} {n : ℕ} {f : ℕ → Bool} {r i end : ℕ} (q : Searched s n f r i end) where
+  -- behind the last operation of the script nothing is refused in it
+  pub searched-all : end ≤ i → answers (script-broken n f s r) 0 0
+  searched-all l = told-is (script-broken n f s r) 0 0 (q .left ∙ broken-none n f (end - i) i (omega arith))
 
-  pub searched-bad : (i end : ℕ) → Searched s n f r i end → i < end → f i ≡ false → answers (script-broken n f s r) n i
-  searched-bad i end q l t = told-is (script-broken n f s r) n i (q .left ∙ broken-here n f (end - i) i (omega arith) t)
+  module _ (l : i < end) where
+    -- operation i is one of the sheet's, and of board r
+    pub searched-inside : i < N-of s
+    searched-inside = omega (arith, q .end-is, script-inside s (q .tabled) r (q .ranked))
 
-  pub searched-all : (i end : ℕ) → Searched s n f r i end → end ≤ i → answers (script-broken n f s r) 0 0
-  searched-all i end q l = told-is (script-broken n f s r) 0 0 (q .left ∙ broken-none n f (end - i) i (omega arith))
+    pub searched-rank : rank-of s i ≡ r
+    searched-rank = rank-in-script s (q .tabled .consecutive) r i (q .ranked) (q .lower) (omega (arith, q .end-is))
+
+    -- what the code found of operation i: it keeps the rule and the search goes on, or it is the place
+    module _ {good : Bool} (told : good ≡ f i) where
+      pub searched-more : not good ≡ false → Searched s n f r (i + 1) end
+      searched-more h =
+          let less : (end - i) - 1 ≡ end - (i + 1) = omega arith in
+          record {
+            tabled = q .tabled;
+            ranked = q .ranked;
+            lower = omega (arith, q .lower);
+            upper = omega arith;
+            end-is = q .end-is;
+            left = q .left ∙ (broken-more n f (end - i) i (omega arith) (rule-kept told h) ∙ ap (λ (m : ℕ). first-broken n f m (i + 1)) less);
+          }
+
+      pub searched-bad : not good ≡ true → answers (script-broken n f s r) n i
+      searched-bad h = told-is (script-broken n f s r) n i (q .left ∙ broken-here n f (end - i) i (omega arith) (rule-broken told h))

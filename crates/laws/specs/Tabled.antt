@@ -43,8 +43,8 @@ tabled s h =
     record {
       consecutive = λ r l. eqb-true (board s r .first) (counts-before s r) (and-left (eqb (board s r .first) (counts-before s r)) (rest r) (good r l));
       total = counted;
-      attached-most = λ r l. leb-true (board s r .attached) most-attached (and-left (leb (board s r .attached) most-attached) (leb (inbox-start s (suc r)) most-inbox) (sizes r l));
-      inbox-most = λ r l. leb-true (inbox-start s (suc r)) most-inbox (and-right (leb (board s r .attached) most-attached) (leb (inbox-start s (suc r)) most-inbox) (sizes r l));
+      attached-most = λ r l. leb-true (board s r .attached) most-attached (and-left (attached r) (inboxes r) (sizes r l));
+      inbox-most = λ r l. leb-true (inbox-start s (suc r)) most-inbox (and-right (attached r) (inboxes r) (sizes r l));
     }
   where
     all : Refusal
@@ -53,8 +53,14 @@ tabled s h =
     sum : Refusal
     sum = cond (eqb (counts-before s (P-of s)) (N-of s)) accepted (refusal 5 (P-of s))
 
+    attached : ℕ → Bool
+    attached r = leb (board s r .attached) most-attached
+
+    inboxes : ℕ → Bool
+    inboxes r = leb (inbox-start s (suc r)) most-inbox
+
     rest : ℕ → Bool
-    rest r = leb (board s r .attached) most-attached && leb (inbox-start s (suc r)) most-inbox
+    rest r = attached r && inboxes r
 
     good : (r : ℕ) → r < P-of s → (eqb (board s r .first) (counts-before s r) && rest r) ≡ true
     good r l = broken-passed 5 (board-good s) (P-of s) 0 (λ z. absurd (omega arith)) (or-else-first all sum h) r (omega arith) (omega arith)

@@ -1,19 +1,27 @@
 -- Refusal 5 as a walk over the board table: what holds before board r, one board more, and what the walk answers.
 -- Assumes nothing.
 use mathlib.Core.Path.{_≡_, refl, sym, _∙_, ap, subst}
-use mathlib.Core.Bool.{Bool, true, false, _&&_, cond}
-use mathlib.Core.List.{List}
-use Prim.Native.Nat.{ℕ, zero, suc, _+_, _-_, _*_, _<_, _≤_}
+use mathlib.Core.Bool.{Bool, true, false, _&&_, not, cond}
+use Prim.Native.Nat.{ℕ, suc, _+_, _-_, _*_, _<_, _≤_}
 use native.Mathlib.Omega.{arith}
 use native.Mathlib.Numerals.{add-one}
 use lib.Dec.{eqb, leb}
 use borrow.Author.Tests.{leb-true, eq-eqb, ne-eqb}
+use Rattle.rules.specs.Limits.{most-attached, most-inbox}
 use Rattle.rules.specs.Sheet.{Sheet, board, P-of, N-of, counts-before, inbox-start}
-use Rattle.rules.specs.Refusal.{refusal, accepted, or-else, first-broken, board-good, boards-refusal}
+use Rattle.rules.specs.Refusal.{Refusal, refusal, accepted, or-else, first-broken, board-good, boards-refusal}
 use Rattle.rules.specs.Service.{answers}
-use Rattle.laws.specs.Tests.{and-left, and-right, cond-true, cond-false}
-use Rattle.laws.specs.Broken.{broken-more, broken-here, broken-none}
+use Rattle.laws.specs.Tests.{and-right}
+use Rattle.laws.specs.Broken.{or-else-passed, or-else-stopped, rule-kept, rule-broken, broken-more, broken-here, broken-none}
 use Rattle.laws.specs.Ranks.{counts-more, inbox-start-more, counts-none, inbox-start-none}
+use Rattle.laws.specs.Scripts.{told-is}
+
+-- the search from board r on, and the test of the counts' total behind it
+abbrev pub entries-broken : Sheet → (r : ℕ) → Refusal
+entries-broken s r = first-broken 5 (board-good s) (P-of s - r) r
+
+abbrev pub total-broken : Sheet → Refusal
+total-broken s = cond (eqb (counts-before s (P-of s)) (N-of s)) accepted (refusal 5 (P-of s))
 
 -- before board r: the sums over the boards passed, and nothing refused so far
 pub record Walked (s : Sheet) (r sum total : ℕ) : Type 0 where
@@ -21,10 +29,11 @@ pub record Walked (s : Sheet) (r sum total : ℕ) : Type 0 where
   pub sum-is : sum ≡ counts-before s r
   pub total-is : total ≡ inbox-start s r
   pub small : sum ≤ 65536 * r
-  pub fits : total ≤ 16384
-  pub left : first-broken 5 (board-good s) (P-of s) 0 ≡ first-broken 5 (board-good s) (P-of s - r) r
+  pub fits : total ≤ most-inbox
+  pub left : boards-refusal s ≡ or-else (entries-broken s r) (total-broken s)
 
 pub walked-none : (s : Sheet) → Walked s 0 0 0
+unfolding boards-refusal
 walked-none s =
     record {
       within = omega arith;
@@ -32,57 +41,60 @@ walked-none s =
       total-is = sym (inbox-start-none s);
       small = omega arith;
       fits = omega arith;
-      left = ap (λ (n : ℕ). first-broken 5 (board-good s) n 0) (omega arith);
+      left = ap (λ (n : ℕ). or-else (first-broken 5 (board-good s) n 0) (total-broken s)) (omega arith);
     }
 
-module _ (s : Sheet) (r sum total : ℕ) (w : Walked s r sum total) (h : r < P-of s) where
-  -- the test of an entry, as the walk makes it, is the definition's
-  entry-test : (f a t : ℕ) → f ≡ board s r .first → a ≡ board s r .attached → t ≡ total + board s r .inbox → (eqb f sum && (leb a 16384 && leb t 16384)) ≡ board-good s r
-  unfolding board-good
-  entry-test f a t ef ea et =
-      let start : t ≡ inbox-start s (suc r) = et ∙ (ap (λ (n : ℕ). n + board s r .inbox) (w .total-is) ∙ sym (inbox-start-more s r h)) in
-      cc (w .sum-is)
+module _ {s : Sheet} {r sum total : ℕ} (w : Walked s r sum total) where
+  module _ (l : r < P-of s) {good : Bool} (told : good ≡ board-good s r) where
+    -- a good entry: the walk goes on, with the board's count and inbox added
+    pub walked-more : not good ≡ false → (count t : ℕ) → count ≡ board s r .count → count < 65536 → t ≡ total + board s r .inbox
+        → Walked s (r + 1) (sum + count) t
+    unfolding board-good
+    walked-more h count t ec lc et =
+        let counts = counts-more s r l in
+        let starts = inbox-start-more s r l in
+        let next : r + 1 ≡ suc r = add-one r in
+        let attached = leb (board s r .attached) most-attached in
+        let inboxes = leb (inbox-start s (suc r)) most-inbox in
+        let sizes = and-right (eqb (board s r .first) (counts-before s r)) (attached && inboxes) (rule-kept told h) in
+        let fits = leb-true (inbox-start s (suc r)) most-inbox (and-right attached inboxes sizes) in
+        let on = broken-more 5 (board-good s) (P-of s - r) r (omega arith) (rule-kept told h) in
+        let rest : entries-broken s r ≡ entries-broken s (r + 1) = on ∙ ap (λ (n : ℕ). first-broken 5 (board-good s) n (r + 1)) (omega arith) in
+        record {
+          within = omega arith;
+          sum-is = rw next (omega (arith, w .sum-is));
+          total-is = rw next (omega (arith, w .total-is));
+          small = omega (arith, w .small);
+          fits = omega (arith, w .total-is);
+          left = w .left ∙ ap (λ (f : Refusal). or-else f (total-broken s)) rest;
+        }
 
-  pub walked-more : (f a t c : ℕ) → f ≡ board s r .first → a ≡ board s r .attached → t ≡ total + board s r .inbox → c ≡ board s r .count → c < 65536 → (eqb f sum && (leb a 16384 && leb t 16384)) ≡ true → Walked s (r + 1) (sum + c) t
-  walked-more f a t c ef ea et ec lc good =
-      let counts = counts-more s r h in
-      let starts = inbox-start-more s r h in
-      let one : r + 1 ≡ suc r = add-one r in
-      record {
-        within = omega arith;
-        sum-is = subst (λ (n : ℕ). sum + c ≡ counts-before s n) (sym one) (sum-grown counts);
-        total-is = subst (λ (n : ℕ). t ≡ inbox-start s n) (sym one) (total-grown starts);
-        small = let m = w .small in omega arith;
-        fits = leb-true t 16384 (and-right (leb a 16384) (leb t 16384) (and-right (eqb f sum) (leb a 16384 && leb t 16384) good));
-        left = w .left ∙ (broken-more 5 (board-good s) (P-of s - r) r (omega arith) (sym (entry-test f a t ef ea et) ∙ good) ∙ ap (λ (n : ℕ). first-broken 5 (board-good s) n (r + 1)) (omega arith));
-      }
-    where
-      sum-grown : counts-before s (suc r) ≡ counts-before s r + board s r .count → sum + c ≡ counts-before s (suc r)
-      sum-grown e = let m = w .sum-is in omega arith
+    -- a bad entry is the answer
+    pub walked-bad : not good ≡ true → answers (boards-refusal s) 5 r
+    unfolding refusal
+    walked-bad h =
+        let here : entries-broken s r ≡ refusal 5 r = broken-here 5 (board-good s) (P-of s - r) r (omega arith) (rule-broken told h) in
+        told-is (boards-refusal s) 5 r
+        (w .left ∙ (ap (λ (f : Refusal). or-else f (total-broken s)) here ∙ or-else-stopped (refusal 5 r) (total-broken s) (λ z. absurd (omega arith))))
 
-      total-grown : inbox-start s (suc r) ≡ inbox-start s r + board s r .inbox → t ≡ inbox-start s (suc r)
-      total-grown e = let m = w .total-is in omega arith
+  -- behind the last board: the total of the counts decides
+  module _ (last : P-of s ≤ r) where
+    counted : sum ≡ counts-before s (P-of s)
+    counted = w .sum-is ∙ ap (λ (n : ℕ). counts-before s n) (omega (arith, w .within))
 
-  -- a bad entry is the answer
-  pub walked-bad : (f a t : ℕ) → f ≡ board s r .first → a ≡ board s r .attached → t ≡ total + board s r .inbox → (eqb f sum && (leb a 16384 && leb t 16384)) ≡ false → answers (boards-refusal s) 5 r
-  unfolding answers boards-refusal or-else refusal
-  walked-bad f a t ef ea et bad =
-      let e : first-broken 5 (board-good s) (P-of s) 0 ≡ refusal 5 r = w .left ∙ broken-here 5 (board-good s) (P-of s - r) r (omega arith) (sym (entry-test f a t ef ea et) ∙ bad) in
-      rw e (refl, refl)
+    behind : boards-refusal s ≡ total-broken s
+    unfolding refusal
+    behind =
+        w .left
+        ∙ (ap (λ (f : Refusal). or-else f (total-broken s)) (broken-none 5 (board-good s) (P-of s - r) r (omega arith))
+        ∙ or-else-passed accepted (total-broken s) refl)
 
--- behind the last board: the total of the counts decides
-module _ (s : Sheet) (sum total : ℕ) (w : Walked s (P-of s) sum total) where
-  none-bad : first-broken 5 (board-good s) (P-of s) 0 ≡ accepted
-  none-bad = w .left ∙ broken-none 5 (board-good s) (P-of s - P-of s) (P-of s) (omega arith)
+    pub walked-total : sum ≡ N-of s → answers (boards-refusal s) 0 0
+    walked-total e =
+        let test = eq-eqb (counts-before s (P-of s)) (N-of s) (sym counted ∙ e) in
+        told-is (boards-refusal s) 0 0 (behind ∙ rw test)
 
-  pub walked-total : sum ≡ N-of s → answers (boards-refusal s) 0 0
-  unfolding answers boards-refusal or-else refusal
-  walked-total e =
-      let t : eqb (counts-before s (P-of s)) (N-of s) ≡ true = eq-eqb (counts-before s (P-of s)) (N-of s) (sym (w .sum-is) ∙ e) in
-      rw (none-bad, t) (refl, refl)
-
-  pub walked-short : (sum ≡ N-of s → ⊥) → answers (boards-refusal s) 5 (P-of s)
-  unfolding answers boards-refusal or-else refusal
-  walked-short e =
-      let t : eqb (counts-before s (P-of s)) (N-of s) ≡ false = ne-eqb (counts-before s (P-of s)) (N-of s) (λ d. e (w .sum-is ∙ d)) in
-      rw (none-bad, t) (refl, refl)
+    pub walked-short : (sum ≡ N-of s → ⊥) → (p : ℕ) → p ≡ P-of s → answers (boards-refusal s) 5 p
+    walked-short e p is =
+        let test = ne-eqb (counts-before s (P-of s)) (N-of s) (λ d. e (counted ∙ d)) in
+        told-is (boards-refusal s) 5 p (behind ∙ rw (test, is))

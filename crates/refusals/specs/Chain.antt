@@ -1,44 +1,97 @@
--- Refusals in their order: the lowest number that does not accept is the answer. Assumes nothing.
-use mathlib.Core.Path.{_≡_, refl, sym, _∙_, ap}
-use mathlib.Core.Bool.{Bool, true, false, not, cond}
+-- Refusals in their order: the lowest number that does not accept is the answer, and each that accepts settles what the next one
+-- asks. A test is given as the code makes it, by `if !good`. Assumes nothing.
+use mathlib.Core.Path.{_≡_, refl, sym, _∙_}
+use mathlib.Core.Bool.{Bool, true, false, not}
 use mathlib.Core.List.{List}
 use Prim.Native.Nat.{ℕ, _≤_, _<_}
-use lib.Dec.{ltb, eqb}
+use lib.Dec.{ltb}
 use lib.ListN.{length}
-use borrow.Author.Tests.{lt-ltb, le-ltb, eq-eqb, ne-eqb}
+use borrow.Author.Tests.{lt-ltb, le-ltb}
+use Rattle.rules.specs.Limits.{header-size}
 use Rattle.rules.specs.Sheet.{Sheet, sheet-in}
-use Rattle.rules.specs.Refusal.{Refusal, refusal, or-else, boards-refusal, ops-refusal, requests-refusal, tables-refusal, sizes-good, layout-good, crc-good, sheet-refusal}
+use Rattle.rules.specs.Refusal.{Refusal, refusal, or-else, sizes-good, layout-good, crc-good, sheet-refusal}
+use Rattle.rules.specs.Refusal.{boards-refusal, ops-refusal, requests-refusal, tables-refusal}
 use Rattle.rules.specs.Service.{answers, Check-says}
-use Rattle.laws.specs.Scripts.{answers-number}
+use Rattle.laws.specs.Broken.{or-else-passed, or-else-stopped, rule-kept, rule-broken}
+use Rattle.laws.specs.Fields.{Fielded, fielded}
+use Rattle.laws.specs.Laid.{Laid, laid}
+use Rattle.laws.specs.Scripts.{told-same, answers-number}
+use Rattle.laws.specs.Tabled.{Tabled, tabled}
 
 -- a chain answers as its first refusal where that does not accept, else as the rest
-pub or-else-told : (a b : Refusal) (n p : ℕ) → answers a n p → (n ≡ 0 → ⊥) → answers (or-else a b) n p
-unfolding answers or-else
-or-else-told a b n p t h = let e : eqb (a .number) 0 ≡ false = ne-eqb (a .number) 0 (λ z. h (t .0 ∙ z)) in rw e t
+module _ (a b : Refusal) (n p : ℕ) (told : answers a n p) where
+  or-else-told : (n ≡ 0 → ⊥) → answers (or-else a b) n p
+  or-else-told h = told-same (or-else a b) a n p (or-else-stopped a b (λ z. h (answers-number a n p told ∙ z))) told
 
-pub or-else-next : (a b : Refusal) (m q n p : ℕ) → answers a m q → m ≡ 0 → answers b n p → answers (or-else a b) n p
-unfolding answers or-else
-or-else-next a b m q n p t h u = let e : eqb (a .number) 0 ≡ true = eq-eqb (a .number) 0 (sym (t .0) ∙ h) in rw e u
+  accepts : n ≡ 0 → a .number ≡ 0
+  accepts h = sym (answers-number a n p told) ∙ h
+
+  or-else-next : n ≡ 0 → (m q : ℕ) → answers b m q → answers (or-else a b) m q
+  or-else-next h m q t = told-same (or-else a b) b m q (or-else-passed a b (accepts h)) t
+
+-- TABLES: 5 to 7 in turn
+module _ (s : Sheet) (n p : ℕ) (fifth : answers (boards-refusal s) n p) where
+  abbrev rest : Refusal
+  rest = or-else (ops-refusal s) (requests-refusal s)
+
+  pub tables-5 : (n ≡ 0 → ⊥) → answers (tables-refusal s) n p
+  unfolding tables-refusal
+  tables-5 h = or-else-told (boards-refusal s) rest n p fifth h
+
+  module _ (boards : n ≡ 0) where
+    pub boards-settled : Tabled s
+    boards-settled = tabled s (accepts (boards-refusal s) rest n p fifth boards)
+
+    module _ (m q : ℕ) (sixth : answers (ops-refusal s) m q) where
+      pub tables-6 : (m ≡ 0 → ⊥) → answers (tables-refusal s) m q
+      unfolding tables-refusal
+      tables-6 h = or-else-next (boards-refusal s) rest n p fifth boards m q (or-else-told (ops-refusal s) (requests-refusal s) m q sixth h)
+
+      module _ (ops : m ≡ 0) where
+        pub ops-settled : Fielded s
+        ops-settled = fielded s (accepts (ops-refusal s) (requests-refusal s) m q sixth ops)
+
+        pub tables-7 : (k l : ℕ) → answers (requests-refusal s) k l → answers (tables-refusal s) k l
+        unfolding tables-refusal
+        tables-7 k l seventh =
+            or-else-next (boards-refusal s) rest n p fifth boards k l
+            (or-else-next (ops-refusal s) (requests-refusal s) m q sixth ops k l seventh)
 
 -- SHEETS: 1 to 4 in turn, then the tables
-module _ (bs : List ℕ) where
-  pub says-1 : length bs < 16 → Check-says bs 1 0
+pub says-1 : (bs : List ℕ) → length bs < header-size → Check-says bs 1 0
+unfolding Check-says sheet-refusal answers refusal
+says-1 bs h = let short = lt-ltb (length bs) header-size h in rw short (refl, refl)
+
+module _ (bs : List ℕ) (long : header-size ≤ length bs) {a : Bool} (second : a ≡ sizes-good bs) where
+  enough : ltb (length bs) header-size ≡ false
+  enough = le-ltb (length bs) header-size long
+
+  pub says-2 : not a ≡ true → Check-says bs 2 0
   unfolding Check-says sheet-refusal answers refusal
-  says-1 h = let a = lt-ltb (length bs) 16 h in rw a (refl, refl)
+  says-2 h = let sizes = rule-broken second h in rw (enough, sizes) (refl, refl)
 
-  module _ (long : 16 ≤ length bs) where
-    pub says-2 : sizes-good bs ≡ false → Check-says bs 2 0
+  module _ (good : not a ≡ false) {b : Bool} (third : b ≡ layout-good bs) where
+    pub says-3 : not b ≡ true → Check-says bs 3 0
     unfolding Check-says sheet-refusal answers refusal
-    says-2 h = let a = le-ltb (length bs) 16 long in rw (a, h) (refl, refl)
+    says-3 h = let sizes = rule-kept second good in let layout = rule-broken third h in rw (enough, sizes, layout) (refl, refl)
 
-    pub says-3 : sizes-good bs ≡ true → layout-good bs ≡ false → Check-says bs 3 0
-    unfolding Check-says sheet-refusal answers refusal
-    says-3 g h = let a = le-ltb (length bs) 16 long in rw (a, g, h) (refl, refl)
+    module _ (fine : not b ≡ false) where
+      pub layout-settled : Laid bs
+      layout-settled = laid bs (rule-kept second good) (rule-kept third fine)
 
-    pub says-4 : sizes-good bs ≡ true → layout-good bs ≡ true → crc-good bs ≡ false → Check-says bs 4 0
-    unfolding Check-says sheet-refusal answers refusal
-    says-4 g k h = let a = le-ltb (length bs) 16 long in rw (a, g, k, h) (refl, refl)
+      module _ {c : Bool} (fourth : c ≡ crc-good bs) where
+        pub says-4 : not c ≡ true → Check-says bs 4 0
+        unfolding Check-says sheet-refusal answers refusal
+        says-4 h =
+            let sizes = rule-kept second good in
+            let layout = rule-kept third fine in
+            let crc = rule-broken fourth h in
+            rw (enough, sizes, layout, crc) (refl, refl)
 
-    pub says-tables : sizes-good bs ≡ true → layout-good bs ≡ true → crc-good bs ≡ true → (n p : ℕ) → answers (tables-refusal (sheet-in bs)) n p → Check-says bs n p
-    unfolding Check-says sheet-refusal
-    says-tables g k h n p t = let a = le-ltb (length bs) 16 long in rw (a, g, k, h) t
+        pub says-tables : not c ≡ false → (n p : ℕ) → answers (tables-refusal (sheet-in bs)) n p → Check-says bs n p
+        unfolding Check-says sheet-refusal
+        says-tables h n p told =
+            let sizes = rule-kept second good in
+            let layout = rule-kept third fine in
+            let crc = rule-kept fourth h in
+            rw (enough, sizes, layout, crc) told

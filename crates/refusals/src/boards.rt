@@ -19,7 +19,7 @@ pub fn refusal(s: &[u8]) -> Answer
     while r < p {
         total += boards::inbox(s, r);
         if !((boards::first(s, r) == sum)
-            & ((boards::attached(s, r) <= 16384) & (total <= 16384))) {
+            & ((boards::attached(s, r) <= limits::MOST_ATTACHED) & (total <= limits::MOST_INBOX))) {
             return Answer {
                 number: 5,
                 place: r as u64,

@@ -7,7 +7,8 @@ ghost use Rattle.rules.specs.Service.{answers, Check-says};
 ghost use Rattle.laws.specs.Laid.{Laid};
 use crate::boards;
 use crate::header;
-use crate::ops;
+use crate::scripts;
+use crate::scripts::Rule;
 use sheet::Answer;
 
 // Refusals 5 to 7 of a sheet whose tables are in place.
@@ -19,18 +20,18 @@ fn tables(s: &[u8]) -> Answer
     if fifth.number != 0 {
         return fifth;
     }
-    let sixth = ops::refusal(s);
+    let sixth = scripts::refusal(s, Rule::Fields);
     if sixth.number != 0 {
         return sixth;
     }
-    requests::refusal(s)
+    scripts::refusal(s, Rule::Requests)
 }
 
 // Any bytes at all are answered.
 pub fn check(s: &[u8]) -> Answer
     ensures { λ a. ⌜ Check-says (now (s .entry)) (a .number) (a .place) ⌝ }
 {
-    if s.len() < 16 {
+    if s.len() < limits::HEADER_SIZE {
         return Answer {
             number: 1,
             place: 0,

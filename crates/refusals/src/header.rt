@@ -14,7 +14,8 @@ pub fn sizes_are_good(s: &[u8]) -> bool
     let c = header::comms(s);
     let n = header::ops(s);
     let l = header::payload(s);
-    (((1 <= p) & (p <= 16)) & ((1 <= c) & (c <= 8))) & ((n <= 1024) & (l <= 16384))
+    (((1 <= p) & (p <= limits::MOST_BOARDS)) & ((1 <= c) & (c <= limits::MOST_COMMS)))
+        & ((n <= limits::MOST_OPS) & (l <= limits::MOST_PAYLOAD))
 }
 
 // Refusal 3: the offsets and the sheet's length are those of the sizes.
@@ -22,12 +23,13 @@ pub fn layout_is_good(s: &[u8]) -> bool
     requires { ⌜ 15 < length (now s) ⌝ }
     ensures { λ r. ⌜ r ≡ layout-good (now (s .entry)) ⌝ }
 {
-    let ops_at = 16 + 8 * header::boards(s);
-    let payload_at = ops_at + 16 * header::ops(s);
-    let end = payload_at + header::payload(s);
-    (((words::two_at(s, 6) == 16) & (words::two_at(s, 8) == ops_at))
-        & (words::two_at(s, 10) == payload_at))
-        & (s.len() == end)
+    let p = header::boards(s);
+    let n = header::ops(s);
+    let l = header::payload(s);
+    (((header::boards_offset(s) == limits::HEADER_SIZE)
+        & (header::ops_offset(s) == limits::ops_at(p)))
+        & (header::payload_offset(s) == limits::payload_at(p, n)))
+        & (s.len() == limits::sheet_size(p, n, l))
 }
 
 // Refusal 4: the CRC is the header's.
@@ -35,5 +37,5 @@ pub fn crc_is_good(s: &[u8]) -> bool
     requires { ⌜ 15 < length (now s) ⌝ }
     ensures { λ r. ⌜ r ≡ crc-good (now (s .entry)) ⌝ }
 {
-    crc::crc_of(s) == words::two_at(s, 14)
+    crc::crc_of(s) == header::crc(s)
 }

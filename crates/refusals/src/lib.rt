@@ -3,3 +3,4 @@ mod boards;
 pub mod check;
 mod header;
 mod ops;
+mod scripts;

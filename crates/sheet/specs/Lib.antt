@@ -1,4 +1,3 @@
 -- Laws of the field readers.
---   Ops   an operation of a script, as the bytes have it
-pub mod Ops
+--   Fields   where the fields of an operation and of a board stand, as equations of numbers
 pub mod Fields

@@ -11,10 +11,6 @@ use Rattle.rules.specs.Crc.{crc-from}
 use Rattle.laws.specs.CrcStep.{crc-turn}
 use Rattle.crc.proofs.crc_over.Statement.{statement}
 use Rattle.crc.proofs.crc_over.Tie as tie
-use Rattle.crc.proofs.crc_over.Reads as reads
-use Rattle.crc.proofs.crc_over.Lts as lts
-use Rattle.crc.proofs.entry.Reads as entry-reads
-use Rattle.words.proofs.wide.Reads as wide-reads
 
 abbrev Inv-loop : tie.InvT-loop
 Inv-loop table c s crc₀ i₀ crc i = (i ≤ length s) × (crc < 65536) × (crc-from c s ≡ crc-from crc (drop i s))
@@ -25,23 +21,8 @@ abbrev μ-loop : tie.MeasureT-loop
 loop-holds : tie.Need-loop-holds Inv-loop μ-loop
 loop-holds c = (search needs, c .before .pre .0, refl)
 
-shared-slice-read-wide : tie.Need-shared-slice-read-wide Inv-loop μ-loop
-shared-slice-read-wide c = search needs
-
-wide-requires : tie.Need-wide-requires Inv-loop μ-loop
-wide-requires c κs = search needs
-
-mul-crc : tie.Need-mul-crc Inv-loop μ-loop
-mul-crc c = search needs
-
 entry-requires : tie.Need-entry-requires Inv-loop μ-loop
 entry-requires c κs = xor-lt 8 (c .before .before .before .loop .crc / 256) (c .wide .result) (omega arith) (omega arith)
-
-add-i : tie.Need-add-i Inv-loop μ-loop
-add-i c = search needs
-
-loop-less : tie.Need-loop-less Inv-loop μ-loop
-loop-less c = search needs
 
 loop-again : tie.Need-loop-again Inv-loop μ-loop
 loop-again c =
@@ -73,11 +54,11 @@ crc-over-spec =
     Inv-loop
     μ-loop
     loop-holds
-    shared-slice-read-wide
-    wide-requires
-    mul-crc
+    (λ c. search needs)
+    (λ c κs. search needs)
+    (λ c. search needs)
     entry-requires
-    add-i
-    loop-less
+    (λ c. search needs)
+    (λ c. search needs)
     loop-again
     returns)

@@ -6,8 +6,6 @@ use Rattle.laws.specs.Table.{every}
 use Rattle.crc.specs.Remainders.{remainders-tested, eight-shifts}
 use Rattle.crc.proofs.remainders.Statement.{statement}
 use Rattle.crc.proofs.remainders.Tie as tie
-use Rattle.crc.proofs.remainders.Reads as reads
-use Rattle.crc.proofs.remainders.Lts as lts
 
 returns : tie.Need-returns
 unfolding every eight-shifts shifts shift xor

@@ -4,42 +4,22 @@ use mathlib.Core.Path.{_≡_, refl, sym, _∙_, ap}
 use mathlib.Core.Bool.{Bool, _||_}
 use Prim.Native.Nat.{ℕ, _-_, _≤_}
 use native.Mathlib.Omega.{arith}
-use borrow.Author.Needs.{needs}
+use Rattle.rules.specs.Limits.{slot-limit}
 use Rattle.rules.specs.Refusal.{some-below}
 use Rattle.laws.specs.Below.{below-more}
 use Rattle.requests.specs.Slots.{hit}
 use Rattle.requests.proofs.any_hit.Statement.{statement}
 use Rattle.requests.proofs.any_hit.Tie as tie
-use Rattle.requests.proofs.any_hit.Reads as reads
-use Rattle.requests.proofs.any_hit.Lts as lts
 
 abbrev Inv-loop : tie.InvT-loop
-Inv-loop starts ends from to found₀ k₀ found k = (k ≤ 32) × (found ≡ some-below k (hit starts ends from to))
+Inv-loop starts ends from to found₀ k₀ found k = (k ≤ slot-limit) × (found ≡ some-below k (hit starts ends from to))
 
 abbrev μ-loop : tie.MeasureT-loop
-μ-loop starts ends from to found₀ k₀ found k = 32 - k
+μ-loop starts ends from to found₀ k₀ found k = slot-limit - k
 
 loop-holds : tie.Need-loop-holds Inv-loop μ-loop
 unfolding some-below
 loop-holds c = (omega arith, refl)
-
-mul-found : tie.Need-mul-found Inv-loop μ-loop
-mul-found c = omega arith
-
-element-copy-out-found : tie.Need-element-copy-out-found Inv-loop μ-loop
-element-copy-out-found c = omega arith
-
-mul-found-2 : tie.Need-mul-found-2 Inv-loop μ-loop
-mul-found-2 c = omega arith
-
-element-copy-out-found-2 : tie.Need-element-copy-out-found-2 Inv-loop μ-loop
-element-copy-out-found-2 c = omega arith
-
-add-k : tie.Need-add-k Inv-loop μ-loop
-add-k c = omega arith
-
-loop-less : tie.Need-loop-less Inv-loop μ-loop
-loop-less c = omega arith
 
 loop-again : tie.Need-loop-again Inv-loop μ-loop
 unfolding hit
@@ -64,11 +44,11 @@ any-hit-spec =
     Inv-loop
     μ-loop
     loop-holds
-    mul-found
-    element-copy-out-found
-    mul-found-2
-    element-copy-out-found-2
-    add-k
-    loop-less
+    (λ c. omega arith)
+    (λ c. omega arith)
+    (λ c. omega arith)
+    (λ c. omega arith)
+    (λ c. omega arith)
+    (λ c. omega arith)
     loop-again
     returns)
