@@ -20,7 +20,7 @@ use native.Mathlib.Omega.{arith}
 use lib.Dec.{eqb}
 use lib.ListN.{length, getD, length-append}
 use borrow.Author.Tests.{leb-false, lt-leb}
-use Rattle.rules.specs.Sheet.{Sheet, op, board, P-of, N-of, rank-of, is-send, is-receive, is-wait}
+use Rattle.rules.specs.Sheet.{Sheet, op, board, P-of, N-of, rank-of, is-send, is-receive, only-half}
 use Rattle.rules.specs.Job.{Job, place-at}
 use Rattle.rules.specs.Step.{able, next-op, is-finished, in-waiting-half, fits-with, without}
 use Rattle.laws.specs.Tests.{or-false-left, or-false-right}
@@ -110,11 +110,11 @@ module _ {s : Sheet} (g : Valid s) {lent : List ℕ} {x : Job} (R : Reached s le
   unfolding in-waiting-half
   next-new r a w =
       next-fresh s x r (R .placed) (able-next s g x r a)
-      (or-false-left (place-at x r .waiting) (is-wait (op s (next-op s x r))) w)
+      (or-false-left (place-at x r .waiting) (only-half (op s (next-op s x r))) w)
 
-  pub next-kind : (r : ℕ) → able s x r ≡ true → in-waiting-half s x r ≡ false → is-wait (op s (next-op s x r)) ≡ false
+  pub next-kind : (r : ℕ) → able s x r ≡ true → in-waiting-half s x r ≡ false → only-half (op s (next-op s x r)) ≡ false
   unfolding in-waiting-half
-  next-kind r a w = or-false-right (place-at x r .waiting) (is-wait (op s (next-op s x r))) w
+  next-kind r a w = or-false-right (place-at x r .waiting) (only-half (op s (next-op s x r))) w
 
   pub next-send : (r : ℕ) → able s x r ≡ true → in-waiting-half s x r ≡ false → is-receive (op s (next-op s x r)) ≡ false →
       is-send (op s (next-op s x r)) ≡ true

@@ -19,7 +19,7 @@ use Prim.Native.Nat.{ℕ, zero, suc, _+_, _≤_, _<_}
 use lib.Dec.{eqb, ltb}
 use lib.ListN.{length}
 use Rattle.rules.specs.Limits.{absent}
-use Rattle.rules.specs.Sheet.{Sheet, Op, op, board, P-of, N-of, rank-of, is-send, is-receive, is-wait, is-buffered, is-nonblocking}
+use Rattle.rules.specs.Sheet.{Sheet, Op, op, board, P-of, N-of, rank-of, is-send, is-receive, only-half, is-buffered, no-half}
 use Rattle.rules.specs.Job.{Job, Entry, Stop, entry, bare-entry, entry-at, place-at}
 use Rattle.rules.specs.Step.{next-op, half-complete, fits-with, is-cut, charge-of, delivered, is-none}
 use Rattle.laws.specs.Sums.{sum-below}
@@ -89,13 +89,13 @@ pub record Placed (s : Sheet) (x : Job) : Type 0 where
   pub finished-most : (r : ℕ) → r < P-of s → place-at x r .finished ≤ board s r .count
   -- only a blocking operation has a waiting half after its initiating step (step-behind)
   pub waiting-unfinished : (r : ℕ) → r < P-of s → place-at x r .waiting ≡ true → place-at x r .finished < board s r .count
-  pub waiting-blocking : (r : ℕ) → r < P-of s → place-at x r .waiting ≡ true → is-nonblocking (op s (next-op s x r)) ≡ false
-  pub waiting-no-wait : (r : ℕ) → r < P-of s → place-at x r .waiting ≡ true → is-wait (op s (next-op s x r)) ≡ false
+  pub waiting-not-no-half : (r : ℕ) → r < P-of s → place-at x r .waiting ≡ true → no-half (op s (next-op s x r)) ≡ false
+  pub waiting-not-only-half : (r : ℕ) → r < P-of s → place-at x r .waiting ≡ true → only-half (op s (next-op s x r)) ≡ false
   -- an operation is entered exactly when it lies before its board's reach (determinacy)
   pub entered-if : (j : ℕ) → j < N-of s → j < reach s x (rank-of s j) → Entered x j
   pub entered-only : (j : ℕ) → Entered x j → (j < N-of s) × (j < reach s x (rank-of s j))
   -- a finished operation that is a wait or blocking had what it waited for complete (disjoint areas)
-  pub passed-complete : (j : ℕ) → j < N-of s → j < next-op s x (rank-of s j) → is-nonblocking (op s j) ≡ false →
+  pub passed-complete : (j : ℕ) → j < N-of s → j < next-op s x (rank-of s j) → no-half (op s j) ≡ false →
       half-complete s x j ≡ true
 
 -- SHAPED: a row by its state and partner
@@ -108,14 +108,14 @@ row-of s j v p =
 
 -- the state of an entered operation that is not matched
 unfoldable pub unmatched-state : Op → ℕ
-unmatched-state o = cond (is-wait o) 5 (cond (is-buffered o) 2 1)
+unmatched-state o = cond (only-half o) 5 (cond (is-buffered o) 2 1)
 
 pub record Shaped (s : Sheet) (x : Job) : Type 0 where
   -- (the report's rows; whole or cut)
   pub row : (j : ℕ) → entry-at x j ≡ row-of s j (state-at x j) (partner-at x j)
   -- (determinacy, still-able)
   pub unmatched : (j : ℕ) → Entered x j → state-at x j ≢ 3 → state-at x j ≡ unmatched-state (op s j)
-  pub wait-unmatched : (j : ℕ) → is-wait (op s j) ≡ true → state-at x j ≢ 3
+  pub only-half-unmatched : (j : ℕ) → only-half (op s j) ≡ true → state-at x j ≢ 3
 
 -- CHARGED: what operation j has in the attached buffer of board r
 unfoldable pub charge-in : Sheet → Job → (r j : ℕ) → ℕ
@@ -131,7 +131,7 @@ replayed s x (suc j) bs = replay s x j (replayed s x j bs)
 
 -- STEPS that operation j has taken: a blocking send or receive has two, a wait and a nonblocking operation one
 unfoldable pub steps-of : Op → ℕ
-steps-of o = cond (is-nonblocking o || is-wait o) 1 2
+steps-of o = cond (no-half o || only-half o) 1 2
 
 unfoldable pub steps-done : Sheet → Job → (j : ℕ) → ℕ
 steps-done s x j =

@@ -7,7 +7,7 @@ use mathlib.Core.List.{List}
 use mathlib.Core.Option.{some}
 use Prim.Native.Nat.{ℕ, _≤_, _<_}
 use lib.ListN.{length}
-use Rattle.rules.specs.Sheet.{Sheet, op, N-of, rank-of, inbox-total, is-send, is-receive, is-wait, is-nonblocking}
+use Rattle.rules.specs.Sheet.{Sheet, op, N-of, rank-of, inbox-total, is-send, is-receive, takes-slot, frees-slot}
 use Rattle.rules.specs.Refusal.{share}
 use Rattle.rules.specs.Step.{waited, delivered}
 
@@ -23,11 +23,12 @@ abbrev pub Apart : Sheet → (r q : ℕ) → Type 0
 Apart s r q = (rank-of s r ≢ rank-of s q) ⊎ (share (op s r) (op s q) ≡ false)
 
 pub record Ground (s : Sheet) : Type 0 where
-  -- a nonblocking receive r whose request no wait up to q waits for still holds its slot at q, so q's area is another
+  -- a receive r that takes a slot, and for which nothing up to q that frees a slot waits, still holds it at q, so q's area is
+  -- another
   pub held-apart : (r q : ℕ) → r < q → q < N-of s → rank-of s r ≡ rank-of s q → is-receive (op s r) ≡ true →
       is-receive (op s q) ≡ true →
-      is-nonblocking (op s r) ≡ true →
-      ((w : ℕ) → r < w → w < q → rank-of s w ≡ rank-of s r → is-wait (op s w) ≡ true → waited s w ≡ some r → ⊥) →
+      takes-slot (op s r) ≡ true →
+      ((w : ℕ) → r < w → w < q → rank-of s w ≡ rank-of s r → frees-slot (op s w) ≡ true → waited s w ≡ some r → ⊥) →
       share (op s r) (op s q) ≡ false
   -- deliveries to areas that share no byte may be exchanged
   pub delivered-swap : (m r k q : ℕ) (bs : List ℕ) → Pair s m r → Pair s k q → Apart s r q → inbox-total s ≤ length bs →

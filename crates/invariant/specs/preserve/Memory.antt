@@ -17,13 +17,13 @@ use native.Mathlib.Decide.{ℕ-discrete}
 use lib.Dec.{eqb}
 use lib.ListN.{length}
 use borrow.Author.Tests.{eq-eqb, eqb-true, leb-true}
-use Rattle.rules.specs.Sheet.{Sheet, op, N-of, rank-of, inbox-total, is-receive, is-wait, is-nonblocking}
+use Rattle.rules.specs.Sheet.{Sheet, op, N-of, rank-of, inbox-total, is-receive, no-half, frees-slot}
 use Rattle.rules.specs.Job.{Job, Entry, entry-at, place-at}
 use Rattle.rules.specs.Step.{next-op, delivered, half-complete, complete, complete-if, waited}
 use Rattle.laws.specs.Tests.{true-not-false}
 use Rattle.invariant.specs.sheet.Valid.{Valid}
 use Rattle.invariant.specs.deliveries.Assumed.{Ground, Pair, Apart}
-use Rattle.invariant.specs.sheet.Kinds.{receive-no-wait, send-no-receive, is-true, wait-blocking}
+use Rattle.invariant.specs.sheet.Kinds.{is-true, send-not-receive, receive-not-frees, receive-no-half-takes, frees-not-no-half}
 use Rattle.invariant.specs.Invariant.{Entered, state-at, partner-at, replay, replayed, reach, Placed, Shaped, Stable}
 use Rattle.invariant.specs.matching.RowChanges.{Enters, Matches, state-name, enters-state, matches-met, matches-receive-state}
 use Rattle.invariant.specs.preserve.Places.{prefix}
@@ -141,9 +141,9 @@ module _ {s : Sheet} (g : Valid s) (A : Ground s) {came : ℕ → ℕ} {x : Job}
     unmatched-half e =
         unmatched-incomplete
         (leb-true 2 (state-at x r) (sym (ap (λ (b : Bool). cond b (complete-if x (waited s r)) (complete x r))
-        (receive-no-wait (op s r) receives)) ∙ e))
+        (receive-not-frees (op s r) receives)) ∙ e))
 
-    unmatched-waited : (w : ℕ) → is-wait (op s w) ≡ true → waited s w ≡ some r → half-complete s x w ≡ true → ⊥
+    unmatched-waited : (w : ℕ) → frees-slot (op s w) ≡ true → waited s w ≡ some r → half-complete s x w ≡ true → ⊥
     unfolding half-complete complete complete-if
     unmatched-waited w e o c =
         unmatched-incomplete
@@ -166,17 +166,18 @@ module _ {s : Sheet} (g : Valid s) (A : Ground s) {came : ℕ → ℕ} {x : Job}
           λ j c k. omega (arith, only .1, reach-most (rank-of s q), ap (λ (z : ℕ). next-op s x z) (c ∙ e)) in
           inr
           (A .held-apart r q l (only .0) e receives-r receives-q
-          (is-true (is-nonblocking (op s r)) (λ b. unmatched-half r receives-r free there
-          (p .passed-complete r inside (passed r refl l) b)))
+          (receive-no-half-takes (op s r) receives-r
+          (is-true (no-half (op s r)) (λ b. unmatched-half r receives-r free there
+          (p .passed-complete r inside (passed r refl l) b))))
           (λ w a b c f o. waits w a b c f o there (passed w c b) (only .0)))
         where
-          waits : (w : ℕ) → r < w → w < q → rank-of s w ≡ rank-of s r → is-wait (op s w) ≡ true → waited s w ≡ some r →
+          waits : (w : ℕ) → r < w → w < q → rank-of s w ≡ rank-of s r → frees-slot (op s w) ≡ true → waited s w ≡ some r →
               Entered x r →
               w < next-op s x (rank-of s w) → q < N-of s → ⊥
           waits w a b c f o there passed k =
               let inside-w : w < N-of s = omega arith in
               unmatched-waited r receives-r free there w f o
-              (p .passed-complete w inside-w passed (wait-blocking s g w inside-w f))
+              (p .passed-complete w inside-w passed (frees-not-no-half s g w inside-w f))
 
   -- A MATCH replays one delivery more
   module _ {y : Job} {m r i : ℕ} (M : Matches s x y m r i) (inside-m : m < N-of s) (inside-r : r < N-of s) where
@@ -185,7 +186,7 @@ module _ {s : Sheet} (g : Valid s) (A : Ground s) {came : ℕ → ℕ} {x : Job}
     matches-replay j bs d = go (ℕ-discrete j m)
       where
         no-receive : j ≡ m → is-receive (op s j) ≡ true → ⊥
-        no-receive e a = true-not-false (ap (λ (z : ℕ). is-receive (op s z)) (sym e) ∙ a) (send-no-receive (op s m) (M .sends))
+        no-receive e a = true-not-false (ap (λ (z : ℕ). is-receive (op s z)) (sym e) ∙ a) (send-not-receive (op s m) (M .sends))
 
         go : Dec (j ≡ m) → replay s y j bs ≡ replay s x j bs
         go (yes e) = replay-none s y j bs (λ a b. no-receive e a) ∙ sym (replay-none s x j bs (λ a b. no-receive e a))

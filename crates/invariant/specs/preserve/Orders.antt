@@ -109,8 +109,8 @@ module _ {s : Sheet} (g : Valid s) (lent : List ℕ) where
               places-long = length-replicate (P-of s) (place 0 false 0 0);
               finished-most = λ r l. omega (arith, start-finished r);
               waiting-unfinished = λ r l w. true-not-false w (start-waiting r);
-              waiting-blocking = λ r l w. true-not-false w (start-waiting r);
-              waiting-no-wait = λ r l w. true-not-false w (start-waiting r);
+              waiting-not-no-half = λ r l w. true-not-false w (start-waiting r);
+              waiting-not-only-half = λ r l w. true-not-false w (start-waiting r);
               entered-if = λ j l h. absurd (omega (arith, start-reach (rank-of s j), g .rank-low j l));
               entered-only = λ j h. none-entered j h;
               passed-complete = λ j l h. absurd (omega (arith, start-next (rank-of s j), g .rank-low j l));
@@ -122,7 +122,7 @@ module _ {s : Sheet} (g : Valid s) (lent : List ℕ) where
                   start-entry j ∙ sym (row-bare s j 0 (partner-at x₀ j) (omega arith))
                   ∙ ap (λ (v : ℕ). row-of s j v (partner-at x₀ j)) (sym (start-state j));
               unmatched = λ j h. none-entered j h;
-              wait-unmatched = λ j w c. omega (arith, start-state j);
+              only-half-unmatched = λ j w c. omega (arith, start-state j);
             };
         messages-held =
             record {

@@ -13,13 +13,13 @@ use native.Mathlib.Decide.{ℕ-discrete}
 use lib.Dec.{eqb}
 use lib.ListN.{length}
 use borrow.Author.Tests.{eqb-true, leb-true}
-use Rattle.rules.specs.Sheet.{Sheet, op, board, P-of, N-of, rank-of, inbox-total, is-send, is-receive, is-wait, is-buffered, is-nonblocking}
+use Rattle.rules.specs.Sheet.{Sheet, op, board, P-of, N-of, rank-of, inbox-total, is-send, is-receive, only-half, is-buffered, no-half}
 use Rattle.rules.specs.Job.{Job, Stop, place-at}
 use Rattle.rules.specs.Step.{able, step, next-op, first-message, first-receive, fits-with, delivered, is-none, fits-buffer, charge-of}
 use Rattle.laws.specs.Tests.{not-so, true-not-false}
 use Rattle.invariant.specs.sheet.Valid.{Valid}
 use Rattle.invariant.specs.deliveries.Assumed.{Ground}
-use Rattle.invariant.specs.sheet.Kinds.{send-no-wait, receive-no-wait, receive-no-send, send-no-receive}
+use Rattle.invariant.specs.sheet.Kinds.{send-not-only-half, receive-not-only-half, receive-not-send, send-not-receive}
 use Rattle.laws.specs.Sums.{sum-below, sum-same}
 use Rattle.laws.specs.WaitingLists.{Holds, first-by-none, first-by-some}
 use Rattle.invariant.specs.Invariant.{Entered, state-at, unmatched-state, steps-done, charge-in, replayed, Pending-message, Pending-receive, Stable, Arrived, Placed, Shaped, Posted-before, Came-before, Reached, Extended}
@@ -35,7 +35,7 @@ use Rattle.invariant.specs.preserve.ArrivalOrder.{came-with, came-other,
 use Rattle.invariant.specs.preserve.Rows.{shaped-same, shaped-enters, shaped-matches}
 use Rattle.invariant.specs.preserve.WaitingLists.{queue-message, queue-message-other, queue-receive, queue-receive-other, queue-message-match, queue-receive-match}
 use Rattle.invariant.specs.preserve.Charges.{charge-same, charging-other, charging-enters, charging-matches}
-use Rattle.invariant.specs.matching.UnmatchedState.{unmatched-receive, unmatched-wait}
+use Rattle.invariant.specs.matching.UnmatchedState.{unmatched-receive, unmatched-only-half}
 use Rattle.invariant.specs.preserve.Memory.{replayed-length, replayed-rows, replayed-enters, replayed-matches}
 use Rattle.invariant.specs.preserve.SameRows.{Same-rows, rows-same, stable-same, arrived-same, messages-same, receives-same}
 use Rattle.invariant.specs.matching.Earliest.{first-for-receive, first-for-message}
@@ -177,7 +177,7 @@ module _ {s : Sheet} (g : Valid s) (A : Ground s) {lent : List ℕ} (room : inbo
 
     sound-wait : Ends-wait s x y r i → Extended R y i
     sound-wait h =
-        sound-enters T E (h .memory) (sym (unmatched-wait s i (h .waits))) (λ a. true-not-false a no-send)
+        sound-enters T E (h .memory) (sym (unmatched-only-half s i (h .waits))) (λ a. true-not-false a no-send)
         (λ a. true-not-false a no-receive)
         (messages-are (h .messages) (queue-message-other E (later T E (h .memory)) no-send (R .messages-held)))
         (receives-are (h .receives) (queue-receive-other E no-receive (R .receives-held)))
@@ -190,10 +190,10 @@ module _ {s : Sheet} (g : Valid s) (A : Ground s) {lent : List ℕ} (room : inbo
         T = turn-wait n (h .moved) (enters-grows E) (h .not-waiting) (h .waits)
 
         no-send : is-send (op s i) ≡ false
-        no-send = not-so (is-send (op s i)) (λ a. true-not-false (h .waits) (send-no-wait (op s i) a))
+        no-send = not-so (is-send (op s i)) (λ a. true-not-false (h .waits) (send-not-only-half (op s i) a))
 
         no-receive : is-receive (op s i) ≡ false
-        no-receive = not-so (is-receive (op s i)) (λ a. true-not-false (h .waits) (receive-no-wait (op s i) a))
+        no-receive = not-so (is-receive (op s i)) (λ a. true-not-false (h .waits) (receive-not-only-half (op s i) a))
 
     sound-posts : Posts s x y r i → Extended R y i
     unfolding first-message
@@ -208,11 +208,11 @@ module _ {s : Sheet} (g : Valid s) (A : Ground s) {lent : List ℕ} (room : inbo
         E : Enters x y i 1
         E = h .enters
 
-        T : Turn s x y r (is-nonblocking (op s i))
-        T = turn-initiating n (h .moved) (enters-grows E) (h .not-waiting) (receive-no-wait (op s i) (h .is-one))
+        T : Turn s x y r (no-half (op s i))
+        T = turn-initiating n (h .moved) (enters-grows E) (h .not-waiting) (receive-not-only-half (op s i) (h .is-one))
 
         no-send : is-send (op s i) ≡ false
-        no-send = receive-no-send (op s i) (h .is-one)
+        no-send = receive-not-send (op s i) (h .is-one)
 
     sound-pends : Pends s x y r i → Extended R y i
     unfolding first-receive use-charged fits-buffer
@@ -233,11 +233,11 @@ module _ {s : Sheet} (g : Valid s) (A : Ground s) {lent : List ℕ} (room : inbo
         E : Enters x y i (unmatched-state (op s i))
         E = h .enters
 
-        T : Turn s x y r (is-nonblocking (op s i))
-        T = turn-initiating n (h .moved) (enters-grows E) (h .not-waiting) (send-no-wait (op s i) (h .is-one))
+        T : Turn s x y r (no-half (op s i))
+        T = turn-initiating n (h .moved) (enters-grows E) (h .not-waiting) (send-not-only-half (op s i) (h .is-one))
 
         no-receive : is-receive (op s i) ≡ false
-        no-receive = send-no-receive (op s i) (h .is-one)
+        no-receive = send-not-receive (op s i) (h .is-one)
 
         -- the charge of this send had room
         attached : (q : ℕ) → q < P-of s → (a : Bool) → eqb q r ≡ a → (b : Bool) → is-buffered (op s i) ≡ b →
@@ -285,9 +285,9 @@ module _ {s : Sheet} (g : Valid s) (A : Ground s) {lent : List ℕ} (room : inbo
         released-less true n c e = omega (arith, e)
         released-less false n c e = omega (arith, e)
 
-        not-wait : (i ≡ m) ⊎ (i ≡ q) → is-wait (op s i) ≡ false
-        not-wait (inl e) = ap (λ (z : ℕ). is-wait (op s z)) e ∙ send-no-wait (op s m) (M .sends)
-        not-wait (inr e) = ap (λ (z : ℕ). is-wait (op s z)) e ∙ receive-no-wait (op s q) (M .receives)
+        not-wait : (i ≡ m) ⊎ (i ≡ q) → only-half (op s i) ≡ false
+        not-wait (inl e) = ap (λ (z : ℕ). only-half (op s z)) e ∙ send-not-only-half (op s m) (M .sends)
+        not-wait (inr e) = ap (λ (z : ℕ). only-half (op s z)) e ∙ receive-not-only-half (op s q) (M .receives)
 
         inside : (j : ℕ) → (j ≢ i → Entered x j) → Dec (j ≡ i) → j < N-of s
         inside j there (yes e) = omega (arith, n .inside)

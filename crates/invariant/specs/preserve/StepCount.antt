@@ -13,7 +13,7 @@ use native.Mathlib.Omega.{arith}
 use native.Mathlib.Decide.{ℕ-discrete, decLt}
 use lib.Dec.{ltb}
 use borrow.Author.Tests.{lt-ltb, le-ltb}
-use Rattle.rules.specs.Sheet.{Sheet, Op, op, N-of, rank-of, is-wait, is-nonblocking}
+use Rattle.rules.specs.Sheet.{Sheet, Op, op, N-of, rank-of, only-half, no-half}
 use Rattle.rules.specs.Job.{Job, Stop, place-at}
 use Rattle.rules.specs.Step.{able, next-op, is-none}
 use Rattle.invariant.specs.sheet.Valid.{Valid}
@@ -50,7 +50,7 @@ steps-told s x j = refl
 -- AT MOST TWO
 steps-of-most : (o : Op) → steps-of o ≤ 2
 unfolding steps-of
-steps-of-most o = go (is-nonblocking o || is-wait o)
+steps-of-most o = go (no-half o || only-half o)
   where
     go : (b : Bool) → cond b 1 2 ≤ 2
     go true = omega arith

@@ -10,7 +10,7 @@ use mathlib.Core.Bool.{true, false}
 use mathlib.Core.List.{[], _∷_, _++_}
 use mathlib.Core.Option.{none, some}
 use Prim.Native.Nat.{ℕ, suc}
-use Rattle.rules.specs.Sheet.{Sheet, op, is-send, is-receive, is-wait, is-buffered, is-nonblocking}
+use Rattle.rules.specs.Sheet.{Sheet, op, is-send, is-receive, only-half, is-buffered, no-half}
 use Rattle.rules.specs.Job.{Job, place-at, with-steps}
 use Rattle.rules.specs.Step.{first-message, first-receive, without, delivered, stopped, fits-buffer}
 use Rattle.invariant.specs.Invariant.{unmatched-state}
@@ -33,7 +33,7 @@ pub record Ends-half (s : Sheet) (x y : Job) (r i : ℕ) : Type 0 where
 -- a wait ends: its row says so
 pub record Ends-wait (s : Sheet) (x y : Job) (r i : ℕ) : Type 0 where
   pub not-waiting : place-at x r .waiting ≡ false
-  pub waits : is-wait (op s i) ≡ true
+  pub waits : only-half (op s i) ≡ true
   pub moved : Moved x y r true
   pub uses : Use x y use-kept
   pub enters : Enters x y i 5
@@ -46,7 +46,7 @@ pub record Posts (s : Sheet) (x y : Job) (r i : ℕ) : Type 0 where
   pub not-waiting : place-at x r .waiting ≡ false
   pub is-one : is-receive (op s i) ≡ true
   pub none-fits : first-message s i (x .messages) ≡ none
-  pub moved : Moved x y r (is-nonblocking (op s i))
+  pub moved : Moved x y r (no-half (op s i))
   pub uses : Use x y use-kept
   pub enters : Enters x y i 1
   pub messages : y .messages ≡ x .messages
@@ -59,7 +59,7 @@ pub record Pends (s : Sheet) (x y : Job) (r i : ℕ) : Type 0 where
   pub is-one : is-send (op s i) ≡ true
   pub none-fits : first-receive s i (x .receives) ≡ none
   pub room : is-buffered (op s i) ≡ true → fits-buffer s r i x ≡ true
-  pub moved : Moved x y r (is-nonblocking (op s i))
+  pub moved : Moved x y r (no-half (op s i))
   pub uses : Use x y (use-charged s r i)
   pub enters : Enters x y i (unmatched-state (op s i))
   pub messages : y .messages ≡ x .messages ++ (i ∷ [])
@@ -75,7 +75,7 @@ Finds s x i m q =
 pub record Meets (s : Sheet) (x y : Job) (r i : ℕ) (m q : ℕ) : Type 0 where
   pub not-waiting : place-at x r .waiting ≡ false
   pub finds : Finds s x i m q
-  pub moved : Moved x y r (is-nonblocking (op s i))
+  pub moved : Moved x y r (no-half (op s i))
   pub uses : Use x y (use-released s x m)
   pub rows : Matches s x y m q i
   pub messages : y .messages ≡ without m (x .messages)

@@ -9,7 +9,7 @@ use native.Mathlib.Omega.{arith}
 use lib.ListN.{length, set, length-set}
 use lib.Seq.{getD-set-same, getD-set-other}
 use Rattle.rules.specs.Limits.{absent}
-use Rattle.rules.specs.Sheet.{Sheet, op, N-of, rank-of, is-send, is-receive, is-wait, is-ready, is-buffered, is-nonblocking}
+use Rattle.rules.specs.Sheet.{Sheet, op, N-of, rank-of, is-send, is-receive, only-half, is-ready, is-buffered, no-half}
 use Rattle.rules.specs.Job.{Job, Entry, job, entry, bare-entry, entry-at, place-at, with-entries, with-places, with-messages, with-receives, with-steps}
 use Rattle.rules.specs.Step.{step, next-op, in-waiting-half, one-finished, first-message, first-receive, fits-with, is-cut, without, delivered, with-place, charge, matched, with-state, pend-message, pend-receive, stopped, initiated, fits-buffer, unmatched, sent, received, initiating, ended}
 use Rattle.laws.specs.Tests.{true-not-false}
@@ -41,7 +41,7 @@ module _ (s : Sheet) (g : Valid s) (lent : List ℕ) (x : Job) (R : Reached s le
   -- a waiting half ends
   outcome-half : place-at x r .waiting ≡ true → Outcome s x (counted (ended s r here x)) r here
   unfolding ended with-place with-places with-steps job place-at
-  outcome-half w = go (is-wait (op s here)) (R .placed .waiting-no-wait r (n .rank-small) w)
+  outcome-half w = go (only-half (op s here)) (R .placed .waiting-not-only-half r (n .rank-small) w)
     where
       y : Job
       y = counted (with-place r (one-finished (place-at x r)) x)
@@ -65,9 +65,9 @@ module _ (s : Sheet) (g : Valid s) (lent : List ℕ) (x : Job) (R : Reached s le
           })
 
   -- a wait ends
-  outcome-wait : place-at x r .waiting ≡ false → is-wait (op s here) ≡ true → Outcome s x (counted (ended s r here x)) r here
+  outcome-wait : place-at x r .waiting ≡ false → only-half (op s here) ≡ true → Outcome s x (counted (ended s r here x)) r here
   unfolding ended with-place with-places with-steps with-state with-entries job place-at
-  outcome-wait w e = go (is-wait (op s here)) e
+  outcome-wait w e = go (only-half (op s here)) e
     where
       y : Job
       y = counted (with-place r (one-finished (place-at x r)) (with-state here 5 x))
@@ -114,15 +114,15 @@ module _ (s : Sheet) (g : Valid s) (lent : List ℕ) (x : Job) (R : Reached s le
       y : Job
       y = counted (initiated s r here (pend-receive here x))
 
-      m : Moved x y r (is-nonblocking (op s here)) × Use x y use-kept
+      m : Moved x y r (no-half (op s here)) × Use x y use-kept
       m =
-          stepped-moved y (used-kept s x (R .in-use-peak)) r (is-nonblocking (op s here)) places-inside refl
+          stepped-moved y (used-kept s x (R .in-use-peak)) r (no-half (op s here)) places-inside refl
           (length-set (x .entries) here (bare-entry 1)) refl refl
 
   -- a send is pending, in its state, after its charge if it is buffered
   outcome-pends : (y : Job) → place-at x r .waiting ≡ false → is-send (op s here) ≡ true →
       first-receive s here (x .receives) ≡ none → (is-buffered (op s here) ≡ true → fits-buffer s r here x ≡ true) →
-      Moved x y r (is-nonblocking (op s here)) × Use x y (use-charged s r here) →
+      Moved x y r (no-half (op s here)) × Use x y (use-charged s r here) →
       Enters x y here (cond (is-buffered (op s here)) 2 1) →
       y .messages ≡ x .messages ++ (here ∷ []) → y .receives ≡ x .receives → y .memory ≡ x .memory → Outcome s x y r here
   outcome-pends y w e none-fits room m enters messages receives memory =
@@ -145,7 +145,7 @@ module _ (s : Sheet) (g : Valid s) (lent : List ℕ) (x : Job) (R : Reached s le
   unfolding initiated pend-message with-messages with-place with-places with-steps with-state with-entries job place-at
   outcome-standard w e b none-fits =
       outcome-pends y w e none-fits (λ c. true-not-false c b)
-      (stepped-moved y (used-uncharged s x (R .in-use-peak) r here b) r (is-nonblocking (op s here)) places-inside refl
+      (stepped-moved y (used-uncharged s x (R .in-use-peak) r here b) r (no-half (op s here)) places-inside refl
       (length-set (x .entries) here (bare-entry 1)) refl refl)
       (subst (λ (c : Bool). Enters x y here (cond c 2 1)) (sym b)
       (set-enters x y here 1 (next-fresh s x r (R .placed) n w) entries-inside (omega arith) (omega arith) refl))
@@ -160,7 +160,7 @@ module _ (s : Sheet) (g : Valid s) (lent : List ℕ) (x : Job) (R : Reached s le
   unfolding initiated charge pend-message with-messages with-place with-places with-steps with-state with-entries job place-at
   outcome-buffered w e b none-fits room =
       outcome-pends y w e none-fits (λ c. room)
-      (stepped-moved y (used-charged s x (R .in-use-peak) r here places-inside b) r (is-nonblocking (op s here)) places-inside
+      (stepped-moved y (used-charged s x (R .in-use-peak) r here places-inside b) r (no-half (op s here)) places-inside
       refl (length-set (x .entries) here (bare-entry 2)) refl refl)
       (subst (λ (c : Bool). Enters x y here (cond c 2 1)) (sym b)
       (set-enters x y here 2 (next-fresh s x r (R .placed) n w) entries-inside (omega arith) (omega arith) refl))
@@ -190,7 +190,7 @@ module _ (s : Sheet) (g : Valid s) (lent : List ℕ) (x : Job) (R : Reached s le
       }))
     where
       nb : Bool
-      nb = is-nonblocking (op s here)
+      nb = no-half (op s here)
 
       A : Entry
       A = entry 3 0 q absent absent 0
@@ -303,9 +303,9 @@ module _ (s : Sheet) (g : Valid s) (lent : List ℕ) (x : Job) (R : Reached s le
 
   pub outcome : Outcome s x (step s r x) r here
   unfolding step in-waiting-half initiating
-  outcome = go (place-at x r .waiting) refl (is-wait (op s here)) refl (is-receive (op s here)) refl
+  outcome = go (place-at x r .waiting) refl (only-half (op s here)) refl (is-receive (op s here)) refl
     where
-      go : (w : Bool) → place-at x r .waiting ≡ w → (a : Bool) → is-wait (op s here) ≡ a → (b : Bool) →
+      go : (w : Bool) → place-at x r .waiting ≡ w → (a : Bool) → only-half (op s here) ≡ a → (b : Bool) →
           is-receive (op s here) ≡ b →
           Outcome s x
           (counted

@@ -12,7 +12,7 @@ use Rattle.rules.specs.Job.{Job}
 use Rattle.rules.specs.Step.{fits-with}
 use Rattle.laws.specs.Tests.{not-so}
 use Rattle.promises.specs.Statements.{None-fit, No-overtaking, No-overtaking-receives, Status, Statuses}
-use Rattle.invariant.specs.sheet.Kinds.{send-no-receive}
+use Rattle.invariant.specs.sheet.Kinds.{send-not-receive}
 use Rattle.invariant.specs.Invariant.{Entered, state-at, partner-at, row-of, Met, Reached}
 use Rattle.invariant.specs.preserve.Places.{prefix}
 use Rattle.invariant.specs.preserve.Rows.{row-message, row-receive}
@@ -64,7 +64,7 @@ module _ {s : Sheet} {lent : List ℕ} {x : Job} (R : Reached s lent x) where
         message-row =
             R .shaped .row m ∙ ap (λ (v : ℕ). row-of s m v (partner-at x m)) (met .message-matched)
             ∙ ap (λ (z : ℕ). row-of s m 3 z) (met .to-receive)
-            ∙ row-message s m r (send-no-receive (op s m) (met .sends));
+            ∙ row-message s m r (send-not-receive (op s m) (met .sends));
         receive-row = R .shaped .row r ∙ ap (λ (v : ℕ). row-of s r v m) e ∙ row-receive s r m receives;
       }
 

@@ -10,11 +10,11 @@ use mathlib.Core.Option.{Option, none, some}
 use Prim.Native.Nat.{ℕ, suc, _+_, _*_, _<_}
 use lib.ListN.{getD}
 use native.Mathlib.Omega.{arith}
-use Rattle.rules.specs.Sheet.{Sheet, op, board, is-receive, is-wait, is-ready, is-buffered, is-nonblocking}
+use Rattle.rules.specs.Sheet.{Sheet, op, board, is-receive, only-half, is-ready, is-buffered, no-half}
 use Rattle.rules.specs.Job.{Job, Stop, Place, place, job, place-at, with-entries, with-places, with-messages, with-receives, with-stop, with-steps}
 use Rattle.rules.specs.Step.{able, step, next-op, in-waiting-half, is-none, first-message, first-receive, matched, with-place, with-state, charge, pend-message, pend-receive, stopped, initiated, fits-buffer, unmatched, sent, received, initiating, ended}
 use Rattle.invariant.specs.sheet.Valid.{Valid}
-use Rattle.invariant.specs.sheet.Kinds.{send-no-wait, receive-no-wait}
+use Rattle.invariant.specs.sheet.Kinds.{send-not-only-half, receive-not-only-half}
 use Rattle.invariant.specs.Invariant.{Reached}
 use Rattle.invariant.specs.step.Places.{Next, Moved, able-next, moved-finished, moved-waiting, moved-finished-other, moved-waiting-other}
 use Rattle.invariant.specs.step.BufferUse.{matched-is}
@@ -45,7 +45,7 @@ module _ (s : Sheet) (r i : ℕ) (x : Job) where
 
   ended-stop : ended s r i x .stop ≡ x .stop
   unfolding ended with-place with-places with-state with-entries job
-  ended-stop = go (is-wait (op s i))
+  ended-stop = go (only-half (op s i))
     where
       go : (b : Bool) → cond b (with-state i 5 x) x .stop ≡ x .stop
       go true = refl
@@ -102,16 +102,16 @@ step-stop s r x = go (in-waiting-half s x r) (is-receive (op s i))
 -- PLACES
 -- whether a step that goes on finishes its operation
 abbrev pub finishing : Sheet → Job → (r : ℕ) → Bool
-finishing s x r = in-waiting-half s x r || is-nonblocking (op s (next-op s x r))
+finishing s x r = in-waiting-half s x r || no-half (op s (next-op s x r))
 
 -- an initiating step is of a board that is in no waiting half
-initiates : (s : Sheet) (x : Job) (r : ℕ) → place-at x r .waiting ≡ false → is-wait (op s (next-op s x r)) ≡ false →
-    is-nonblocking (op s (next-op s x r)) ≡ finishing s x r
+initiates : (s : Sheet) (x : Job) (r : ℕ) → place-at x r .waiting ≡ false → only-half (op s (next-op s x r)) ≡ false →
+    no-half (op s (next-op s x r)) ≡ finishing s x r
 unfolding in-waiting-half
 initiates s x r w e =
     sym
-    (ap (λ (b : Bool). (b || is-wait (op s (next-op s x r))) || is-nonblocking (op s (next-op s x r))) w
-    ∙ ap (λ (b : Bool). b || is-nonblocking (op s (next-op s x r))) e)
+    (ap (λ (b : Bool). (b || only-half (op s (next-op s x r))) || no-half (op s (next-op s x r))) w
+    ∙ ap (λ (b : Bool). b || no-half (op s (next-op s x r))) e)
 
 pub data After (s : Sheet) (x y : Job) (r : ℕ) : Type 0 where
   goes-on : y .stop ≡ none → Moved x y r (finishing s x r) → After s x y r
@@ -125,25 +125,25 @@ module _ {s : Sheet} {x y : Job} {r : ℕ} (n : Next s x r) where
   unfolding in-waiting-half stopped with-stop with-steps job
   after (ends-half h) =
       turned true (h .moved)
-      (sym (ap (λ (b : Bool). (b || is-wait (op s (next-op s x r))) || is-nonblocking (op s (next-op s x r))) (h .waiting)))
+      (sym (ap (λ (b : Bool). (b || only-half (op s (next-op s x r))) || no-half (op s (next-op s x r))) (h .waiting)))
   after (ends-wait h) =
       turned true (h .moved)
       (sym
-      (ap (λ (b : Bool). (b || is-wait (op s (next-op s x r))) || is-nonblocking (op s (next-op s x r))) (h .not-waiting)
-      ∙ ap (λ (b : Bool). b || is-nonblocking (op s (next-op s x r))) (h .waits)))
+      (ap (λ (b : Bool). (b || only-half (op s (next-op s x r))) || no-half (op s (next-op s x r))) (h .not-waiting)
+      ∙ ap (λ (b : Bool). b || no-half (op s (next-op s x r))) (h .waits)))
   after (posts h) =
-      turned (is-nonblocking (op s (next-op s x r))) (h .moved)
-      (initiates s x r (h .not-waiting) (receive-no-wait (op s (next-op s x r)) (h .is-one)))
+      turned (no-half (op s (next-op s x r))) (h .moved)
+      (initiates s x r (h .not-waiting) (receive-not-only-half (op s (next-op s x r)) (h .is-one)))
   after (pends h) =
-      turned (is-nonblocking (op s (next-op s x r))) (h .moved)
-      (initiates s x r (h .not-waiting) (send-no-wait (op s (next-op s x r)) (h .is-one)))
+      turned (no-half (op s (next-op s x r))) (h .moved)
+      (initiates s x r (h .not-waiting) (send-not-only-half (op s (next-op s x r)) (h .is-one)))
   after (meets m q h) =
-      turned (is-nonblocking (op s (next-op s x r))) (h .moved)
+      turned (no-half (op s (next-op s x r))) (h .moved)
       (initiates s x r (h .not-waiting) (not-wait (h .rows .one)))
     where
-      not-wait : (next-op s x r ≡ m) ⊎ (next-op s x r ≡ q) → is-wait (op s (next-op s x r)) ≡ false
-      not-wait (inl e) = ap (λ (z : ℕ). is-wait (op s z)) e ∙ send-no-wait (op s m) (h .rows .sends)
-      not-wait (inr e) = ap (λ (z : ℕ). is-wait (op s z)) e ∙ receive-no-wait (op s q) (h .rows .receives)
+      not-wait : (next-op s x r ≡ m) ⊎ (next-op s x r ≡ q) → only-half (op s (next-op s x r)) ≡ false
+      not-wait (inl e) = ap (λ (z : ℕ). only-half (op s z)) e ∙ send-not-only-half (op s m) (h .rows .sends)
+      not-wait (inr e) = ap (λ (z : ℕ). only-half (op s z)) e ∙ receive-not-only-half (op s q) (h .rows .receives)
   after (stops v h) =
       halts
       (record {
@@ -199,13 +199,13 @@ module _ (s : Sheet) (x y : Job) (r : ℕ) (e : position x r ≡ position y r) w
   pub stand-half : in-waiting-half s x r ≡ in-waiting-half s y r
   unfolding in-waiting-half
   stand-half =
-      ap (λ (b : Bool). b || is-wait (op s (next-op s x r))) (position-waiting x y r e)
-      ∙ ap (λ (k : ℕ). place-at y r .waiting || is-wait (op s k)) position-next
+      ap (λ (b : Bool). b || only-half (op s (next-op s x r))) (position-waiting x y r e)
+      ∙ ap (λ (k : ℕ). place-at y r .waiting || only-half (op s k)) position-next
 
   stand-finishing : finishing s x r ≡ finishing s y r
   stand-finishing =
-      ap (λ (b : Bool). b || is-nonblocking (op s (next-op s x r))) stand-half
-      ∙ ap (λ (k : ℕ). in-waiting-half s y r || is-nonblocking (op s k)) position-next
+      ap (λ (b : Bool). b || no-half (op s (next-op s x r))) stand-half
+      ∙ ap (λ (k : ℕ). in-waiting-half s y r || no-half (op s k)) position-next
 
   -- a step that goes on takes it to the same place
   pub position-moved : {x-now y-now : Job} → Moved x x-now r (finishing s x r) → Moved y y-now r (finishing s y r) →
@@ -218,8 +218,8 @@ module _ (s : Sheet) (x y : Job) (r : ℕ) (e : position x r ≡ position y r) w
 pub position-further : (s : Sheet) {x y : Job} {r : ℕ} → Moved x y r (finishing s x r) → position x r < position y r
 unfolding position position-on in-waiting-half
 position-further s {x} {y} {r} m =
-    go (place-at x r .waiting) (is-wait (op s (next-op s x r)))
-    (is-nonblocking (op s (next-op s x r))) (moved-position m)
+    go (place-at x r .waiting) (only-half (op s (next-op s x r)))
+    (no-half (op s (next-op s x r))) (moved-position m)
   where
     f : ℕ
     f = place-at x r .finished

@@ -15,7 +15,7 @@ use Prim.Native.Nat.{ℕ, _+_, _*_, _≤_, _<_}
 use native.Mathlib.Omega.{arith}
 use native.Mathlib.Decide.{ℕ-discrete}
 use lib.Dec.{ltb, leb}
-use Rattle.rules.specs.Sheet.{Sheet, op, board, P-of, rank-of, is-receive, is-wait}
+use Rattle.rules.specs.Sheet.{Sheet, op, board, P-of, rank-of, is-receive, only-half}
 use Rattle.rules.specs.Job.{Job, bare-entry, entry-at, place-at}
 use Rattle.rules.specs.Step.{able, next-op, is-finished, in-waiting-half, half-complete, is-none}
 use Rattle.laws.specs.Tests.{and-both, and-left, and-right}
@@ -69,11 +69,11 @@ module _ {s : Sheet} (g : Valid s) {i j : List ℕ} {x y : Job} (X : Reached s i
 
   -- what is matched in x is matched alike in y
   pub behind-matched : (k : ℕ) → state-at x k ≡ 3 → (state-at y k ≡ 3) × (partner-at y k ≡ partner-at x k)
-  behind-matched k e = go (is-wait (op s k)) refl (is-receive (op s k)) refl
+  behind-matched k e = go (only-half (op s k)) refl (is-receive (op s k)) refl
     where
-      go : (a : Bool) → is-wait (op s k) ≡ a → (b : Bool) → is-receive (op s k) ≡ b → (state-at y k ≡ 3)
+      go : (a : Bool) → only-half (op s k) ≡ a → (b : Bool) → is-receive (op s k) ≡ b → (state-at y k ≡ 3)
           × (partner-at y k ≡ partner-at x k)
-      go true w b r = absurd (X .shaped .wait-unmatched k w e)
+      go true w b r = absurd (X .shaped .only-half-unmatched k w e)
       go false w true r =
           let met = behind-met (partner-at x k) k (X .stable .receive-met k r e) in
           (met .receive-matched, met .to-message)
@@ -101,7 +101,7 @@ module _ {s : Sheet} (g : Valid s) {i j : List ℕ} {x y : Job} (X : Reached s i
   unfolding able is-finished in-waiting-half next-op is-none
   still-able r e a going =
       and-both (and-both (ap is-none going) unfinished)
-      (last-part (place-at x r .waiting || is-wait (op s k)) refl (and-right first-part second-part a))
+      (last-part (place-at x r .waiting || only-half (op s k)) refl (and-right first-part second-part a))
     where
       same-finished : place-at y r .finished ≡ place-at x r .finished
       same-finished = sym (position-finished x y r e)
@@ -119,7 +119,7 @@ module _ {s : Sheet} (g : Valid s) {i j : List ℕ} {x y : Job} (X : Reached s i
       first-part = is-none (x .stop) && (ltb r (P-of s) && not (leb (board s r .count) (place-at x r .finished)))
 
       second-part : Bool
-      second-part = not (place-at x r .waiting || is-wait (op s k)) || half-complete s x k
+      second-part = not (place-at x r .waiting || only-half (op s k)) || half-complete s x k
 
       unfinished : ltb r (P-of s) && not (leb (board s r .count) (place-at y r .finished)) ≡ true
       unfinished =
@@ -128,13 +128,13 @@ module _ {s : Sheet} (g : Valid s) {i j : List ℕ} {x y : Job} (X : Reached s i
           (and-left first-part second-part a)
 
       -- in its waiting half alike, and what it waits for complete
-      last-part : (b : Bool) → place-at x r .waiting || is-wait (op s k) ≡ b → not b || half-complete s x k ≡ true →
-          not (place-at y r .waiting || is-wait (op s (board s r .first + place-at y r .finished))) || half-complete s y
+      last-part : (b : Bool) → place-at x r .waiting || only-half (op s k) ≡ b → not b || half-complete s x k ≡ true →
+          not (place-at y r .waiting || only-half (op s (board s r .first + place-at y r .finished))) || half-complete s y
           (board s r .first + place-at y r .finished) ≡ true
       last-part b answers h =
-          ap (λ (w : Bool). not (w || is-wait (op s (board s r .first + place-at y r .finished))) || half-complete s y
+          ap (λ (w : Bool). not (w || only-half (op s (board s r .first + place-at y r .finished))) || half-complete s y
           (board s r .first + place-at y r .finished)) same-waiting
-          ∙ ap (λ (n : ℕ). not (place-at x r .waiting || is-wait (op s n)) || half-complete s y n) same-next
+          ∙ ap (λ (n : ℕ). not (place-at x r .waiting || only-half (op s n)) || half-complete s y n) same-next
           ∙ ap (λ (w : Bool). not w || half-complete s y k) answers ∙ go b h
         where
           go : (b : Bool) → not b || half-complete s x k ≡ true → not b || half-complete s y k ≡ true

@@ -19,7 +19,7 @@ use lib.ListN.{length, getD, take, drop, length-drop, List·getD-eq-default}
 use lib.Seq.{take-suc, getD-drop}
 use borrow.Author.Tests.{leb-true, le-leb, eq-eqb, ne-eqb, eqb-true, not-true}
 use Rattle.rules.specs.Limits.{any}
-use Rattle.rules.specs.Sheet.{Sheet, Op, Board, op, board, no-op, no-board, P-of, N-of, rank-of, is-receive, is-wait, is-ready, is-buffered}
+use Rattle.rules.specs.Sheet.{Sheet, Op, Board, op, board, no-op, no-board, P-of, N-of, rank-of, is-receive, only-half, is-ready, is-buffered}
 use Rattle.rules.specs.Job.{Job, place-at}
 use Rattle.rules.specs.Step.{able, step, next-op, in-waiting-half, is-none, first-receive, fits-buffer, fits-with, charge-of}
 use Rattle.rules.specs.Claims.{calm, none-wild, is-any-source, all-charges, script, all-covered}
@@ -179,7 +179,7 @@ module _ {s : Sheet} (g : Valid s) (c : calm s ≡ true) {lent : List ℕ} {x : 
       go true false e d f = omega arith
       go true true e true f = omega arith
       go true true e false f =
-          absurd (unbuffered (is-wait (op s j))
+          absurd (unbuffered (only-half (op s j))
           (R .shaped .unmatched j (omega (arith, two)) (λ h. omega (arith, two))))
         where
           two : state-at x j ≡ 2
@@ -210,7 +210,7 @@ module _ {s : Sheet} (g : Valid s) (c : calm s ≡ true) {lent : List ℕ} {x : 
       ))
     where
       fresh : state-at x i ≡ 0
-      fresh = next-fresh s x r (R .placed) n (or-false-left (place-at x r .waiting) (is-wait (op s i)) half)
+      fresh = next-fresh s x r (R .placed) n (or-false-left (place-at x r .waiting) (only-half (op s i)) half)
 
   pub calm-going : step s r x .stop ≡ none
   unfolding stop-after

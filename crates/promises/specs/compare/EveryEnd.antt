@@ -11,7 +11,7 @@ use Prim.Native.Nat.{ℕ, _+_, _*_, _≤_, _<_}
 use native.Mathlib.Omega.{arith}
 use native.Mathlib.Decide.{ℕ-discrete}
 use lib.ListN.{length}
-use Rattle.rules.specs.Sheet.{Sheet, op, board, P-of, N-of, rank-of, inbox-total, is-wait, is-nonblocking}
+use Rattle.rules.specs.Sheet.{Sheet, op, board, P-of, N-of, rank-of, inbox-total, only-half, no-half}
 use Rattle.rules.specs.Job.{Job, Stop, place-at, started, job}
 use Rattle.rules.specs.Step.{able, step, next-op, in-waiting-half, is-none}
 use Rattle.rules.specs.Claims.{calm, left-by}
@@ -63,12 +63,12 @@ module _ {s : Sheet} (g : Valid s) (A : Ground s) (c : calm s ≡ true) (i : Lis
     moved = step-moved g A room X r a (calm-going g c X r a)
 
     -- a nonblocking operation and a wait have no waiting half in which y could position
-    not-between : in-waiting-half s x r || is-nonblocking (op s (next-op s x r)) ≡ true → place-at x r .waiting ≡ false →
+    not-between : in-waiting-half s x r || no-half (op s (next-op s x r)) ≡ true → place-at x r .waiting ≡ false →
         place-at y r .finished ≡ place-at x r .finished → place-at y r .waiting ≡ true → ⊥
     unfolding in-waiting-half next-op
     not-between h w e v =
-        go (is-wait (op s k)) refl (is-nonblocking (op s k)) refl
-        (sym (ap (λ (b : Bool). (b || is-wait (op s k)) || is-nonblocking (op s k)) w) ∙ h)
+        go (only-half (op s k)) refl (no-half (op s k)) refl
+        (sym (ap (λ (b : Bool). (b || only-half (op s k)) || no-half (op s k)) w) ∙ h)
       where
         k : ℕ
         k = board s r .first + place-at x r .finished
@@ -76,13 +76,13 @@ module _ {s : Sheet} (g : Valid s) (A : Ground s) (c : calm s ≡ true) (i : Lis
         same : board s r .first + place-at y r .finished ≡ k
         same = ap (λ (z : ℕ). board s r .first + z) e
 
-        go : (a : Bool) → is-wait (op s k) ≡ a → (b : Bool) → is-nonblocking (op s k) ≡ b → a || b ≡ true → ⊥
+        go : (a : Bool) → only-half (op s k) ≡ a → (b : Bool) → no-half (op s k) ≡ b → a || b ≡ true → ⊥
         go true p b q o =
-            true-not-false p (ap (λ (z : ℕ). is-wait (op s z)) (sym same)
-            ∙ Y .placed .waiting-no-wait r (n .rank-small) v)
+            true-not-false p (ap (λ (z : ℕ). only-half (op s z)) (sym same)
+            ∙ Y .placed .waiting-not-only-half r (n .rank-small) v)
         go false p true q o =
             true-not-false q
-            (ap (λ (z : ℕ). is-nonblocking (op s z)) (sym same) ∙ Y .placed .waiting-blocking r (n .rank-small) v)
+            (ap (λ (z : ℕ). no-half (op s z)) (sym same) ∙ Y .placed .waiting-not-no-half r (n .rank-small) v)
         go false p false q o = true-not-false o refl
 
     stepped-before : position (step s r x) r ≤ position y r

@@ -15,7 +15,7 @@ use native.Mathlib.Decide.{ℕ-discrete}
 use lib.ListN.{length}
 use borrow.Author.Tests.{eq-eqb}
 use Rattle.rules.specs.Limits.{any}
-use Rattle.rules.specs.Sheet.{Sheet, op, rank-of, inbox-total, is-send, is-receive, is-wait}
+use Rattle.rules.specs.Sheet.{Sheet, op, rank-of, inbox-total, is-send, is-receive, only-half}
 use Rattle.rules.specs.Job.{Job, place-at}
 use Rattle.rules.specs.Step.{able, step, next-op, in-waiting-half, fits-with}
 use Rattle.rules.specs.Claims.{is-any-source}
@@ -23,7 +23,7 @@ use Rattle.laws.specs.Tests.{and-both}
 use Rattle.promises.specs.Statements.{Harmless}
 use Rattle.invariant.specs.sheet.Valid.{Valid}
 use Rattle.invariant.specs.deliveries.Assumed.{Ground}
-use Rattle.invariant.specs.sheet.Kinds.{send-no-wait, fit-source}
+use Rattle.invariant.specs.sheet.Kinds.{send-not-only-half, fit-source}
 use Rattle.invariant.specs.Invariant.{Entered, reach, Reached, Extended}
 use Rattle.invariant.specs.matching.Monotone.{Same-order}
 use Rattle.invariant.specs.step.Places.{Next, Moved, able-next}
@@ -151,8 +151,8 @@ module _ {s : Sheet} (g : Valid s) (A : Ground s) {lent : List ℕ} (room : inbo
       n : Next s x r
       n = able-next s g x r c
 
-      go : (w : Bool) → place-at x r .waiting ≡ w → w || is-wait (op s (next-op s x r)) ≡ false
-      go false h = ap (λ (z : ℕ). is-wait (op s z)) (sym e) ∙ send-no-wait (op s k) sends
+      go : (w : Bool) → place-at x r .waiting ≡ w → w || only-half (op s (next-op s x r)) ≡ false
+      go false h = ap (λ (z : ℕ). only-half (op s z)) (sym e) ∙ send-not-only-half (op s k) sends
       go true h =
           absurd
           (out

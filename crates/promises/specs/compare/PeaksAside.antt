@@ -16,7 +16,7 @@ use native.Mathlib.Decide.{decLt}
 use lib.Dec.{ltb, leb, eqb}
 use lib.ListN.{getD}
 use borrow.Author.Tests.{le-ltb}
-use Rattle.rules.specs.Sheet.{Sheet, op, board, P-of, N-of, is-wait, is-send, is-receive}
+use Rattle.rules.specs.Sheet.{Sheet, op, board, P-of, N-of, frees-slot, is-send, is-receive}
 use Rattle.rules.specs.Job.{Job, Entry, Stop, bare-entry, entry-at, place-at}
 use Rattle.rules.specs.Step.{able, is-finished, next-op, in-waiting-half, half-complete, complete, complete-if, waited, is-none}
 use Rattle.rules.specs.Order.{lowest-able, next-rank, none-able}
@@ -52,9 +52,9 @@ module _ (s : Sheet) (x y : Job) (e : Level s x y) where
   unfolding half-complete complete-if
   level-half i = go (waited s i)
     where
-      go : (o : Option ℕ) → cond (is-wait (op s i)) (complete-if x o) (complete x i) ≡ cond (is-wait (op s i)) (complete-if y o)
+      go : (o : Option ℕ) → cond (frees-slot (op s i)) (complete-if x o) (complete x i) ≡ cond (frees-slot (op s i)) (complete-if y o)
           (complete y i)
-      go none = ap (λ (b : Bool). cond (is-wait (op s i)) false b) (level-complete i)
+      go none = ap (λ (b : Bool). cond (frees-slot (op s i)) false b) (level-complete i)
       go (some j) = cc (level-complete i, level-complete j)
 
   pub level-finished : (r : ℕ) → r < P-of s → is-finished s x r ≡ is-finished s y r
