@@ -20,7 +20,8 @@ use Rattle.rules.specs.Sheet.{Sheet, op, rank-of, inbox-total, is-send, is-rece
 use Rattle.rules.specs.Refusal.{share}
 use Rattle.rules.specs.Step.{area-start, is-cut, copied, delivered}
 use Rattle.invariant.specs.sheet.Valid.{Valid}
-use Rattle.laws.specs.SpliceOrder.{within, within-low, within-high, splice-length, splice-at, splice-swap}
+use Rattle.laws.specs.Splice.{splice-length}
+use Rattle.laws.specs.SpliceOrder.{within, within-low, within-high, splice-at, splice-swap}
 use Rattle.invariant.specs.sheet.Extents.{send-extent, area-inside, areas-disjoint}
 use Rattle.invariant.specs.sheet.Areas.{held-apart}
 use Rattle.invariant.specs.deliveries.Assumed.{Ground, Apart}
