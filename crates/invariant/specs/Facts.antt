@@ -141,7 +141,7 @@ module _ {s : Sheet} (g : Valid s) {lent : List ℕ} {x : Job} (R : Reached s le
 
   -- each stands there once
   messages-apart : Holds Differ (Pending-message s x) (x .messages)
-  messages-apart = holds-same (R .messages-held) (λ v u p q c e. omega (arith, c, ap (R .came) e)) (λ v p. p) (λ v p. p)
+  messages-apart = holds-same (R .messages-held) (λ v u p q c e. omega (arith, c, ap (R .arrival) e)) (λ v p. p) (λ v p. p)
 
   receives-apart : Holds Differ (Pending-receive s x) (x .receives)
   receives-apart =

@@ -2,7 +2,7 @@
 -- fitting pair is pending, and each match took the earliest on both sides), a stable matching over given entered operations
 -- is unique, and rows, memory and buffer use follow from it. `Reached` collects what every job that an order leads to keeps;
 -- each field says who needs it.
---   Met        a message and a receive that are matched with each other
+--   Matched-pair        a message and a receive that are matched with each other
 --   Stable     the matching is stable
 --   Arrived    in which order the entered sends came
 --   Placed     which operations are entered and complete, by where the boards stand
@@ -47,7 +47,7 @@ pub record Pending-receive (s : Sheet) (x : Job) (r : ℕ) : Type 0 where
   pub unmatched : state-at x r ≢ 3
 
 -- message m and receive r are matched with each other
-pub record Met (s : Sheet) (x : Job) (m r : ℕ) : Type 0 where
+pub record Matched-pair (s : Sheet) (x : Job) (m r : ℕ) : Type 0 where
   pub sends : is-send (op s m) ≡ true
   pub receives : is-receive (op s r) ≡ true
   pub fit : fits-with s m r ≡ true
@@ -57,25 +57,25 @@ pub record Met (s : Sheet) (x : Job) (m r : ℕ) : Type 0 where
   pub to-message : partner-at x r ≡ m
 
 -- STABLE, where `came` gives the order in which the sends were entered
-pub record Stable (s : Sheet) (came : ℕ → ℕ) (x : Job) : Type 0 where
+pub record Stable (s : Sheet) (arrival : ℕ → ℕ) (x : Job) : Type 0 where
   -- matched operations come in pairs (everyone)
-  pub message-met : (m : ℕ) → is-send (op s m) ≡ true → state-at x m ≡ 3 → Met s x m (partner-at x m)
-  pub receive-met : (r : ℕ) → is-receive (op s r) ≡ true → state-at x r ≡ 3 → Met s x (partner-at x r) r
+  pub message-pair : (m : ℕ) → is-send (op s m) ≡ true → state-at x m ≡ 3 → Matched-pair s x m (partner-at x m)
+  pub receive-met : (r : ℕ) → is-receive (op s r) ≡ true → state-at x r ≡ 3 → Matched-pair s x (partner-at x r) r
   -- no pending message fits a pending receive (None-fit)
   pub none-fit : (m r : ℕ) → Pending-message s x m → Pending-receive s x r → fits-with s m r ≡ true → ⊥
   -- a receive took the earliest message: one that came before and fits was taken by an earlier receive (No-overtaking)
-  pub first-sent : (m r k : ℕ) → Met s x m r → is-send (op s k) ≡ true → Entered x k → came k < came m →
+  pub first-sent : (m r k : ℕ) → Matched-pair s x m r → is-send (op s k) ≡ true → Entered x k → arrival k < arrival m →
       fits-with s k r ≡ true → (state-at x k ≡ 3) × (partner-at x k < r)
   -- a message went to the earliest receive: an earlier one of that board that it fits is matched (its other half)
-  pub first-posted : (m r q : ℕ) → Met s x m r → is-receive (op s q) ≡ true → q < r → fits-with s m q ≡ true → state-at x q ≡ 3
+  pub first-posted : (m r q : ℕ) → Matched-pair s x m r → is-receive (op s q) ≡ true → q < r → fits-with s m q ≡ true → state-at x q ≡ 3
 
 -- ARRIVED: `came` numbers the entered sends by the step that entered them, so that each sender's are in script order
-pub record Arrived (s : Sheet) (came : ℕ → ℕ) (x : Job) : Type 0 where
-  pub past : (m : ℕ) → Entered x m → came m < x .steps
-  pub apart : (k m : ℕ) → is-send (op s k) ≡ true → is-send (op s m) ≡ true → Entered x k → Entered x m → came k ≡ came m → k ≡ m
+pub record Arrived (s : Sheet) (arrival : ℕ → ℕ) (x : Job) : Type 0 where
+  pub past : (m : ℕ) → Entered x m → arrival m < x .steps
+  pub apart : (k m : ℕ) → is-send (op s k) ≡ true → is-send (op s m) ≡ true → Entered x k → Entered x m → arrival k ≡ arrival m → k ≡ m
   pub in-script : (k m : ℕ) → is-send (op s k) ≡ true → is-send (op s m) ≡ true → Entered x k → Entered x m →
       rank-of s k ≡ rank-of s m →
-      k < m → came k < came m
+      k < m → arrival k < arrival m
 
 -- PLACED: a board has entered its operations up to here
 unfoldable pub reach : Sheet → Job → (r : ℕ) → ℕ
@@ -148,19 +148,19 @@ pub record Stopped (s : Sheet) (x : Job) (t : Stop) : Type 0 where
 abbrev pub Posted-before : Sheet → (a b : ℕ) → Type 0
 Posted-before s a b = rank-of s a ≡ rank-of s b → a < b
 
-abbrev pub Came-before : (came : ℕ → ℕ) → (a b : ℕ) → Type 0
-Came-before came a b = came a < came b
+abbrev pub Arrived-before : (arrival : ℕ → ℕ) → (a b : ℕ) → Type 0
+Arrived-before arrival a b = arrival a < arrival b
 
 -- `i` is the lent inboxes
 pub record Reached (s : Sheet) (i : List ℕ) (x : Job) : Type 0 where
   -- the step at which each send was entered: known to the proofs only
-  pub came : ℕ → ℕ
-  pub stable : Stable s came x
-  pub arrived : Arrived s came x
+  pub arrival : ℕ → ℕ
+  pub stable : Stable s arrival x
+  pub arrived : Arrived s arrival x
   pub placed : Placed s x
   pub shaped : Shaped s x
   -- the waiting lists hold exactly what is pending: messages by arrival, each board's receives in script order (steps)
-  pub messages-held : Holds (Came-before came) (Pending-message s x) (x .messages)
+  pub messages-held : Holds (Arrived-before arrival) (Pending-message s x) (x .messages)
   pub receives-held : Holds (Posted-before s) (Pending-receive s x) (x .receives)
   -- in use is the sum of the pending charges, and at most the peak (In-use, Peaks, calm sheets never stop)
   pub in-use-sum : (r : ℕ) → r < P-of s → place-at x r .in-use ≡ sum-below (N-of s) (charge-in s x r)
@@ -182,5 +182,5 @@ pub record Extended {s : Sheet} {lent : List ℕ} {x : Job} (R : Reached s lent 
   pub reached : Reached s lent y
   pub on : (j : ℕ) → Entered x j → Entered y j
   pub back : (j : ℕ) → j ≢ i → Entered y j → Entered x j
-  pub old : (j : ℕ) → Entered x j → reached .came j ≡ R .came j
-  pub new : Entered y i → (Entered x i → ⊥) → (j : ℕ) → Entered x j → reached .came j < reached .came i
+  pub old : (j : ℕ) → Entered x j → reached .arrival j ≡ R .arrival j
+  pub new : Entered y i → (Entered x i → ⊥) → (j : ℕ) → Entered x j → reached .arrival j < reached .arrival i

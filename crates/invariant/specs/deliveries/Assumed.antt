@@ -22,7 +22,7 @@ pub record Pair (s : Sheet) (m r : ℕ) : Type 0 where
 abbrev pub Apart : Sheet → (r q : ℕ) → Type 0
 Apart s r q = (rank-of s r ≢ rank-of s q) ⊎ (share (op s r) (op s q) ≡ false)
 
-pub record Ground (s : Sheet) : Type 0 where
+pub record Delivery-laws (s : Sheet) : Type 0 where
   -- a receive r that takes a slot, and for which nothing up to q that frees a slot waits, still holds it at q, so q's area is
   -- another
   pub held-apart : (r q : ℕ) → r < q → q < N-of s → rank-of s r ≡ rank-of s q → is-receive (op s r) ≡ true →

@@ -24,7 +24,7 @@ use Rattle.laws.specs.Splice.{splice-length}
 use Rattle.laws.specs.SpliceOrder.{within, within-low, within-high, splice-at, splice-swap}
 use Rattle.invariant.specs.sheet.Extents.{send-extent, area-inside, areas-disjoint}
 use Rattle.invariant.specs.sheet.Areas.{held-apart}
-use Rattle.invariant.specs.deliveries.Assumed.{Ground, Apart}
+use Rattle.invariant.specs.deliveries.Assumed.{Delivery-laws, Apart}
 
 -- the bytes that a match copies
 abbrev pub copied-bytes : Sheet → (m r : ℕ) → List ℕ
@@ -96,7 +96,7 @@ delivered-swap s g m r k q bs receives receives-too apart room =
     (omega (arith, copied-short s k q))))
 
 -- GROUND
-pub ground : (s : Sheet) → Valid s → Ground s
+pub ground : (s : Sheet) → Valid s → Delivery-laws s
 ground s g =
     record {
       held-apart =

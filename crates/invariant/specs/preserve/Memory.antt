@@ -22,10 +22,10 @@ use Rattle.rules.specs.Job.{Job, Entry, entry-at, place-at}
 use Rattle.rules.specs.Step.{next-op, delivered, half-complete, complete, complete-if, waited}
 use Rattle.laws.specs.Tests.{true-not-false}
 use Rattle.invariant.specs.sheet.Valid.{Valid}
-use Rattle.invariant.specs.deliveries.Assumed.{Ground, Pair, Apart}
+use Rattle.invariant.specs.deliveries.Assumed.{Delivery-laws, Pair, Apart}
 use Rattle.invariant.specs.sheet.Kinds.{is-true, send-not-receive, receive-not-frees, receive-no-half-takes, frees-not-no-half}
 use Rattle.invariant.specs.Invariant.{Entered, state-at, partner-at, replay, replayed, reach, Placed, Shaped, Stable}
-use Rattle.invariant.specs.matching.RowChanges.{Enters, Matches, state-name, enters-state, matches-met, matches-receive-state}
+use Rattle.invariant.specs.matching.RowChanges.{Enters, Matches, state-name, enters-state, matches-pair, matches-receive-state}
 use Rattle.invariant.specs.preserve.Places.{prefix}
 use Rattle.invariant.specs.matching.UnmatchedState.{unmatched-receive}
 
@@ -54,14 +54,14 @@ unfolding replay
 replay-same s x y j bs e = ap (λ (z : Entry). cond (is-receive (op s j) && eqb (z .state) 3) (delivered s (z .partner) j bs) bs) e
 
 -- by cases: does operation j replay?
-abbrev Paints : Sheet → Job → ℕ → Type 0
-Paints s x j = (is-receive (op s j) ≡ true) × (state-at x j ≡ 3)
+abbrev Delivers : Sheet → Job → ℕ → Type 0
+Delivers s x j = (is-receive (op s j) ≡ true) × (state-at x j ≡ 3)
 
-replays : (s : Sheet) (x : Job) (j : ℕ) → Paints s x j ⊎ (is-receive (op s j) ≡ true → state-at x j ≡ 3 → ⊥)
+replays : (s : Sheet) (x : Job) (j : ℕ) → Delivers s x j ⊎ (is-receive (op s j) ≡ true → state-at x j ≡ 3 → ⊥)
 replays s x j = go (is-receive (op s j)) refl (ℕ-discrete (state-at x j) 3)
   where
     go : (b : Bool) → is-receive (op s j) ≡ b → Dec (state-at x j ≡ 3) →
-        Paints s x j ⊎ (is-receive (op s j) ≡ true → state-at x j ≡ 3 → ⊥)
+        Delivers s x j ⊎ (is-receive (op s j) ≡ true → state-at x j ≡ 3 → ⊥)
     go true e (yes f) = inl (e, f)
     go true e (no d) = inr (λ a b. d b)
     go false e t = inr (λ a b. true-not-false a e)
@@ -98,9 +98,9 @@ replayed-enters s {x} {y} {i} {v} n bs E = replayed-same s x y n bs (λ j cs l. 
         ∙ sym (replay-none s x j cs (λ a b. omega (arith, E .fresh, state-name x e)))
 
 -- A JOB whose matching is stable and whose boards are placed
-module _ {s : Sheet} (g : Valid s) (A : Ground s) {came : ℕ → ℕ} {x : Job} (X : Stable s came x) (p : Placed s x)
+module _ {s : Sheet} (g : Valid s) (A : Delivery-laws s) {arrival : ℕ → ℕ} {x : Job} (X : Stable s arrival x) (p : Placed s x)
     (h : Shaped s x) where
-  replays-pair : (j : ℕ) → Paints s x j → Pair s (partner-at x j) j
+  replays-pair : (j : ℕ) → Delivers s x j → Pair s (partner-at x j) j
   replays-pair j d =
       let met = X .receive-met j (d .0) (d .1) in
       record {
@@ -115,7 +115,7 @@ module _ {s : Sheet} (g : Valid s) (A : Ground s) {came : ℕ → ℕ} {x : Job}
   replayed-length zero bs l = refl
   replayed-length (suc n) bs l = go (replays s x n) (replayed-length n bs l)
     where
-      go : Paints s x n ⊎ (is-receive (op s n) ≡ true → state-at x n ≡ 3 → ⊥) → length (replayed s x n bs) ≡ length bs →
+      go : Delivers s x n ⊎ (is-receive (op s n) ≡ true → state-at x n ≡ 3 → ⊥) → length (replayed s x n bs) ≡ length bs →
           length (replay s x n (replayed s x n bs)) ≡ length bs
       go (inl d) e =
           ap (λ (z : List ℕ). length z) (replay-matched s x n (replayed s x n bs) (d .0) (d .1))
@@ -196,7 +196,7 @@ module _ {s : Sheet} (g : Valid s) (A : Ground s) {came : ℕ → ℕ} {x : Job}
     matches-replay-here : (bs : List ℕ) → replay s y r bs ≡ delivered s m r (replay s x r bs)
     matches-replay-here bs =
         replay-matched s y r bs (M .receives) (matches-receive-state M)
-        ∙ ap (λ (z : ℕ). delivered s z r bs) (matches-met M .to-message)
+        ∙ ap (λ (z : ℕ). delivered s z r bs) (matches-pair M .to-message)
         ∙ ap (λ (z : List ℕ). delivered s m r z) (sym (replay-none s x r bs (λ a b. M .receive-free b)))
 
     -- a later delivery may come after that of r
@@ -213,7 +213,7 @@ module _ {s : Sheet} (g : Valid s) (A : Ground s) {came : ℕ → ℕ} {x : Job}
               receives = M .receives;
             }
 
-        go : Paints s x j ⊎ (is-receive (op s j) ≡ true → state-at x j ≡ 3 → ⊥) →
+        go : Delivers s x j ⊎ (is-receive (op s j) ≡ true → state-at x j ≡ 3 → ⊥) →
             replay s x j (delivered s m r bs) ≡ delivered s m r (replay s x j bs)
         go (inr c) =
             replay-none s x j (delivered s m r bs) c

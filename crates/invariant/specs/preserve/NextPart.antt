@@ -12,7 +12,7 @@ use Rattle.laws.specs.Tests.{true-not-false}
 use Rattle.invariant.specs.Invariant.{Entered, steps-of, reach, Placed}
 use Rattle.invariant.specs.matching.RowChanges.{Grows, state-same}
 use Rattle.invariant.specs.step.Places.{Next, Moved}
-use Rattle.invariant.specs.preserve.Places.{Advances, Turn}
+use Rattle.invariant.specs.preserve.Places.{Advances, Ongoing}
 
 -- ADVANCES
 pub advances-grows : {x y : Job} {i : ℕ} → Grows x y i → Advances x y i
@@ -40,10 +40,10 @@ unfolding steps-of
 steps-two s i a b = ap (λ (c : Bool). cond (c || only-half (op s i)) 1 2) a ∙ ap (λ (c : Bool). cond c 1 2) b
 
 -- TURNS: an initiating step
-pub turn-initiating : {s : Sheet} {x y : Job} {r : ℕ} → Next s x r → Moved x y r (no-half (op s (next-op s x r))) →
+pub ongoing-initiating : {s : Sheet} {x y : Job} {r : ℕ} → Next s x r → Moved x y r (no-half (op s (next-op s x r))) →
     Grows x y (next-op s x r) →
-    place-at x r .waiting ≡ false → only-half (op s (next-op s x r)) ≡ false → Turn s x y r (no-half (op s (next-op s x r)))
-turn-initiating {s} {x} {y} {r} n m G w e =
+    place-at x r .waiting ≡ false → only-half (op s (next-op s x r)) ≡ false → Ongoing s x y r (no-half (op s (next-op s x r)))
+ongoing-initiating {s} {x} {y} {r} n m G w e =
     record {
       next = n;
       moved = m;
@@ -54,10 +54,10 @@ turn-initiating {s} {x} {y} {r} n m G w e =
     }
 
 -- a wait
-pub turn-wait : {s : Sheet} {x y : Job} {r : ℕ} → Next s x r → Moved x y r true → Grows x y (next-op s x r) →
-    place-at x r .waiting ≡ false → only-half (op s (next-op s x r)) ≡ true → Turn s x y r true
+pub ongoing-only-half : {s : Sheet} {x y : Job} {r : ℕ} → Next s x r → Moved x y r true → Grows x y (next-op s x r) →
+    place-at x r .waiting ≡ false → only-half (op s (next-op s x r)) ≡ true → Ongoing s x y r true
 unfolding in-waiting-half
-turn-wait {s} {x} {y} {r} n m G w e =
+ongoing-only-half {s} {x} {y} {r} n m G w e =
     record {
       next = n;
       moved = m;
@@ -68,11 +68,11 @@ turn-wait {s} {x} {y} {r} n m G w e =
     }
 
 -- a waiting half
-pub turn-half : {s : Sheet} {x y : Job} {r : ℕ} → Placed s x → Next s x r → Moved x y r true →
+pub ongoing-half : {s : Sheet} {x y : Job} {r : ℕ} → Placed s x → Next s x r → Moved x y r true →
     ((j : ℕ) → entry-at y j ≡ entry-at x j) →
-    place-at x r .waiting ≡ true → Turn s x y r true
+    place-at x r .waiting ≡ true → Ongoing s x y r true
 unfolding in-waiting-half reach
-turn-half {s} {x} {y} {r} p n m same w =
+ongoing-half {s} {x} {y} {r} p n m same w =
     record {
       next = n;
       moved = m;

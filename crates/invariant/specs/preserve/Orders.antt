@@ -18,7 +18,7 @@ use Rattle.rules.specs.Order.{followed, follow-from, follow}
 use Rattle.rules.specs.Claims.{left-by}
 use Rattle.laws.specs.Tests.{true-not-false}
 use Rattle.invariant.specs.sheet.Valid.{Valid}
-use Rattle.invariant.specs.deliveries.Assumed.{Ground}
+use Rattle.invariant.specs.deliveries.Assumed.{Delivery-laws}
 use Rattle.laws.specs.Sums.{sum-zero}
 use Rattle.invariant.specs.Invariant.{Entered, state-at, partner-at, reach, steps-done, steps-of, charge-in, row-of, Reached}
 use Rattle.invariant.specs.preserve.Charges.{charge-none}
@@ -88,10 +88,10 @@ module _ {s : Sheet} (g : Valid s) (lent : List ℕ) where
   unfolding started job is-none
   start-reached =
       record {
-        came = λ j. 0;
+        arrival = λ j. 0;
         stable =
             record {
-              message-met = λ m p h. none-entered m (omega arith);
+              message-pair = λ m p h. none-entered m (omega arith);
               receive-met = λ r p h. none-entered r (omega arith);
               none-fit = λ m r p q f. none-entered m (p .entered);
               first-sent = λ m r k h p there l f. none-entered k there;
@@ -173,7 +173,7 @@ pub left-keeps : (s : Sheet) (P : Job → Type 0) → ((x : Job) (r : ℕ) → P
 unfolding left-by follow
 left-keeps s P keeps rs lent h = follow-from-keeps s P keeps 0 rs (started s lent) h
 
-pub left-reached : {s : Sheet} → Valid s → Ground s → {lent : List ℕ} → inbox-total s ≤ length lent → (rs : List ℕ) →
+pub left-reached : {s : Sheet} → Valid s → Delivery-laws s → {lent : List ℕ} → inbox-total s ≤ length lent → (rs : List ℕ) →
     Reached s lent (left-by s rs lent)
 left-reached {s} g A {lent} room rs =
     left-keeps s (Reached s lent) (λ x r R a. step-sound g A room R r a .reached) rs lent (start-reached g lent)

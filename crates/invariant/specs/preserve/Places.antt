@@ -1,6 +1,6 @@
 -- A step moves its board on by one, and keeps `Placed`.
 --   Advances        what becomes entered by a step of operation i
---   Turn            a step that goes on: where its board goes, and why it may
+--   Ongoing            a step that goes on: where its board goes, and why it may
 --   placed-step     the places stay right
 --   prefix          on one board everything before an entered operation is entered
 -- Assumes nothing.
@@ -28,7 +28,7 @@ pub record Advances (x y : Job) (i : ℕ) : Type 0 where
   pub complete-on : (j : ℕ) → 2 ≤ state-at x j → 2 ≤ state-at y j
 
 -- `last` says that the step finishes its operation
-pub record Turn (s : Sheet) (x y : Job) (r : ℕ) (last : Bool) : Type 0 where
+pub record Ongoing (s : Sheet) (x y : Job) (r : ℕ) (last : Bool) : Type 0 where
   pub next : Next s x r
   pub moved : Moved x y r last
   pub advances : Advances x y (next-op s x r)
@@ -59,7 +59,7 @@ prefix s x p j i h l e =
     let only = p .entered-only i h in
     p .entered-if j (omega (arith, only .0)) (omega (arith, only .1, ap (λ (z : ℕ). reach s x z) e))
 
-module _ {s : Sheet} {x y : Job} {r : ℕ} {last : Bool} (g : Valid s) (p : Placed s x) (T : Turn s x y r last) where
+module _ {s : Sheet} {x y : Job} {r : ℕ} {last : Bool} (g : Valid s) (p : Placed s x) (T : Ongoing s x y r last) where
   abbrev pub here : ℕ
   here = next-op s x r
 

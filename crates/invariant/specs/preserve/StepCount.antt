@@ -20,7 +20,7 @@ use Rattle.invariant.specs.sheet.Valid.{Valid}
 use Rattle.laws.specs.Sums.{sum-below, sum-change, sum-gap, sum-most}
 use Rattle.invariant.specs.Invariant.{state-at, Placed, Reached, reach, steps-of, steps-done}
 use Rattle.invariant.specs.step.Places.{Next, able-next}
-use Rattle.invariant.specs.preserve.Places.{Turn, waits, waits-most, next-other, reach-other, reach-mine, reach-mine-before, next-mine, next-mine-before}
+use Rattle.invariant.specs.preserve.Places.{Ongoing, waits, waits-most, next-other, reach-other, reach-mine, reach-mine-before, next-mine, next-mine-before}
 
 -- the steps of operation j, where its board has finished those below a and entered those below b
 unfoldable answers : (j a b all : ℕ) → ℕ
@@ -69,7 +69,7 @@ pub steps-most : (s : Sheet) (x : Job) → sum-below (N-of s) (steps-done s x) �
 steps-most s x = sum-most (N-of s) 2 (steps-done s x) (λ j l. steps-done-most s x j)
 
 -- ONE MORE
-module _ {s : Sheet} {x y : Job} {r : ℕ} {last : Bool} (g : Valid s) (p : Placed s x) (T : Turn s x y r last) where
+module _ {s : Sheet} {x y : Job} {r : ℕ} {last : Bool} (g : Valid s) (p : Placed s x) (T : Ongoing s x y r last) where
   abbrev mine : ℕ
   mine = next-op s x r
 

@@ -27,7 +27,7 @@ stops-extended {s} {lent} {x} R v r n reason w =
     record {
       reached =
           record {
-            came = R .came;
+            arrival = R .arrival;
             stable = stable-same same (R .stable);
             arrived = arrived-same same (omega arith) (R .arrived);
             placed =

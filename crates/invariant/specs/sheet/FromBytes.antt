@@ -1,6 +1,6 @@
 -- Bytes that pass check decode to a good sheet: each number of the refusal table settles its part of `Valid`.
 --   Accepted          the tests that bytes with no refusal have passed
---   good-from-bytes   passes bs gives Valid (sheet-in bs)
+--   valid-from-bytes   passes bs gives Valid (sheet-in bs)
 -- Assumes nothing.
 use mathlib.Core.Path.{_≡_, refl, sym, subst}
 use mathlib.Core.Bool.{Bool, true, false, _&&_, not, cond}
@@ -162,5 +162,5 @@ good-from-accepted bs A =
     L : Laid bs
     L = accepted-laid bs A
 
-pub good-from-bytes : (bs : List ℕ) → passes bs ≡ true → Valid (sheet-in bs)
-good-from-bytes bs h = good-from-accepted bs (passed-accepted bs h)
+pub valid-from-bytes : (bs : List ℕ) → passes bs ≡ true → Valid (sheet-in bs)
+valid-from-bytes bs h = good-from-accepted bs (passed-accepted bs h)

@@ -1,7 +1,7 @@
 -- What a step of an able board does, in the six ways that it can go, each a record: a waiting half ends, a wait ends, a receive
 -- is posted, a send is pending, a message and a receive are matched, the job stops. Effects.antt reads `step` once to find one
 -- of them; all other proofs go by `Outcome`.
---   Ends-half, Ends-wait, Posts, Pends, Meets, Stops     the six
+--   Ends-half, Ends-only-half, Posts, Pends, Match-step, Stops     the six
 --   Outcome                                              one of them
 -- Assumes nothing: these are definitions.
 use mathlib.Core.Path.{_≡_}
@@ -31,7 +31,7 @@ pub record Ends-half (s : Sheet) (x y : Job) (r i : ℕ) : Type 0 where
   pub memory : y .memory ≡ x .memory
 
 -- a wait ends: its row says so
-pub record Ends-wait (s : Sheet) (x y : Job) (r i : ℕ) : Type 0 where
+pub record Ends-only-half (s : Sheet) (x y : Job) (r i : ℕ) : Type 0 where
   pub not-waiting : place-at x r .waiting ≡ false
   pub waits : only-half (op s i) ≡ true
   pub moved : Moved x y r true
@@ -72,7 +72,7 @@ Finds s x i m q =
     ((q ≡ i) × (first-message s i (x .messages) ≡ some m)) ⊎ ((m ≡ i) × (first-receive s i (x .receives) ≡ some q))
 
 -- message m and receive q are matched
-pub record Meets (s : Sheet) (x y : Job) (r i : ℕ) (m q : ℕ) : Type 0 where
+pub record Match-step (s : Sheet) (x y : Job) (r i : ℕ) (m q : ℕ) : Type 0 where
   pub not-waiting : place-at x r .waiting ≡ false
   pub finds : Finds s x i m q
   pub moved : Moved x y r (no-half (op s i))
@@ -86,12 +86,12 @@ pub record Meets (s : Sheet) (x y : Job) (r i : ℕ) (m q : ℕ) : Type 0 where
 pub record Stops (s : Sheet) (x y : Job) (r i : ℕ) (v : ℕ) : Type 0 where
   pub reason : (v ≡ 3) ⊎ (v ≡ 4)
   pub not-waiting : place-at x r .waiting ≡ false
-  pub is-told : y ≡ with-steps (suc (x .steps)) (stopped v r i x)
+  pub job-is : y ≡ with-steps (suc (x .steps)) (stopped v r i x)
 
 pub data Outcome (s : Sheet) (x y : Job) (r i : ℕ) : Type 0 where
   ends-half : Ends-half s x y r i → Outcome s x y r i
-  ends-wait : Ends-wait s x y r i → Outcome s x y r i
+  ends-only-half : Ends-only-half s x y r i → Outcome s x y r i
   posts : Posts s x y r i → Outcome s x y r i
   pends : Pends s x y r i → Outcome s x y r i
-  meets : (m q : ℕ) → Meets s x y r i m q → Outcome s x y r i
+  matches : (m q : ℕ) → Match-step s x y r i m q → Outcome s x y r i
   stops : (v : ℕ) → Stops s x y r i v → Outcome s x y r i

@@ -16,12 +16,12 @@ use Rattle.laws.specs.Tests.{true-not-false}
 use Rattle.invariant.specs.sheet.Valid.{Valid}
 use Rattle.invariant.specs.sheet.Kinds.{kind-send, send-receive-differ}
 use Rattle.laws.specs.WaitingLists.{Found, first-by-some}
-use Rattle.invariant.specs.Invariant.{Entered, state-at, Posted-before, Came-before, Reached}
+use Rattle.invariant.specs.Invariant.{Entered, state-at, Posted-before, Arrived-before, Reached}
 use Rattle.invariant.specs.matching.UnmatchedState.{unmatched-send}
 use Rattle.invariant.specs.matching.RowChanges.{Enters, Matches}
 use Rattle.invariant.specs.step.Places.{Next, next-fresh, Moved}
 use Rattle.invariant.specs.step.BufferUse.{Use, use-kept, use-charged, use-released, used-kept, used-released, used-charged, used-uncharged, released-places, matched-is, stepped-places, stepped-moved, set-enters}
-use Rattle.invariant.specs.step.Cases.{Finds, Outcome, ends-half, ends-wait, posts, pends, meets, stops}
+use Rattle.invariant.specs.step.Cases.{Finds, Outcome, ends-half, ends-only-half, posts, pends, matches, stops}
 
 -- OUTCOMES of a step of board r, which is able, of a job that keeps the invariant
 module _ (s : Sheet) (g : Valid s) (lent : List ℕ) (x : Job) (R : Reached s lent x) (r : ℕ) (n : Next s x r) where
@@ -65,9 +65,9 @@ module _ (s : Sheet) (g : Valid s) (lent : List ℕ) (x : Job) (R : Reached s le
           })
 
   -- a wait ends
-  outcome-wait : place-at x r .waiting ≡ false → only-half (op s here) ≡ true → Outcome s x (counted (ended s r here x)) r here
+  outcome-only-half : place-at x r .waiting ≡ false → only-half (op s here) ≡ true → Outcome s x (counted (ended s r here x)) r here
   unfolding ended with-place with-places with-steps with-state with-entries job place-at
-  outcome-wait w e = go (only-half (op s here)) e
+  outcome-only-half w e = go (only-half (op s here)) e
     where
       y : Job
       y = counted (with-place r (one-finished (place-at x r)) (with-state here 5 x))
@@ -81,7 +81,7 @@ module _ (s : Sheet) (g : Valid s) (lent : List ℕ) (x : Job) (R : Reached s le
           Outcome s x (counted (with-place r (one-finished (place-at x r)) (cond b (with-state here 5 x) x))) r here
       go false c = true-not-false c refl
       go true c =
-          ends-wait
+          ends-only-half
           (record {
             not-waiting = w;
             waits = e;
@@ -170,14 +170,14 @@ module _ (s : Sheet) (g : Valid s) (lent : List ℕ) (x : Job) (R : Reached s le
       y = counted (initiated s r here (charge s r here (pend-message here 2 x)))
 
   -- a message and a receive are matched
-  outcome-meets : (m q : ℕ) → place-at x r .waiting ≡ false → is-send (op s m) ≡ true → is-receive (op s q) ≡ true →
+  outcome-matches : (m q : ℕ) → place-at x r .waiting ≡ false → is-send (op s m) ≡ true → is-receive (op s q) ≡ true →
       fits-with s m q ≡ true → m < N-of s → q < N-of s → state-at x m ≢ 3 → state-at x q ≢ 3 →
       (m ≢ here → Entered x m) → (q ≢ here → Entered x q) → Finds s x here m q →
       Outcome s x (counted (initiated s r here (matched s m q x))) r here
   unfolding initiated with-place with-places with-steps job place-at entry-at
-  outcome-meets m q w sm rq fit lm lq free-m free-q there-m there-q found =
+  outcome-matches m q w sm rq fit lm lq free-m free-q there-m there-q found =
       subst (λ (z : Job). Outcome s x (counted (initiated s r here z)) r here) (sym (matched-is s m q x))
-      (meets m q
+      (matches m q
       (record {
         not-waiting = w;
         finds = found;
@@ -242,7 +242,7 @@ module _ (s : Sheet) (g : Valid s) (lent : List ℕ) (x : Job) (R : Reached s le
 
   -- what the searches find is pending, and fits
   found-message : (m : ℕ) → first-message s here (x .messages) ≡ some m →
-      Found (Came-before (R .came)) (λ k. fits-with s k here) (x .messages) m
+      Found (Arrived-before (R .arrival)) (λ k. fits-with s k here) (x .messages) m
   unfolding first-message
   found-message m e = first-by-some (λ k. fits-with s k here) (x .messages) (R .messages-held .sorted) m e
 
@@ -260,7 +260,7 @@ module _ (s : Sheet) (g : Valid s) (lent : List ℕ) (x : Job) (R : Reached s le
   outcome-received (some m) e w k =
       let f = found-message m e in
       let p = R .messages-held .sound m (f .member) in
-      outcome-meets m here w (p .sends) k (f .passes) (R .placed .entered-only m (p .entered) .0) (n .inside) (p .unmatched)
+      outcome-matches m here w (p .sends) k (f .passes) (R .placed .entered-only m (p .entered) .0) (n .inside) (p .unmatched)
       (λ c. omega (arith, next-fresh s x r (R .placed) n w)) (λ d. p .entered) (λ d. absurd (d refl)) (inl (refl, e))
 
   outcome-unmatched : place-at x r .waiting ≡ false → is-send (op s here) ≡ true → first-receive s here (x .receives) ≡ none →
@@ -268,13 +268,13 @@ module _ (s : Sheet) (g : Valid s) (lent : List ℕ) (x : Job) (R : Reached s le
   unfolding unmatched
   outcome-unmatched w k e = go (is-ready (op s here)) (is-buffered (op s here)) refl (fits-buffer s r here x) refl
     where
-      halts : (v : ℕ) → (v ≡ 3) ⊎ (v ≡ 4) → Outcome s x (counted (stopped v r here x)) r here
-      halts v reason =
+      stopping : (v : ℕ) → (v ≡ 3) ⊎ (v ≡ 4) → Outcome s x (counted (stopped v r here x)) r here
+      stopping v reason =
           stops v
           (record {
             reason = reason;
             not-waiting = w;
-            is-told = refl;
+            job-is = refl;
           })
 
       go : (a b : Bool) → is-buffered (op s here) ≡ b → (c : Bool) → fits-buffer s r here x ≡ c →
@@ -284,9 +284,9 @@ module _ (s : Sheet) (g : Valid s) (lent : List ℕ) (x : Job) (R : Reached s le
           (cond b (cond c (initiated s r here (charge s r here (pend-message here 2 x))) (stopped 3 r here x))
           (initiated s r here (pend-message here 1 x)))))
           r here
-      go true b h c f = halts 4 (inr refl)
+      go true b h c f = stopping 4 (inr refl)
       go false true h true f = outcome-buffered w k h e f
-      go false true h false f = halts 3 (inl refl)
+      go false true h false f = stopping 3 (inl refl)
       go false false h c f = outcome-standard w k h e
 
   outcome-sent : (o : Option ℕ) → first-receive s here (x .receives) ≡ o → place-at x r .waiting ≡ false →
@@ -297,7 +297,7 @@ module _ (s : Sheet) (g : Valid s) (lent : List ℕ) (x : Job) (R : Reached s le
   outcome-sent (some q) e w k =
       let f = found-receive q e in
       let p = R .receives-held .sound q (f .member) in
-      outcome-meets here q w k (p .receives) (f .passes) (n .inside) (R .placed .entered-only q (p .entered) .0)
+      outcome-matches here q w k (p .receives) (f .passes) (n .inside) (R .placed .entered-only q (p .entered) .0)
       (λ c. omega (arith, next-fresh s x r (R .placed) n w)) (p .unmatched) (λ d. absurd (d refl)) (λ d. p .entered)
       (inr (refl, e))
 
@@ -314,6 +314,6 @@ module _ (s : Sheet) (g : Valid s) (lent : List ℕ) (x : Job) (R : Reached s le
           (sent s r here (first-receive s here (x .receives)) x))))
           r here
       go true e a f b h = outcome-half e
-      go false e true f b h = outcome-wait e f
+      go false e true f b h = outcome-only-half e f
       go false e false f true h = outcome-received (first-message s here (x .messages)) refl e h
       go false e false f false h = outcome-sent (first-receive s here (x .receives)) refl e (kind-send s g here (n .inside) f h)

@@ -18,7 +18,7 @@ use Rattle.invariant.specs.sheet.Kinds.{send-not-only-half, receive-not-only-ha
 use Rattle.invariant.specs.Invariant.{Reached}
 use Rattle.invariant.specs.step.Places.{Next, Moved, able-next, moved-finished, moved-waiting, moved-finished-other, moved-waiting-other}
 use Rattle.invariant.specs.step.BufferUse.{matched-is}
-use Rattle.invariant.specs.step.Cases.{Outcome, ends-half, ends-wait, posts, pends, meets, stops}
+use Rattle.invariant.specs.step.Cases.{Outcome, ends-half, ends-only-half, posts, pends, matches, stops}
 use Rattle.invariant.specs.step.CasesHold.{outcome}
 use Rattle.invariant.specs.step.Position.{position, position-finished, position-waiting}
 
@@ -114,19 +114,19 @@ initiates s x r w e =
     ∙ ap (λ (b : Bool). b || no-half (op s (next-op s x r))) e)
 
 pub data After (s : Sheet) (x y : Job) (r : ℕ) : Type 0 where
-  goes-on : y .stop ≡ none → Moved x y r (finishing s x r) → After s x y r
-  halts : (t : Stop) → y .stop ≡ some t → y .places ≡ x .places → y .steps ≡ suc (x .steps) → After s x y r
+  continues : y .stop ≡ none → Moved x y r (finishing s x r) → After s x y r
+  stops-job : (t : Stop) → y .stop ≡ some t → y .places ≡ x .places → y .steps ≡ suc (x .steps) → After s x y r
 
 module _ {s : Sheet} {x y : Job} {r : ℕ} (n : Next s x r) where
   turned : (last : Bool) → Moved x y r last → last ≡ finishing s x r → After s x y r
-  turned last m e = goes-on (m .stop-same ∙ n .going) (subst (λ (b : Bool). Moved x y r b) e m)
+  turned last m e = continues (m .stop-same ∙ n .going) (subst (λ (b : Bool). Moved x y r b) e m)
 
   after : Outcome s x y r (next-op s x r) → After s x y r
   unfolding in-waiting-half stopped with-stop with-steps job
   after (ends-half h) =
       turned true (h .moved)
       (sym (ap (λ (b : Bool). (b || only-half (op s (next-op s x r))) || no-half (op s (next-op s x r))) (h .waiting)))
-  after (ends-wait h) =
+  after (ends-only-half h) =
       turned true (h .moved)
       (sym
       (ap (λ (b : Bool). (b || only-half (op s (next-op s x r))) || no-half (op s (next-op s x r))) (h .not-waiting)
@@ -137,7 +137,7 @@ module _ {s : Sheet} {x y : Job} {r : ℕ} (n : Next s x r) where
   after (pends h) =
       turned (no-half (op s (next-op s x r))) (h .moved)
       (initiates s x r (h .not-waiting) (send-not-only-half (op s (next-op s x r)) (h .is-one)))
-  after (meets m q h) =
+  after (matches m q h) =
       turned (no-half (op s (next-op s x r))) (h .moved)
       (initiates s x r (h .not-waiting) (not-wait (h .rows .one)))
     where
@@ -145,14 +145,14 @@ module _ {s : Sheet} {x y : Job} {r : ℕ} (n : Next s x r) where
       not-wait (inl e) = ap (λ (z : ℕ). only-half (op s z)) e ∙ send-not-only-half (op s m) (h .rows .sends)
       not-wait (inr e) = ap (λ (z : ℕ). only-half (op s z)) e ∙ receive-not-only-half (op s q) (h .rows .receives)
   after (stops v h) =
-      halts
+      stops-job
       (record {
         verdict = v;
         rank = r;
         at-op = next-op s x r;
       })
-      (ap (λ (z : Job). z .stop) (h .is-told)) (ap (λ (z : Job). z .places) (h .is-told))
-      (ap (λ (z : Job). z .steps) (h .is-told))
+      (ap (λ (z : Job). z .stop) (h .job-is)) (ap (λ (z : Job). z .places) (h .job-is))
+      (ap (λ (z : Job). z .steps) (h .job-is))
 
 pub step-after : {s : Sheet} (g : Valid s) {lent : List ℕ} {x : Job} → Reached s lent x → (r : ℕ) → able s x r ≡ true →
     After s x (step s r x) r
@@ -164,8 +164,8 @@ pub step-counted : {s : Sheet} (g : Valid s) {lent : List ℕ} {x : Job} → Rea
 step-counted {s} g {lent} {x} R r a = go (step-after g R r a)
   where
     go : After s x (step s r x) r → step s r x .steps ≡ suc (x .steps)
-    go (goes-on e m) = m .steps-more
-    go (halts t e p k) = k
+    go (continues e m) = m .steps-more
+    go (stops-job t e p k) = k
 
 -- where the board stands after a step that goes on
 unfoldable pub position-on : (last : Bool) → (finished : ℕ) → ℕ
@@ -183,12 +183,12 @@ moved-position-other {x} {y} m q d =
     ap (λ (k : ℕ). 2 * k + cond (place-at y q .waiting) 1 0) (moved-finished-other m q d)
     ∙ ap (λ (b : Bool). 2 * place-at x q .finished + cond b 1 0) (moved-waiting-other m q d)
 
-pub places-stand : (x y : Job) → y .places ≡ x .places → (q : ℕ) → position y q ≡ position x q
+pub places-position : (x y : Job) → y .places ≡ x .places → (q : ℕ) → position y q ≡ position x q
 unfolding position place-at
-places-stand x y e q = ap (λ (l : List Place). stand-in l q) e
+places-position x y e q = ap (λ (l : List Place). position-in l q) e
   where
-    stand-in : List Place → ℕ → ℕ
-    stand-in l q = 2 * getD l q (place 0 false 0 0) .finished + cond (getD l q (place 0 false 0 0) .waiting) 1 0
+    position-in : List Place → ℕ → ℕ
+    position-in l q = 2 * getD l q (place 0 false 0 0) .finished + cond (getD l q (place 0 false 0 0) .waiting) 1 0
 
 -- WHAT THE PLACE OF A BOARD DECIDES
 module _ (s : Sheet) (x y : Job) (r : ℕ) (e : position x r ≡ position y r) where
@@ -196,15 +196,15 @@ module _ (s : Sheet) (x y : Job) (r : ℕ) (e : position x r ≡ position y r) w
   unfolding next-op
   position-next = ap (λ (k : ℕ). board s r .first + k) (position-finished x y r e)
 
-  pub stand-half : in-waiting-half s x r ≡ in-waiting-half s y r
+  pub position-half : in-waiting-half s x r ≡ in-waiting-half s y r
   unfolding in-waiting-half
-  stand-half =
+  position-half =
       ap (λ (b : Bool). b || only-half (op s (next-op s x r))) (position-waiting x y r e)
       ∙ ap (λ (k : ℕ). place-at y r .waiting || only-half (op s k)) position-next
 
-  stand-finishing : finishing s x r ≡ finishing s y r
-  stand-finishing =
-      ap (λ (b : Bool). b || no-half (op s (next-op s x r))) stand-half
+  position-finishing : finishing s x r ≡ finishing s y r
+  position-finishing =
+      ap (λ (b : Bool). b || no-half (op s (next-op s x r))) position-half
       ∙ ap (λ (k : ℕ). in-waiting-half s y r || no-half (op s k)) position-next
 
   -- a step that goes on takes it to the same place
@@ -212,7 +212,7 @@ module _ (s : Sheet) (x y : Job) (r : ℕ) (e : position x r ≡ position y r) w
       position x-now r ≡ position y-now r
   position-moved m n =
       moved-position m ∙ ap (λ (k : ℕ). position-on (finishing s x r) k) (position-finished x y r e)
-      ∙ ap (λ (c : Bool). position-on c (place-at y r .finished)) stand-finishing ∙ sym (moved-position n)
+      ∙ ap (λ (c : Bool). position-on c (place-at y r .finished)) position-finishing ∙ sym (moved-position n)
 
 -- and further on
 pub position-further : (s : Sheet) {x y : Job} {r : ℕ} → Moved x y r (finishing s x r) → position x r < position y r

@@ -3,8 +3,8 @@
 -- in x is complete in y, and a board that stands where it stood and was able is able still. Behind both ways, the rows are
 -- the same.
 --   Behind           x is behind y
---   behind-met, behind-complete, still-able
---   level-rows       behind both ways: the same rows
+--   behind-pair, behind-complete, still-able
+--   both-behind-rows       behind both ways: the same rows
 -- Assumes nothing.
 use mathlib.Core.Path.{_≡_, refl, sym, ap, _∙_}
 use mathlib.Core.Logic.{_≢_}
@@ -21,8 +21,8 @@ use Rattle.rules.specs.Step.{able, next-op, is-finished, in-waiting-half, half-
 use Rattle.laws.specs.Tests.{and-both, and-left, and-right}
 use Rattle.invariant.specs.sheet.Valid.{Valid}
 use Rattle.invariant.specs.sheet.Kinds.{kind-send}
-use Rattle.invariant.specs.Invariant.{Entered, state-at, partner-at, reach, row-of, Met, Placed, Reached}
-use Rattle.invariant.specs.matching.Monotone.{Same-order, keep}
+use Rattle.invariant.specs.Invariant.{Entered, state-at, partner-at, reach, row-of, Matched-pair, Placed, Reached}
+use Rattle.invariant.specs.matching.Monotone.{Same-order, matched-stays}
 use Rattle.invariant.specs.preserve.Rows.{row-bare}
 use Rattle.invariant.specs.step.Position.{position, position-finished, position-waiting}
 use Rattle.invariant.specs.preserve.Places.{prefix, half-complete-on}
@@ -40,7 +40,7 @@ position-reach s x y r = go (place-at x r .waiting) (place-at y r .waiting)
 
 pub record Behind {s : Sheet} {i j : List ℕ} {x y : Job} (X : Reached s i x) (Y : Reached s j y) : Type 0 where
   pub places : (r : ℕ) → r < P-of s → position x r ≤ position y r
-  pub order : Same-order s (X .came) x (Y .came) y
+  pub order : Same-order s (X .arrival) x (Y .arrival) y
 
 -- what is entered goes by the places
 pub places-entered : {s : Sheet} → Valid s → {x y : Job} → Placed s x → Placed s y →
@@ -59,9 +59,9 @@ module _ {s : Sheet} (g : Valid s) {i j : List ℕ} {x y : Job} (X : Reached s i
   pub behind-entered : (k : ℕ) → Entered x k → Entered y k
   behind-entered = places-entered g (X .placed) (Y .placed) (B .places)
 
-  pub behind-met : (m r : ℕ) → Met s x m r → Met s y m r
-  behind-met =
-      keep s (X .came) x (Y .came) y (X .stable) (Y .stable) (Y .arrived) (prefix s x (X .placed))
+  pub behind-pair : (m r : ℕ) → Matched-pair s x m r → Matched-pair s y m r
+  behind-pair =
+      matched-stays s (X .arrival) x (Y .arrival) y (X .stable) (Y .stable) (Y .arrived) (prefix s x (X .placed))
       (record {
         entered = behind-entered;
         order = B .order;
@@ -75,11 +75,11 @@ module _ {s : Sheet} (g : Valid s) {i j : List ℕ} {x y : Job} (X : Reached s i
           × (partner-at y k ≡ partner-at x k)
       go true w b r = absurd (X .shaped .only-half-unmatched k w e)
       go false w true r =
-          let met = behind-met (partner-at x k) k (X .stable .receive-met k r e) in
+          let met = behind-pair (partner-at x k) k (X .stable .receive-met k r e) in
           (met .receive-matched, met .to-message)
       go false w false r =
           let sends = kind-send s g k (X .placed .entered-only k (omega arith) .0) w r in
-          let met = behind-met k (partner-at x k) (X .stable .message-met k sends e) in
+          let met = behind-pair k (partner-at x k) (X .stable .message-pair k sends e) in
           (met .message-matched, met .to-receive)
 
   -- what is complete in x is complete in y
@@ -144,9 +144,9 @@ module _ {s : Sheet} (g : Valid s) {i j : List ℕ} {x y : Job} (X : Reached s i
 -- BEHIND BOTH WAYS
 module _ {s : Sheet} (g : Valid s) {i j : List ℕ} {x y : Job} (X : Reached s i x) (Y : Reached s j y) (B : Behind X Y)
     (C : Behind Y X) where
-  level-row : (k : ℕ) → (state-at y k ≡ state-at x k)
+  both-behind-row : (k : ℕ) → (state-at y k ≡ state-at x k)
       × (row-of s k (state-at y k) (partner-at y k) ≡ row-of s k (state-at x k) (partner-at x k))
-  level-row k = go (ℕ-discrete (state-at x k) 3) (ℕ-discrete (state-at y k) 3) (ℕ-discrete (state-at x k) 0)
+  both-behind-row k = go (ℕ-discrete (state-at x k) 3) (ℕ-discrete (state-at y k) 3) (ℕ-discrete (state-at x k) 0)
     where
       bare : state-at y k ≡ state-at x k → state-at x k ≢ 3 →
           (state-at y k ≡ state-at x k) × (row-of s k (state-at y k) (partner-at y k) ≡ row-of s k (state-at x k)
@@ -174,5 +174,5 @@ module _ {s : Sheet} (g : Valid s) {i j : List ℕ} {x y : Job} (X : Reached s i
           let there : Entered x k = omega arith in
           bare (Y .shaped .unmatched k (behind-entered g X Y B k there) c ∙ sym (X .shaped .unmatched k there d)) d
 
-  pub level-rows : (k : ℕ) → entry-at y k ≡ entry-at x k
-  level-rows k = Y .shaped .row k ∙ level-row k .1 ∙ sym (X .shaped .row k)
+  pub both-behind-rows : (k : ℕ) → entry-at y k ≡ entry-at x k
+  both-behind-rows k = Y .shaped .row k ∙ both-behind-row k .1 ∙ sym (X .shaped .row k)

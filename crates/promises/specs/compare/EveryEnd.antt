@@ -1,7 +1,7 @@
 -- On a calm sheet every order stays behind every end: let no board of y be able; a board that is able in x, which is behind
 -- y, stands before its place in y, so that x stepped is behind y still. Two ends are therefore behind each other, and alike.
 --   step-behind       one step; left-behind: a whole order
---   ends-like         two ends
+--   ends-same-positions         two ends
 -- Assumes nothing.
 use mathlib.Core.Path.{_≡_, refl, sym, ap, subst, _∙_}
 use mathlib.Core.Bool.{Bool, true, false, _||_, cond}
@@ -17,7 +17,7 @@ use Rattle.rules.specs.Step.{able, step, next-op, in-waiting-half, is-none}
 use Rattle.rules.specs.Claims.{calm, left-by}
 use Rattle.laws.specs.Tests.{true-not-false}
 use Rattle.invariant.specs.sheet.Valid.{Valid}
-use Rattle.invariant.specs.deliveries.Assumed.{Ground}
+use Rattle.invariant.specs.deliveries.Assumed.{Delivery-laws}
 use Rattle.laws.specs.Sums.{sum-below, sum-same}
 use Rattle.invariant.specs.Invariant.{reach, steps-done, Reached}
 use Rattle.invariant.specs.step.Places.{Next, Moved, able-next}
@@ -27,18 +27,18 @@ use Rattle.invariant.specs.step.Position.{position, position-finished, position
 use Rattle.promises.specs.compare.Behind.{Behind, still-able}
 use Rattle.promises.specs.compare.AfterStep.{finishing, position-on, moved-position, moved-position-other}
 use Rattle.promises.specs.compare.Exchange.{step-moved}
-use Rattle.promises.specs.compare.SamePositions.{Like}
+use Rattle.promises.specs.compare.SamePositions.{Same-positions}
 use Rattle.promises.specs.compare.CalmSheets.{calm-going, calm-order}
 
 -- x is reached, and behind y
-record Catching (s : Sheet) (i : List ℕ) (y x : Job) : Type 0 where
+record Reached-behind (s : Sheet) (i : List ℕ) (y x : Job) : Type 0 where
   reached : Reached s i x
   places : (r : ℕ) → r < P-of s → position x r ≤ position y r
 
 -- ONE STEP, of a calm sheet
-module _ {s : Sheet} (g : Valid s) (A : Ground s) (c : calm s ≡ true) (i : List ℕ) {j : List ℕ} (room : inbox-total s ≤ length i)
+module _ {s : Sheet} (g : Valid s) (A : Delivery-laws s) (c : calm s ≡ true) (i : List ℕ) {j : List ℕ} (room : inbox-total s ≤ length i)
     {y : Job} (Y : Reached s j y) (going : y .stop ≡ none) (end : (r : ℕ) → able s y r ≡ false) where
-  module _ {x : Job} (C : Catching s i y x) (r : ℕ) (a : able s x r ≡ true) where
+  module _ {x : Job} (C : Reached-behind s i y x) (r : ℕ) (a : able s x r ≡ true) where
     X : Reached s i x
     X = C .reached
 
@@ -109,7 +109,7 @@ module _ {s : Sheet} (g : Valid s) (A : Ground s) (c : calm s ≡ true) (i : Lis
             less (yes d) = absurd (not-between p q d o)
             less (no d) = omega (arith, e)
 
-    step-behind : Catching s i y (step s r x)
+    step-behind : Reached-behind s i y (step s r x)
     step-behind =
         record {
           reached = step-sound g A room X r a .reached;
@@ -122,9 +122,9 @@ module _ {s : Sheet} (g : Valid s) (A : Ground s) (c : calm s ≡ true) (i : Lis
 
   -- A WHOLE ORDER stays behind y
   pub left-behind : (rs : List ℕ) → (r : ℕ) → r < P-of s → position (left-by s rs i) r ≤ position y r
-  left-behind rs = left-keeps s (Catching s i y) (λ x r C a. step-behind C r a) rs i start .places
+  left-behind rs = left-keeps s (Reached-behind s i y) (λ x r C a. step-behind C r a) rs i start .places
     where
-      start : Catching s i y (started s i)
+      start : Reached-behind s i y (started s i)
       start =
           record {
             reached = start-reached g i;
@@ -132,7 +132,7 @@ module _ {s : Sheet} (g : Valid s) (A : Ground s) (c : calm s ≡ true) (i : Lis
           }
 
 -- on a calm sheet nothing stops
-pub calm-left : {s : Sheet} → Valid s → Ground s → calm s ≡ true → (rs lent : List ℕ) → inbox-total s ≤ length lent →
+pub calm-left : {s : Sheet} → Valid s → Delivery-laws s → calm s ≡ true → (rs lent : List ℕ) → inbox-total s ≤ length lent →
     Reached s lent (left-by s rs lent) × (left-by s rs lent .stop ≡ none)
 unfolding started job
 calm-left {s} g A c rs lent room =
@@ -152,11 +152,11 @@ steps-same {s} g x y same = sum-same (N-of s) (steps-done s x) (steps-done s y) 
         cc (position-finished x y r e, position-waiting x y r e)
 
 -- TWO ENDS
-pub ends-like : {s : Sheet} (g : Valid s) (A : Ground s) (c : calm s ≡ true) (a b lent : List ℕ) → inbox-total s ≤ length lent →
+pub ends-same-positions : {s : Sheet} (g : Valid s) (A : Delivery-laws s) (c : calm s ≡ true) (a b lent : List ℕ) → inbox-total s ≤ length lent →
     ((r : ℕ) → able s (left-by s a lent) r ≡ false) → ((r : ℕ) → able s (left-by s b lent) r ≡ false) →
-    (X : Reached s lent (left-by s a lent)) (Y : Reached s lent (left-by s b lent)) → Like X Y
+    (X : Reached s lent (left-by s a lent)) (Y : Reached s lent (left-by s b lent)) → Same-positions X Y
 unfolding is-none
-ends-like {s} g A c a b lent room end-a end-b X Y =
+ends-same-positions {s} g A c a b lent room end-a end-b X Y =
     record {
       stop = going-x ∙ sym going-y;
       steps =

@@ -2,7 +2,7 @@
 -- order, and they do not enter two messages that one any-source receive fits. After both orders the boards position alike and
 -- the messages that one receive could take came in the same order, so the jobs are alike.
 --   swap-able        the second step is able after the first
---   swap-like        the law
+--   swap-same-positions        the law
 -- Assumes nothing.
 use mathlib.Core.Path.{_≡_, refl, sym, ap, subst, _∙_}
 use mathlib.Core.Logic.{_⊎_, inl, inr, _≢_}
@@ -22,20 +22,20 @@ use Rattle.rules.specs.Claims.{is-any-source}
 use Rattle.laws.specs.Tests.{and-both}
 use Rattle.promises.specs.Statements.{Harmless}
 use Rattle.invariant.specs.sheet.Valid.{Valid}
-use Rattle.invariant.specs.deliveries.Assumed.{Ground}
+use Rattle.invariant.specs.deliveries.Assumed.{Delivery-laws}
 use Rattle.invariant.specs.sheet.Kinds.{send-not-only-half, fit-source}
 use Rattle.invariant.specs.Invariant.{Entered, reach, Reached, Extended}
 use Rattle.invariant.specs.matching.Monotone.{Same-order}
 use Rattle.invariant.specs.step.Places.{Next, Moved, able-next}
 use Rattle.invariant.specs.preserve.Step.{step-sound}
-use Rattle.promises.specs.compare.ArrivalGrowth.{Grew, grew-step, grew-both, grew-same, grew-order}
+use Rattle.promises.specs.compare.ArrivalGrowth.{Arrivals-grew, arrivals-step, arrivals-trans, arrivals-same-order, arrivals-order}
 use Rattle.invariant.specs.step.Position.{position}
 use Rattle.promises.specs.compare.Behind.{Behind, still-able, places-entered}
-use Rattle.promises.specs.compare.AfterStep.{After, goes-on, halts, step-after, step-counted, finishing, moved-position-other, position-next, position-moved, position-further, stop-stays}
-use Rattle.promises.specs.compare.SamePositions.{Like}
+use Rattle.promises.specs.compare.AfterStep.{After, continues, stops-job, step-after, step-counted, finishing, moved-position-other, position-next, position-moved, position-further, stop-stays}
+use Rattle.promises.specs.compare.SamePositions.{Same-positions}
 
 -- A STEP of p, after which the job goes on
-module _ {s : Sheet} (g : Valid s) (A : Ground s) {lent : List ℕ} (room : inbox-total s ≤ length lent) {x : Job}
+module _ {s : Sheet} (g : Valid s) (A : Delivery-laws s) {lent : List ℕ} (room : inbox-total s ≤ length lent) {x : Job}
     (X : Reached s lent x)
     (p : ℕ) (a : able s x p ≡ true) (going : step s p x .stop ≡ none) where
   abbrev pub E : Extended X (step s p x) (next-op s x p)
@@ -45,15 +45,15 @@ module _ {s : Sheet} (g : Valid s) (A : Ground s) {lent : List ℕ} (room : inbo
   step-moved = go (step-after g X p a)
     where
       go : After s x (step s p x) p → Moved x (step s p x) p (finishing s x p)
-      go (goes-on e m) = m
-      go (halts t e q k) = absurd (let z : _≡_ {A = ℕ} 0 1 = cc in omega arith)
+      go (continues e m) = m
+      go (stops-job t e q k) = absurd (let z : _≡_ {A = ℕ} 0 1 = cc in omega arith)
 
   -- the job is behind itself after the step
   step-ahead : Behind X (E .reached)
   step-ahead =
       record {
         places = λ r l. ahead r (ℕ-discrete r p);
-        order = grew-same (grew-step E);
+        order = arrivals-same-order (arrivals-step E);
       }
     where
       ahead : (r : ℕ) → Dec (r ≡ p) → position x r ≤ position (step s p x) r
@@ -65,7 +65,7 @@ module _ {s : Sheet} (g : Valid s) (A : Ground s) {lent : List ℕ} (room : inbo
   swap-able q d b = still-able g X (E .reached) step-ahead q (sym (moved-position-other step-moved q d)) b going
 
 -- BOTH STEPS, in both orders
-module _ {s : Sheet} (g : Valid s) (A : Ground s) {lent : List ℕ} (room : inbox-total s ≤ length lent) {x : Job}
+module _ {s : Sheet} (g : Valid s) (A : Delivery-laws s) {lent : List ℕ} (room : inbox-total s ≤ length lent) {x : Job}
     (X : Reached s lent x)
     (p q : ℕ) (d : p ≢ q) (a : able s x p ≡ true) (b : able s x q ≡ true) (H : Harmless s x p q) where
   -- a step after which the next one does not stop the job did not stop it
@@ -73,8 +73,8 @@ module _ {s : Sheet} (g : Valid s) (A : Ground s) {lent : List ℕ} (room : inbo
   went-on r k c e = go (step-after g X r c)
     where
       go : After s x (step s r x) r → step s r x .stop ≡ none
-      go (goes-on h m) = h
-      go (halts t h m n) = absurd (stop-stays s k (step s r x) t h e)
+      go (continues h m) = h
+      go (stops-job t h m n) = absurd (stop-stays s k (step s r x) t h e)
 
   going-p : step s p x .stop ≡ none
   going-p = went-on p q a (H .goes-on)
@@ -195,8 +195,8 @@ module _ {s : Sheet} (g : Valid s) (A : Ground s) {lent : List ℕ} (room : inbo
       go (inr e) (inl f) = no-meeting m k r f e sm sk rr fm fk gone out
       go (inr e) (inr f) = c (e ∙ sym f)
 
-  pub swap-like : Like (EPQ .reached) (EQP .reached)
-  swap-like =
+  pub swap-same-positions : Same-positions (EPQ .reached) (EQP .reached)
+  swap-same-positions =
       record {
         stop = H .goes-on ∙ sym (H .goes-on-swapped);
         steps =
@@ -204,20 +204,20 @@ module _ {s : Sheet} (g : Valid s) (A : Ground s) {lent : List ℕ} (room : inbo
             ∙ sym (step-counted g (EQ .reached) p able-p ∙ ap suc (step-counted g X q b));
         places = λ r l. swap-places r;
         order =
-            grew-order grew-pq grew-qp (λ k h. h) (λ k h. h) back same
+            arrivals-order grown-pq grown-qp (λ k h. h) (λ k h. h) back same
             (λ k m r sk sm rr fk fm hk hm. no-meetings k m r sk sm rr fk fm (back k hk) hm);
         order-back =
-            grew-order grew-qp grew-pq (λ k h. h) (λ k h. h) on same
+            arrivals-order grown-qp grown-pq (λ k h. h) (λ k h. h) on same
             (λ k m r sk sm rr fk fm hk hm. no-meetings k m r sk sm rr fk fm hk (back m hm));
       }
     where
-      grew-pq : Grew X (EPQ .reached)
-      grew-pq = grew-both (grew-step EP) (grew-step EPQ)
+      grown-pq : Arrivals-grew X (EPQ .reached)
+      grown-pq = arrivals-trans (arrivals-step EP) (arrivals-step EPQ)
 
-      grew-qp : Grew X (EQP .reached)
-      grew-qp = grew-both (grew-step EQ) (grew-step EQP)
+      grown-qp : Arrivals-grew X (EQP .reached)
+      grown-qp = arrivals-trans (arrivals-step EQ) (arrivals-step EQP)
 
-      same : Same-order s (X .came) x (X .came) x
+      same : Same-order s (X .arrival) x (X .arrival) x
       same k m r sk sm rr fk fm hm hk l = (hk, l)
 
       on : (k : ℕ) → Entered (step s q (step s p x)) k → Entered (step s p (step s q x)) k
