@@ -2,13 +2,13 @@
 -- fitting pair is pending, and each match took the earliest on both sides), a stable matching over given entered operations
 -- is unique, and rows, memory and buffer use follow from it. `Reached` collects what every job that an order leads to keeps;
 -- each field says who needs it.
---   Matched-pair        a message and a receive that are matched with each other
---   Stable     the matching is stable
---   Arrived    in which order the entered sends came
---   Placed     which operations are entered and complete, by where the boards stand
---   Shaped     a row is determined by its state and partner
---   Reached    all of it, and the waiting lists, charges, memory and steps
---   Extended   the invariant after a step, and what the step did to the order of arrival
+--   Matched-pair    a message and a receive that are matched with each other
+--   Stable          the matching is stable
+--   Arrived         in which order the entered sends came
+--   Placed          which operations are entered and complete, by where the boards stand
+--   Shaped          a row is determined by its state and partner
+--   Reached         all of it, and the waiting lists, charges, memory and steps
+--   Extended        the invariant after a step, and what the step did to the order of arrival
 -- Assumes nothing: these are definitions.
 use mathlib.Core.Path.{_≡_}
 use mathlib.Core.Logic.{_⊎_, _≢_}
@@ -31,7 +31,7 @@ state-at x j = entry-at x j .state
 abbrev pub partner-at : Job → (j : ℕ) → ℕ
 partner-at x j = entry-at x j .partner
 
--- an operation is entered by its initiating step, a wait by its only one
+-- an operation is entered by its initiating step, and one that is only a waiting half by that
 abbrev pub Entered : Job → (j : ℕ) → Type 0
 Entered x j = 1 ≤ state-at x j
 
@@ -94,7 +94,7 @@ pub record Placed (s : Sheet) (x : Job) : Type 0 where
   -- an operation is entered exactly when it lies before its board's reach (determinacy)
   pub entered-if : (j : ℕ) → j < N-of s → j < reach s x (rank-of s j) → Entered x j
   pub entered-only : (j : ℕ) → Entered x j → (j < N-of s) × (j < reach s x (rank-of s j))
-  -- a finished operation that is a wait or blocking had what it waited for complete (disjoint areas)
+  -- a finished operation with a waiting half had what it waited for complete (disjoint areas)
   pub passed-complete : (j : ℕ) → j < N-of s → j < next-op s x (rank-of s j) → no-half (op s j) ≡ false →
       half-complete s x j ≡ true
 
@@ -121,7 +121,7 @@ pub record Shaped (s : Sheet) (x : Job) : Type 0 where
 unfoldable pub charge-in : Sheet → Job → (r j : ℕ) → ℕ
 charge-in s x r j = cond (eqb (rank-of s j) r && eqb (state-at x j) 2) (charge-of (op s j)) 0
 
--- PAINTED: inboxes with every matched receive among the first n operations delivered, in script order
+-- REPLAYED: inboxes with every matched receive among the first n operations delivered, in script order
 unfoldable pub replay : Sheet → Job → (j : ℕ) → List ℕ → List ℕ
 replay s x j bs = cond (is-receive (op s j) && eqb (state-at x j) 3) (delivered s (partner-at x j) j bs) bs
 
@@ -129,7 +129,7 @@ unfoldable pub replayed : Sheet → Job → (n : ℕ) → List ℕ → List ℕ
 replayed s x zero bs = bs
 replayed s x (suc j) bs = replay s x j (replayed s x j bs)
 
--- STEPS that operation j has taken: a blocking send or receive has two, a wait and a nonblocking operation one
+-- STEPS that operation j has taken: one that has both an initiating step and a waiting half has two
 unfoldable pub steps-of : Op → ℕ
 steps-of o = cond (no-half o || only-half o) 1 2
 

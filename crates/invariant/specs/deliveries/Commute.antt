@@ -24,7 +24,7 @@ use Rattle.laws.specs.Splice.{splice-length}
 use Rattle.laws.specs.SpliceOrder.{within, within-low, within-high, splice-at, splice-swap}
 use Rattle.invariant.specs.sheet.Extents.{send-extent, area-inside, areas-disjoint}
 use Rattle.invariant.specs.sheet.Areas.{held-apart}
-use Rattle.invariant.specs.deliveries.Assumed.{Delivery-laws, Apart}
+use Rattle.invariant.specs.deliveries.Laws.{Delivery-laws, Areas-apart}
 
 -- the bytes that a match copies
 abbrev pub copied-bytes : Sheet → (m r : ℕ) → List ℕ
@@ -108,6 +108,6 @@ ground s g =
       delivered-length = λ m r bs a room. delivered-length s g m r (a .receives) bs room;
     }
   where
-    one-board : (r q : ℕ) → Apart s r q → rank-of s r ≡ rank-of s q → share (op s r) (op s q) ≡ false
+    one-board : (r q : ℕ) → Areas-apart s r q → rank-of s r ≡ rank-of s q → share (op s r) (op s q) ≡ false
     one-board r q (inl d) e = absurd (d e)
     one-board r q (inr h) e = h

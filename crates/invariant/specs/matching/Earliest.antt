@@ -1,5 +1,8 @@
 -- A new match took the earliest on both sides: the search found the earliest on one side, and stability of what was before
--- gives the other. One law where a receive enters and one where a message does. Assumes nothing.
+-- gives the other.
+--   first-for-receive    where a receive enters
+--   first-for-message    where a message enters
+-- Assumes nothing.
 use mathlib.Core.Path.{_≡_, sym, ap, _∙_}
 use mathlib.Core.Logic.{_≢_}
 use mathlib.Core.Bool.{true}

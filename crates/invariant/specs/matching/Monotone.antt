@@ -1,6 +1,11 @@
 -- A stable matching only grows. Let y have entered whatever x has, and let messages that one receive could take have come in
--- the same order: then what is matched in x is matched alike in y. This is why a job is determined by where its boards
--- stand. Assumes nothing.
+-- the same order: then what is matched in x is matched alike in y. This is why a job is determined by where its boards stand.
+--   Same-order           messages that one receive could take came in the same order
+--   Within               y has entered whatever x has, and the order is the same
+--   Prefix               on one board everything before an entered operation is entered
+--   pair-receive-same, pair-message-same    pairs are one to one
+--   matched-stays        the law
+-- Assumes nothing.
 use mathlib.Core.Path.{_≡_, sym, ap, subst, _∙_}
 use mathlib.Core.Logic.{_≢_}
 use mathlib.Core.Bool.{true}

@@ -1,8 +1,10 @@
--- What a step does to the rows, said relationally. Every initiating step and every wait enters its operation i: unmatched
--- (`Enters`), or matched with a pending one (`Matches`). Either way the rows grow (`Grows`), which is what most proofs ask.
---   Grows           matched rows stay, i enters, nothing else does
---   Enters          operation i enters unmatched
---   Matches         message m and receive r are matched; one of them is i, which enters
+-- What a step does to the rows, said relationally. Every initiating step, and every step of an operation that is only a waiting
+-- half, enters its operation i: unmatched (`Enters`), or matched with a pending one (`Matches`). Either way the rows grow
+-- (`Grows`), which is what most proofs ask.
+--   Grows              matched rows stay, i enters, nothing else does; grows-pair, grows-message, grows-receive
+--   Enters             operation i enters unmatched; enters-state, enters-differ, enters-grows
+--   Matches            message m and receive q are matched; one of them is i, which enters; matches-pair, matches-grows, matches-split
+--   state-same, partner-same, state-name, pair-same    rows that are equal, and one row under two names
 -- Assumes nothing.
 use mathlib.Core.Path.{_≡_, sym, ap, _∙_}
 use mathlib.Core.Logic.{_⊎_, inl, inr, _≢_}

@@ -1,5 +1,7 @@
--- The state of an entered operation that is not matched, by its kind: a wait is finished, a buffered send is buffered, any
--- other send and every receive is pending. Assumes nothing.
+-- The state of an entered operation that is not matched: what is only a waiting half is finished, a buffered send is buffered,
+-- any other send and every receive is pending.
+--   unmatched-send, unmatched-receive, unmatched-only-half
+-- Assumes nothing.
 use mathlib.Core.Path.{_≡_, ap, _∙_}
 use mathlib.Core.Bool.{Bool, true, cond}
 use Prim.Native.Nat.{ℕ}

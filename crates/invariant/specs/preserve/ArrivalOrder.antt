@@ -1,4 +1,8 @@
--- The order of arrival after a step: the operation that enters is last. Assumes nothing.
+-- The order of arrival after a step: the operation that enters is last.
+--   arrival-with      the order of arrival with one operation more; arrival-same, arrival-other
+--   arrives-later     the operation that enters came after all that were entered
+--   arrived-step      a step keeps `Arrived`
+-- Assumes nothing.
 use mathlib.Core.Path.{_≡_, refl, sym, ap, _∙_}
 use mathlib.Core.Logic.{_≢_}
 use mathlib.Core.Bool.{Bool, true, cond}

@@ -22,7 +22,7 @@ use Rattle.rules.specs.Job.{Job, Entry, entry-at, place-at}
 use Rattle.rules.specs.Step.{next-op, delivered, half-complete, complete, complete-if, waited}
 use Rattle.laws.specs.Tests.{true-not-false}
 use Rattle.invariant.specs.sheet.Valid.{Valid}
-use Rattle.invariant.specs.deliveries.Assumed.{Delivery-laws, Pair, Apart}
+use Rattle.invariant.specs.deliveries.Laws.{Delivery-laws, Pair, Areas-apart}
 use Rattle.invariant.specs.sheet.Kinds.{is-true, send-not-receive, receive-not-frees, receive-no-half-takes, frees-not-no-half}
 use Rattle.invariant.specs.Invariant.{Entered, state-at, partner-at, replay, replayed, reach, Placed, Shaped, Stable}
 use Rattle.invariant.specs.matching.RowChanges.{Enters, Matches, state-name, enters-state, matches-pair, matches-receive-state}
@@ -154,10 +154,10 @@ module _ {s : Sheet} (g : Valid s) (A : Delivery-laws s) {arrival : ℕ → ℕ}
 
   -- the area of a receive that is not matched, and of a later one that is entered
   pending-apart : (r q : ℕ) → r < q → r < N-of s → is-receive (op s r) ≡ true → is-receive (op s q) ≡ true → state-at x r ≢ 3 →
-      Entered x q → Apart s r q
+      Entered x q → Areas-apart s r q
   pending-apart r q l inside receives-r receives-q free entered = go (ℕ-discrete (rank-of s r) (rank-of s q))
     where
-      go : Dec (rank-of s r ≡ rank-of s q) → Apart s r q
+      go : Dec (rank-of s r ≡ rank-of s q) → Areas-apart s r q
       go (no d) = inl d
       go (yes e) =
           let there : Entered x r = prefix s x p r q entered l e in

@@ -18,7 +18,7 @@ use Rattle.rules.specs.Order.{followed, follow-from, follow}
 use Rattle.rules.specs.Claims.{left-by}
 use Rattle.laws.specs.Tests.{true-not-false}
 use Rattle.invariant.specs.sheet.Valid.{Valid}
-use Rattle.invariant.specs.deliveries.Assumed.{Delivery-laws}
+use Rattle.invariant.specs.deliveries.Laws.{Delivery-laws}
 use Rattle.laws.specs.Sums.{sum-zero}
 use Rattle.invariant.specs.Invariant.{Entered, state-at, partner-at, reach, steps-done, steps-of, charge-in, row-of, Reached}
 use Rattle.invariant.specs.preserve.Charges.{charge-none}

@@ -1,8 +1,10 @@
 -- A step moves its board on by one, and keeps `Placed`.
---   Advances        what becomes entered by a step of operation i
---   Ongoing            a step that goes on: where its board goes, and why it may
---   placed-step     the places stay right
---   prefix          on one board everything before an entered operation is entered
+--   Advances            what becomes entered by a step of operation i
+--   Ongoing             a step that goes on: where its board goes, and why it may
+--   half-complete-on    complete stays complete
+--   prefix              on one board everything before an entered operation is entered
+--   next-here, reach-here, next-other ..    the operations that are next and reached after the step
+--   placed-step         the places stay right
 -- Assumes nothing.
 use mathlib.Core.Path.{_≡_, refl, sym, ap, subst, _∙_}
 use mathlib.Core.Logic.{_≢_}

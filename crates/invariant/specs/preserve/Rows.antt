@@ -1,4 +1,7 @@
--- A row is determined by its state and partner, after a step as before. Assumes nothing.
+-- A row is determined by its state and partner, after a step as before.
+--   row-bare, row-message, row-receive                the three rows
+--   shaped-same, shaped-enters, shaped-matches        `Shaped` where no row changed, where one entered, after a match
+-- Assumes nothing.
 use mathlib.Core.Path.{_≡_, sym, ap, subst, _∙_}
 use mathlib.Core.Logic.{_≢_}
 use mathlib.Core.Bool.{Bool, true, false, cond}

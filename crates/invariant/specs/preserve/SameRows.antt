@@ -1,4 +1,6 @@
 -- Jobs with the same rows: what the rows alone decide holds of both. Used where a step ends a waiting half or stops the job.
+--   Same-rows, rows-same                                          the relation
+--   stable-same, arrived-same, messages-same, receives-same       the parts of the invariant
 -- Assumes nothing.
 use mathlib.Core.Path.{_≡_, sym, ap, subst, _∙_}
 use mathlib.Core.List.{List}

@@ -1,6 +1,8 @@
 -- An able step keeps the whole invariant.
---   Parts           what is to be shown of a step that goes on; extended-ongoing: the rest follows from where the boards stand
---   step-sound      the law
+--   Parts               what is to be shown of a step that goes on
+--   extended-ongoing    the rest follows from where the boards stand
+--   sound-half ..       the parts, case by case of `Outcome`
+--   step-sound          the law
 -- Assumes nothing.
 use mathlib.Core.Path.{_≡_, refl, sym, ap, subst, _∙_}
 use mathlib.Core.Logic.{_⊎_, inl, inr, _≢_}
@@ -18,7 +20,7 @@ use Rattle.rules.specs.Job.{Job, Stop, place-at}
 use Rattle.rules.specs.Step.{able, step, next-op, first-message, first-receive, fits-with, delivered, is-none, fits-buffer, charge-of}
 use Rattle.laws.specs.Tests.{not-so, true-not-false}
 use Rattle.invariant.specs.sheet.Valid.{Valid}
-use Rattle.invariant.specs.deliveries.Assumed.{Delivery-laws}
+use Rattle.invariant.specs.deliveries.Laws.{Delivery-laws}
 use Rattle.invariant.specs.sheet.Kinds.{send-not-only-half, receive-not-only-half, receive-not-send, send-not-receive}
 use Rattle.laws.specs.Sums.{sum-below, sum-same}
 use Rattle.laws.specs.WaitingLists.{Holds, first-by-none, first-by-some}
@@ -40,7 +42,7 @@ use Rattle.invariant.specs.preserve.Memory.{replayed-length, replayed-ro
 use Rattle.invariant.specs.preserve.SameRows.{Same-rows, rows-same, stable-same, arrived-same, messages-same, receives-same}
 use Rattle.invariant.specs.matching.Earliest.{first-for-receive, first-for-message}
 use Rattle.invariant.specs.preserve.Stop.{stops-extended}
-use Rattle.invariant.specs.preserve.NextPart.{ongoing-initiating, ongoing-only-half, ongoing-half}
+use Rattle.invariant.specs.preserve.OngoingSteps.{ongoing-initiating, ongoing-only-half, ongoing-half}
 
 -- what is to be shown of a step that goes on and takes x to y, where `came` is the order of arrival in y
 record Parts {s : Sheet} {lent : List ℕ} {x : Job} (R : Reached s lent x) (y : Job) (i : ℕ) (arrival : ℕ → ℕ) : Type 0 where

@@ -1,4 +1,5 @@
 -- A stopping step keeps the invariant: it changes nothing but the stop and the count of steps, and its operation isn't entered.
+--   stops-extended    the law
 -- Assumes nothing.
 use mathlib.Core.Path.{_≡_, refl, sym, ap, subst, _∙_}
 use mathlib.Core.Logic.{_⊎_}

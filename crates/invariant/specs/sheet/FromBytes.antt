@@ -1,6 +1,6 @@
--- Bytes that pass check decode to a good sheet: each number of the refusal table settles its part of `Valid`.
+-- Bytes that pass check decode to a valid sheet: each number of the refusal table settles its part of `Valid`.
 --   Accepted          the tests that bytes with no refusal have passed
---   valid-from-bytes   passes bs gives Valid (sheet-in bs)
+--   valid-from-bytes  passes bs gives Valid (sheet-in bs)
 -- Assumes nothing.
 use mathlib.Core.Path.{_≡_, refl, sym, subst}
 use mathlib.Core.Bool.{Bool, true, false, _&&_, not, cond}

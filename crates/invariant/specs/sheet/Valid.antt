@@ -1,5 +1,8 @@
 -- What a sheet that passes check is known to be. Everything proved about jobs starts from this record and from nothing else
--- about the sheet's bytes. Assumes nothing.
+-- about the sheet's bytes.
+--   Valid         the parts
+--   good-first    a board's first operation is the sum of the counts before it
+-- Assumes nothing.
 use mathlib.Core.Path.{_≡_}
 use mathlib.Core.Bool.{true, _&&_}
 use Prim.Native.Nat.{ℕ, suc, _+_, _≤_, _<_}

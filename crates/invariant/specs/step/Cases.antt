@@ -1,8 +1,8 @@
--- What a step of an able board does, in the six ways that it can go, each a record: a waiting half ends, a wait ends, a receive
--- is posted, a send is pending, a message and a receive are matched, the job stops. Effects.antt reads `step` once to find one
--- of them; all other proofs go by `Outcome`.
---   Ends-half, Ends-only-half, Posts, Pends, Match-step, Stops     the six
---   Outcome                                              one of them
+-- What a step of an able board does, in the six ways that it can go, each a record: a waiting half ends, the only half of an
+-- operation ends, a receive is posted, a send is pending, a message and a receive are matched, the job stops. CasesHold reads
+-- `step` once to find one of them; all other proofs go by `Outcome`.
+--   Ends-half, Ends-only-half, Posts, Pends, Match-step, Stops    the six
+--   Outcome                                                       one of them
 -- Assumes nothing: these are definitions.
 use mathlib.Core.Path.{_≡_}
 use mathlib.Core.Logic.{_⊎_}
@@ -30,7 +30,7 @@ pub record Ends-half (s : Sheet) (x y : Job) (r i : ℕ) : Type 0 where
   pub receives : y .receives ≡ x .receives
   pub memory : y .memory ≡ x .memory
 
--- a wait ends: its row says so
+-- the only half of an operation ends: its row says so
 pub record Ends-only-half (s : Sheet) (x y : Job) (r i : ℕ) : Type 0 where
   pub not-waiting : place-at x r .waiting ≡ false
   pub waits : only-half (op s i) ≡ true

@@ -1,4 +1,7 @@
--- A step of an able board has one of the outcomes of Outcome.antt: each rule of `step`, read once. Assumes nothing.
+-- A step of an able board goes one of the ways of Cases: each rule of `step`, read once.
+--   outcome-half, outcome-only-half, outcome-posts, outcome-pends, outcome-matches    the ways, and what the job is after each
+--   outcome                                                                           the law
+-- Assumes nothing.
 use mathlib.Core.Path.{_≡_, refl, sym, subst, _∙_}
 use mathlib.Core.Logic.{_⊎_, inl, inr, _≢_}
 use mathlib.Core.Bool.{Bool, true, false, _||_, cond}
@@ -64,7 +67,7 @@ module _ (s : Sheet) (g : Valid s) (lent : List ℕ) (x : Job) (R : Reached s le
             memory = refl;
           })
 
-  -- a wait ends
+  -- the only half of an operation ends
   outcome-only-half : place-at x r .waiting ≡ false → only-half (op s here) ≡ true → Outcome s x (counted (ended s r here x)) r here
   unfolding ended with-place with-places with-steps with-state with-entries job place-at
   outcome-only-half w e = go (only-half (op s here)) e

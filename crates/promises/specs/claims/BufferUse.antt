@@ -16,7 +16,7 @@ use Rattle.rules.specs.Step.{able, step}
 use Rattle.rules.specs.Order.{follow-from, followed}
 use Rattle.promises.specs.Statements.{pending-charges, most-in-use}
 use Rattle.invariant.specs.sheet.Valid.{Valid}
-use Rattle.invariant.specs.deliveries.Assumed.{Delivery-laws}
+use Rattle.invariant.specs.deliveries.Laws.{Delivery-laws}
 use Rattle.laws.specs.Sums.{sum-below}
 use Rattle.invariant.specs.Invariant.{charge-in, Reached}
 use Rattle.invariant.specs.step.Places.{moved-peak}

@@ -1,6 +1,6 @@
--- What every order keeps, said of a sheet's bytes and the lent inboxes: bytes that pass give a good sheet, an order keeps
+-- What every order keeps, said of a sheet's bytes and the lent inboxes: bytes that pass give a valid sheet, an order keeps
 -- the invariant, and so the statements about one job hold of whatever an order leaves.
---   lent-valid, lent-reached     a good sheet; the invariant of the job that an order leaves
+--   lent-valid, lent-reached     a valid sheet; the invariant of the job that an order leaves
 --   deliveries, verdicts, in-use, peaks
 -- Assumes nothing.
 use mathlib.Core.List.{List}

@@ -1,4 +1,5 @@
 -- A run's order is accepted by follow and leads to the same job, within two steps an operation, where no board is able.
+--   run-ended    the statement Run-ends, of one valid sheet
 -- Assumes nothing.
 use mathlib.Core.Path.{_≡_, refl, sym, ap, _∙_}
 use mathlib.Core.Bool.{Bool, true, cond}
@@ -15,7 +16,7 @@ use Rattle.rules.specs.Order.{Followed, followed, follow-from, follow, next-ran
 use Rattle.rules.specs.Claims.{accepts, left-by}
 use Rattle.promises.specs.Statements.{Ends}
 use Rattle.invariant.specs.sheet.Valid.{Valid}
-use Rattle.invariant.specs.deliveries.Assumed.{Delivery-laws}
+use Rattle.invariant.specs.deliveries.Laws.{Delivery-laws}
 use Rattle.invariant.specs.Invariant.{Reached}
 use Rattle.invariant.specs.preserve.StepCount.{able-room}
 use Rattle.invariant.specs.step.LowestAble.{next-some}

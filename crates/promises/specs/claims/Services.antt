@@ -42,7 +42,7 @@ front-alike {s} h =
       reports = h .1;
     }
 
--- like jobs on rooms that start with the same bytes
+-- jobs at the same places, on rooms that start with the same bytes
 front-same-positions : {s : Sheet} → Valid s → {i j : List ℕ} {x y : Job} {X : Reached s i x} {Y : Reached s j y} → Same-positions X Y →
     Near (inbox-total s) i j → Alike-front s x y
 front-same-positions {s} g {i} {j} {x} {y} K h =

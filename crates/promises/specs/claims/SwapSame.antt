@@ -17,7 +17,7 @@ use Rattle.rules.specs.Claims.{accepts, left-by, calm, Alike}
 use Rattle.laws.specs.Tests.{true-not-false}
 use Rattle.promises.specs.Statements.{Lent, Harmless, Swap-general, Swap-same, Follow-swaps}
 use Rattle.invariant.specs.sheet.Valid.{Valid}
-use Rattle.invariant.specs.deliveries.Assumed.{Delivery-laws}
+use Rattle.invariant.specs.deliveries.Laws.{Delivery-laws}
 use Rattle.invariant.specs.Invariant.{Reached}
 use Rattle.invariant.specs.deliveries.Commute.{ground}
 use Rattle.promises.specs.compare.WholeOrders.{Left-same-positions, positions-follow, follow-join, follow-two}

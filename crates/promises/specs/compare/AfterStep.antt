@@ -1,6 +1,9 @@
--- What a step does to the stop and to where the boards position, by what was known before it.
---   stop-after, step-stop    whether and how a step stops the job
---   After, step-after        the boards' places after a step that goes on, and after one that stops
+-- What a step does to the stop and to where the boards stand, by what was known before it.
+--   stop-after, step-stop      whether and how a step stops the job; stop-stays: a stopped job stays stopped
+--   finishing                  whether a step that goes on finishes its operation
+--   After, step-after          the boards' places after a step that goes on (`continues`), and after one that stops (`stops-job`)
+--   step-counted               every step is counted
+--   moved-position ..          where the board stands then; position-next, position-half, position-moved: what its place decides
 -- Assumes nothing.
 use mathlib.Core.Path.{_≡_, refl, sym, ap, subst, _∙_}
 use mathlib.Core.Logic.{_⊎_, inl, inr, _≢_}

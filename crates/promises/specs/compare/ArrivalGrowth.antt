@@ -1,7 +1,9 @@
 -- The order of arrival along several steps: what was entered keeps its place, and what enters comes after it. So two jobs
 -- that grew from jobs with one order of arrival have one order, unless they differ among what entered since.
---   Arrivals-grew             x grew to y; arrivals-step, arrivals-trans (one step, and one after another)
---   arrivals-order       the law
+--   Arrivals-grew          x grew to y
+--   arrivals-step          by one step; arrivals-trans: and by one after another
+--   arrivals-same-order    the order of arrival in x is that in y
+--   arrivals-order         the law
 -- Assumes nothing.
 use mathlib.Core.Path.{_≡_, ap, _∙_}
 use mathlib.Core.Logic.{_≢_}

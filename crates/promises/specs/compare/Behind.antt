@@ -2,9 +2,10 @@
 -- that one receive could take have come in the same order: then what is matched in x is matched alike in y, what is complete
 -- in x is complete in y, and a board that stands where it stood and was able is able still. Behind both ways, the rows are
 -- the same.
---   Behind           x is behind y
---   behind-pair, behind-complete, still-able
---   both-behind-rows       behind both ways: the same rows
+--   Behind                                                           x is behind y
+--   behind-entered, behind-pair, behind-matched, behind-complete     what then holds of y
+--   still-able                                                       a board that stands where it stood
+--   both-behind-rows                                                 behind both ways: the same rows
 -- Assumes nothing.
 use mathlib.Core.Path.{_≡_, refl, sym, ap, _∙_}
 use mathlib.Core.Logic.{_≢_}

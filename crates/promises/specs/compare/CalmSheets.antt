@@ -1,7 +1,7 @@
 -- Calm sheets never stop, and messages that one receive could take come in script order. The charges in use on a board are
 -- of its buffered sends that are entered, so together with the one that enters they come to at most the charges of all of
 -- them, which the attached buffer covers.
---   calm-op        no any-source receive, no ready send
+--   calm-op          no any-source receive, no ready send
 --   calm-covered     the attached buffer covers the charges of a board's script
 --   calm-going       an able step goes on
 --   calm-order       one order of arrival

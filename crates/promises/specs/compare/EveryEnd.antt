@@ -1,7 +1,8 @@
 -- On a calm sheet every order stays behind every end: let no board of y be able; a board that is able in x, which is behind
 -- y, stands before its place in y, so that x stepped is behind y still. Two ends are therefore behind each other, and alike.
---   step-behind       one step; left-behind: a whole order
---   ends-same-positions         two ends
+--   step-behind            one step; left-behind: a whole order
+--   calm-left              an order on a calm sheet never stops
+--   ends-same-positions    two ends
 -- Assumes nothing.
 use mathlib.Core.Path.{_≡_, refl, sym, ap, subst, _∙_}
 use mathlib.Core.Bool.{Bool, true, false, _||_, cond}
@@ -17,7 +18,7 @@ use Rattle.rules.specs.Step.{able, step, next-op, in-waiting-half, is-none}
 use Rattle.rules.specs.Claims.{calm, left-by}
 use Rattle.laws.specs.Tests.{true-not-false}
 use Rattle.invariant.specs.sheet.Valid.{Valid}
-use Rattle.invariant.specs.deliveries.Assumed.{Delivery-laws}
+use Rattle.invariant.specs.deliveries.Laws.{Delivery-laws}
 use Rattle.laws.specs.Sums.{sum-below, sum-same}
 use Rattle.invariant.specs.Invariant.{reach, steps-done, Reached}
 use Rattle.invariant.specs.step.Places.{Next, Moved, able-next}
@@ -62,7 +63,7 @@ module _ {s : Sheet} (g : Valid s) (A : Delivery-laws s) (c : calm s ≡ true) (
     moved : Moved x (step s r x) r (finishing s x r)
     moved = step-moved g A room X r a (calm-going g c X r a)
 
-    -- a nonblocking operation and a wait have no waiting half in which y could position
+    -- an operation that is finished in one step has no waiting half in which y could stand
     not-between : in-waiting-half s x r || no-half (op s (next-op s x r)) ≡ true → place-at x r .waiting ≡ false →
         place-at y r .finished ≡ place-at x r .finished → place-at y r .waiting ≡ true → ⊥
     unfolding in-waiting-half next-op
@@ -139,7 +140,7 @@ calm-left {s} g A c rs lent room =
     left-keeps s (λ x. Reached s lent x × (x .stop ≡ none))
     (λ x r h a. (step-sound g A room (h .0) r a .reached, calm-going g c (h .0) r a)) rs lent (start-reached g lent, refl)
 
--- STEPS by where the boards position
+-- STEPS by where the boards stand
 steps-same : {s : Sheet} → Valid s → (x y : Job) → ((r : ℕ) → r < P-of s → position x r ≡ position y r) →
     sum-below (N-of s) (steps-done s x) ≡ sum-below (N-of s) (steps-done s y)
 unfolding steps-done reach next-op

@@ -1,8 +1,9 @@
 -- Two neighbouring able steps of different boards may be exchanged, on any sheet: where neither stops the job in either
--- order, and they do not enter two messages that one any-source receive fits. After both orders the boards position alike and
+-- order, and they do not enter two messages that one any-source receive fits. After both orders the boards stand alike and
 -- the messages that one receive could take came in the same order, so the jobs are alike.
---   swap-able        the second step is able after the first
---   swap-same-positions        the law
+--   step-moved             where the boards stand after a step that goes on
+--   swap-able              the second step is able after the first
+--   swap-same-positions    the law
 -- Assumes nothing.
 use mathlib.Core.Path.{_≡_, refl, sym, ap, subst, _∙_}
 use mathlib.Core.Logic.{_⊎_, inl, inr, _≢_}
@@ -22,7 +23,7 @@ use Rattle.rules.specs.Claims.{is-any-source}
 use Rattle.laws.specs.Tests.{and-both}
 use Rattle.promises.specs.Statements.{Harmless}
 use Rattle.invariant.specs.sheet.Valid.{Valid}
-use Rattle.invariant.specs.deliveries.Assumed.{Delivery-laws}
+use Rattle.invariant.specs.deliveries.Laws.{Delivery-laws}
 use Rattle.invariant.specs.sheet.Kinds.{send-not-only-half, fit-source}
 use Rattle.invariant.specs.Invariant.{Entered, reach, Reached, Extended}
 use Rattle.invariant.specs.matching.Monotone.{Same-order}

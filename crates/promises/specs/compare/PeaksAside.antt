@@ -1,10 +1,9 @@
 -- Two jobs that differ in peaks, waiting lists and memory at most: the same boards are able, and the reports without peaks
 -- are equal.
---   Equal-but-peaks             the same rows, stop, steps and places, peaks aside
---   equal-able        the same boards are able
---   equal-none-able   and none is in both
---   equal-report      the reports without peaks are equal
---   equal-alike       with equal memory the jobs are alike
+--   Equal-but-peaks    the same rows, stop, steps and places, peaks aside
+--   equal-able         the same boards are able; equal-none-able: and none is in both
+--   equal-report       the reports without peaks are equal
+--   equal-alike        with equal memory the jobs are alike
 -- Assumes nothing.
 use mathlib.Core.Path.{_≡_, refl, sym, ap, _∙_}
 use mathlib.Core.Bool.{Bool, true, false, _&&_, _||_, not, cond}

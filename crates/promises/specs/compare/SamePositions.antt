@@ -1,8 +1,8 @@
--- Jobs whose boards position alike, and in which messages that one receive could take came in the same order, are alike: the
--- same rows, use and ables; a step of one board keeps them so, and so does the rest of an order.
---   Like             the relation; positions-rows, positions-in-use, positions-equal, positions-able
---   positions-step        one step
---   positions-follow      a whole order: refused at the same index, and alike where it was left
+-- Jobs whose boards stand at the same places, and in which messages that one receive could take came in the same order: the
+-- same rows, use and ables; a step of one board keeps them so.
+--   Same-positions                                      the relation
+--   positions-rows, positions-in-use, positions-able    what is equal in both; positions-equal: all but peaks and memory
+--   positions-step                                      one step
 -- Assumes nothing.
 use mathlib.Core.Path.{_≡_, refl, sym, ap, subst, _∙_}
 use mathlib.Core.Logic.{_≢_}
@@ -20,7 +20,7 @@ use Rattle.rules.specs.Job.{Job, Stop, bare-entry, entry-at, place-at}
 use Rattle.rules.specs.Step.{able, step, next-op, is-none, first-by, first-receive, fits-with, fits-buffer, charge-of}
 use Rattle.laws.specs.Tests.{true-not-false}
 use Rattle.invariant.specs.sheet.Valid.{Valid}
-use Rattle.invariant.specs.deliveries.Assumed.{Delivery-laws}
+use Rattle.invariant.specs.deliveries.Laws.{Delivery-laws}
 use Rattle.laws.specs.Sums.{sum-same}
 use Rattle.laws.specs.WaitingLists.{first-by-none, first-by-some}
 use Rattle.invariant.specs.Invariant.{Entered, charge-in, Pending-receive, Reached, Extended}

@@ -1,4 +1,4 @@
--- Like jobs that started from the same inboxes are alike.
+-- Jobs whose boards stand at the same places, and which started from the same inboxes, are alike.
 --   positions-memory    their memories are equal
 --   positions-alike     so the jobs are alike
 -- Assumes nothing.

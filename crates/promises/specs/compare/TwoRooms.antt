@@ -1,7 +1,7 @@
 -- Nothing in the inboxes influences a step: an order is followed alike on any two rooms that are long enough, and where they
 -- start with the same bytes, so do the inboxes that it leaves.
---   rooms-same-positions     one order, two rooms
---   positions-near      the inboxes of like jobs start with the same bytes if the lent ones did
+--   rooms-same-positions    one order, two rooms
+--   positions-near          the inboxes of two such jobs start with the same bytes if the lent ones did
 -- Assumes nothing.
 use mathlib.Core.Path.{_≡_, refl, sym, subst, _∙_}
 use mathlib.Core.Bool.{Bool, true, false, _&&_, cond}
@@ -14,7 +14,7 @@ use Rattle.rules.specs.Job.{Job, job, started}
 use Rattle.rules.specs.Step.{delivered}
 use Rattle.rules.specs.Order.{follow}
 use Rattle.invariant.specs.sheet.Valid.{Valid}
-use Rattle.invariant.specs.deliveries.Assumed.{Delivery-laws}
+use Rattle.invariant.specs.deliveries.Laws.{Delivery-laws}
 use Rattle.invariant.specs.Invariant.{state-at, partner-at, replay, replayed, Reached}
 use Rattle.invariant.specs.matching.Monotone.{Same-order}
 use Rattle.laws.specs.SpliceOrder.{Near, splice-near}

@@ -1,8 +1,9 @@
--- Like jobs are followed alike: refused at the same index, and like where they were left. And how follow goes over an order
--- that is joined of two.
+-- Jobs whose boards stand at the same places are followed alike: refused at the same index, and at the same places where they
+-- were left. And how follow goes over an order that is joined of two.
+--   Left-same-positions    what two calls of follow left
 --   positions-follow       a whole order
---   follow-join       an accepted beginning, and then the rest
---   follow-two        two steps that are able
+--   follow-join            an accepted beginning, and then the rest
+--   follow-two             two steps that are able
 -- Assumes nothing.
 use mathlib.Core.Path.{_≡_, refl, sym, ap, _∙_}
 use mathlib.Core.Bool.{Bool, true, false, cond}
@@ -18,7 +19,7 @@ use Rattle.rules.specs.Order.{Followed, followed, follow-from, follow}
 use Rattle.rules.specs.Claims.{accepts, left-by}
 use Rattle.laws.specs.Tests.{true-not-false}
 use Rattle.invariant.specs.sheet.Valid.{Valid}
-use Rattle.invariant.specs.deliveries.Assumed.{Delivery-laws}
+use Rattle.invariant.specs.deliveries.Laws.{Delivery-laws}
 use Rattle.invariant.specs.Invariant.{Reached}
 use Rattle.promises.specs.compare.SamePositions.{Same-positions, positions-able, positions-step}
 

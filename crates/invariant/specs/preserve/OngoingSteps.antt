@@ -1,4 +1,7 @@
--- The three turns that a board can take without stopping the job: an initiating step, a wait, the end of a waiting half.
+-- The three ways that a board can step without stopping the job: an initiating step, the only half of an operation, the end of a
+-- waiting half.
+--   advances-grows                                        rows that grow, as what becomes entered
+--   ongoing-initiating, ongoing-only-half, ongoing-half   the three, as `Ongoing`
 -- Assumes nothing.
 use mathlib.Core.Path.{_≡_, refl, sym, ap, _∙_}
 use mathlib.Core.Logic.{_⊎_, inl, inr}

@@ -1,5 +1,9 @@
 -- What the proofs about steps use of bytes and areas, and no more: that receives whose requests are still held have disjoint
--- areas, and that deliveries to disjoint areas may be exchanged. Assumes nothing: these are statements.
+-- areas, and that deliveries to disjoint areas may be exchanged. Commute proves it of every valid sheet.
+--   Pair             a message and a receive of the sheet
+--   Areas-apart      two receives whose areas share no byte
+--   Delivery-laws    the laws
+-- Assumes nothing: these are statements.
 use mathlib.Core.Path.{_≡_}
 use mathlib.Core.Logic.{_⊎_, _≢_}
 use mathlib.Core.Bool.{true, false}
@@ -19,8 +23,8 @@ pub record Pair (s : Sheet) (m r : ℕ) : Type 0 where
   pub receives : is-receive (op s r) ≡ true
 
 -- two receives whose areas share no byte: of different boards, or by the area rule
-abbrev pub Apart : Sheet → (r q : ℕ) → Type 0
-Apart s r q = (rank-of s r ≢ rank-of s q) ⊎ (share (op s r) (op s q) ≡ false)
+abbrev pub Areas-apart : Sheet → (r q : ℕ) → Type 0
+Areas-apart s r q = (rank-of s r ≢ rank-of s q) ⊎ (share (op s r) (op s q) ≡ false)
 
 pub record Delivery-laws (s : Sheet) : Type 0 where
   -- a receive r that takes a slot, and for which nothing up to q that frees a slot waits, still holds it at q, so q's area is
@@ -31,7 +35,7 @@ pub record Delivery-laws (s : Sheet) : Type 0 where
       ((w : ℕ) → r < w → w < q → rank-of s w ≡ rank-of s r → frees-slot (op s w) ≡ true → waited s w ≡ some r → ⊥) →
       share (op s r) (op s q) ≡ false
   -- deliveries to areas that share no byte may be exchanged
-  pub delivered-swap : (m r k q : ℕ) (bs : List ℕ) → Pair s m r → Pair s k q → Apart s r q → inbox-total s ≤ length bs →
+  pub delivered-swap : (m r k q : ℕ) (bs : List ℕ) → Pair s m r → Pair s k q → Areas-apart s r q → inbox-total s ≤ length bs →
       delivered s m r (delivered s k q bs) ≡ delivered s k q (delivered s m r bs)
   -- a delivery keeps the length of the inboxes
   pub delivered-length : (m r : ℕ) (bs : List ℕ) → Pair s m r → inbox-total s ≤ length bs →
