@@ -178,8 +178,8 @@ module _ {s : Sheet} (g : Valid s) {lent : List ℕ} {x : Job} (R : Reached s le
   new-receive i e = without-none i (x .receives) (λ k. omega (arith, R .receives-held .sound i k .entered))
 
   -- MATCHES
-  pub matched-receive : (r : ℕ) → r < N-of s → is-receive (op s r) ≡ true → state-at x r ≡ 3 →
-      (partner-at x r < N-of s) × (is-send (op s (partner-at x r)) ≡ true) × (fits-with s (partner-at x r) r ≡ true)
-  matched-receive r l h e =
-      let m = R .stable .receive-met r h e in
-      (send-inside s (partner-at x r) (m .sends), m .sends, m .fit)
+  pub matched-receive : (q : ℕ) → q < N-of s → is-receive (op s q) ≡ true → state-at x q ≡ 3 →
+      (partner-at x q < N-of s) × (is-send (op s (partner-at x q)) ≡ true) × (fits-with s (partner-at x q) q ≡ true)
+  matched-receive q l h e =
+      let m = R .stable .receive-met q h e in
+      (send-inside s (partner-at x q) (m .sends), m .sends, m .fit)

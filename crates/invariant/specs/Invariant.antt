@@ -41,35 +41,35 @@ pub record Pending-message (s : Sheet) (x : Job) (m : ℕ) : Type 0 where
   pub entered : Entered x m
   pub unmatched : state-at x m ≢ 3
 
-pub record Pending-receive (s : Sheet) (x : Job) (r : ℕ) : Type 0 where
-  pub receives : is-receive (op s r) ≡ true
-  pub entered : Entered x r
-  pub unmatched : state-at x r ≢ 3
+pub record Pending-receive (s : Sheet) (x : Job) (q : ℕ) : Type 0 where
+  pub receives : is-receive (op s q) ≡ true
+  pub entered : Entered x q
+  pub unmatched : state-at x q ≢ 3
 
--- message m and receive r are matched with each other
-pub record Matched-pair (s : Sheet) (x : Job) (m r : ℕ) : Type 0 where
+-- message m and receive q are matched with each other
+pub record Matched-pair (s : Sheet) (x : Job) (m q : ℕ) : Type 0 where
   pub sends : is-send (op s m) ≡ true
-  pub receives : is-receive (op s r) ≡ true
-  pub fit : fits-with s m r ≡ true
+  pub receives : is-receive (op s q) ≡ true
+  pub fit : fits-with s m q ≡ true
   pub message-matched : state-at x m ≡ 3
-  pub receive-matched : state-at x r ≡ 3
-  pub to-receive : partner-at x m ≡ r
-  pub to-message : partner-at x r ≡ m
+  pub receive-matched : state-at x q ≡ 3
+  pub to-receive : partner-at x m ≡ q
+  pub to-message : partner-at x q ≡ m
 
--- STABLE, where `came` gives the order in which the sends were entered
+-- STABLE, where `arrival` gives the order in which the sends were entered
 pub record Stable (s : Sheet) (arrival : ℕ → ℕ) (x : Job) : Type 0 where
   -- matched operations come in pairs (everyone)
   pub message-pair : (m : ℕ) → is-send (op s m) ≡ true → state-at x m ≡ 3 → Matched-pair s x m (partner-at x m)
-  pub receive-met : (r : ℕ) → is-receive (op s r) ≡ true → state-at x r ≡ 3 → Matched-pair s x (partner-at x r) r
+  pub receive-met : (q : ℕ) → is-receive (op s q) ≡ true → state-at x q ≡ 3 → Matched-pair s x (partner-at x q) q
   -- no pending message fits a pending receive (None-fit)
-  pub none-fit : (m r : ℕ) → Pending-message s x m → Pending-receive s x r → fits-with s m r ≡ true → ⊥
+  pub none-fit : (m q : ℕ) → Pending-message s x m → Pending-receive s x q → fits-with s m q ≡ true → ⊥
   -- a receive took the earliest message: one that came before and fits was taken by an earlier receive (No-overtaking)
-  pub first-sent : (m r k : ℕ) → Matched-pair s x m r → is-send (op s k) ≡ true → Entered x k → arrival k < arrival m →
-      fits-with s k r ≡ true → (state-at x k ≡ 3) × (partner-at x k < r)
+  pub first-sent : (m q k : ℕ) → Matched-pair s x m q → is-send (op s k) ≡ true → Entered x k → arrival k < arrival m →
+      fits-with s k q ≡ true → (state-at x k ≡ 3) × (partner-at x k < q)
   -- a message went to the earliest receive: an earlier one of that board that it fits is matched (its other half)
-  pub first-posted : (m r q : ℕ) → Matched-pair s x m r → is-receive (op s q) ≡ true → q < r → fits-with s m q ≡ true → state-at x q ≡ 3
+  pub first-posted : (m q p : ℕ) → Matched-pair s x m q → is-receive (op s p) ≡ true → p < q → fits-with s m p ≡ true → state-at x p ≡ 3
 
--- ARRIVED: `came` numbers the entered sends by the step that entered them, so that each sender's are in script order
+-- ARRIVED: `arrival` numbers the entered sends by the step that entered them, so that each sender's are in script order
 pub record Arrived (s : Sheet) (arrival : ℕ → ℕ) (x : Job) : Type 0 where
   pub past : (m : ℕ) → Entered x m → arrival m < x .steps
   pub apart : (k m : ℕ) → is-send (op s k) ≡ true → is-send (op s m) ≡ true → Entered x k → Entered x m → arrival k ≡ arrival m → k ≡ m

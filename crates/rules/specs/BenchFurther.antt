@@ -2,7 +2,8 @@
 -- receives, charges, waits, orders that stop early. Worked out by hand; BenchNumbered says how to read them. Assumes nothing.
 use mathlib.Core.List.{List, [], _∷_}
 use mathlib.Core.Option.{Option, none, some}
-use Rattle.rules.specs.BenchJob.{standard, buffered, synchronous, any, Line, send, isend, receive, ireceive, wait, Script, script, Draft, draft, Drive, runs, follows, Verdict, still-able, finished, deadlock, overflow, Match, _meets_, Row, row, BenchJob}
+use Rattle.rules.specs.BenchJob.{standard, buffered, synchronous, any, Line, send, isend, receive, ireceive, wait, Script, script, Draft, draft}
+use Rattle.rules.specs.BenchJob.{Drive, runs, follows, Verdict, still-able, finished, deadlock, overflow, Match, _meets_, Row, row, BenchJob}
 use Rattle.rules.specs.BenchNumbered.{case-1-sheet, nonblocking-sheet}
 
 unfoldable pub further-jobs : List BenchJob

@@ -12,7 +12,9 @@
 -- Assumes nothing.
 use mathlib.Core.List.{List, [], _∷_}
 use mathlib.Core.Option.{Option, none, some}
-use Rattle.rules.specs.BenchJob.{standard, buffered, synchronous, ready, any, Line, send, isend, receive, ireceive, wait, Script, script, Draft, draft, Drive, runs, follows, Verdict, finished, deadlock, overflow, not-ready, Match, _meets_, Row, row, BenchJob}
+use Rattle.rules.specs.BenchJob.{standard, buffered, synchronous, ready, any, Line, send, isend, receive, ireceive, wait, Script, script, Draft}
+use Rattle.rules.specs.BenchJob.{draft, Drive, runs, follows, Verdict, finished, deadlock, overflow, not-ready, Match, _meets_, Row, row}
+use Rattle.rules.specs.BenchJob.{BenchJob}
 
 -- the sheet of job 1
 unfoldable pub case-1-sheet : Draft

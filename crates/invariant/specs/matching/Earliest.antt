@@ -14,7 +14,8 @@ use Rattle.rules.specs.Job.{Job}
 use Rattle.rules.specs.Step.{next-op, fits-with}
 use Rattle.invariant.specs.sheet.Kinds.{fit-one-board, send-receive-differ}
 use Rattle.laws.specs.WaitingLists.{Holds, Found}
-use Rattle.invariant.specs.Invariant.{Entered, state-at, partner-at, reach, Pending-message, Pending-receive, Matched-pair, Stable, Placed, Posted-before, Arrived-before}
+use Rattle.invariant.specs.Invariant.{Entered, state-at, partner-at, reach, Pending-message, Pending-receive, Matched-pair, Stable, Placed}
+use Rattle.invariant.specs.Invariant.{Posted-before, Arrived-before}
 use Rattle.invariant.specs.matching.RowChanges.{Grows, Matches, state-same, partner-same, state-name, matches-grows}
 use Rattle.invariant.specs.matching.Stable.{Later, First}
 use Rattle.invariant.specs.preserve.Places.{prefix}

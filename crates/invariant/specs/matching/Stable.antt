@@ -15,9 +15,11 @@ use Rattle.rules.specs.Job.{Job}
 use Rattle.rules.specs.Step.{fits-with}
 use Rattle.invariant.specs.sheet.Kinds.{send-receive-differ}
 use Rattle.invariant.specs.Invariant.{Entered, state-at, partner-at, Pending-message, Pending-receive, Matched-pair, Stable}
-use Rattle.invariant.specs.matching.RowChanges.{Grows, Enters, Matches, state-same, partner-same, state-name, grows-pair, grows-message, grows-receive, enters-grows, enters-differ-now, matches-grows, matches-split, matches-message-state, matches-receive-state, matches-pair, pair-same}
+use Rattle.invariant.specs.matching.RowChanges.{Grows, Enters, Matches, state-same, partner-same, state-name, grows-pair, grows-message}
+use Rattle.invariant.specs.matching.RowChanges.{grows-receive, enters-grows, enters-differ-now, matches-grows, matches-split}
+use Rattle.invariant.specs.matching.RowChanges.{matches-message-state, matches-receive-state, matches-pair, pair-same}
 
--- `now` is `came` with i after everything entered in x
+-- `now` is `arrival` with i after everything entered in x
 pub record Later (arrival now : ℕ → ℕ) (x : Job) (i : ℕ) : Type 0 where
   pub old : (j : ℕ) → j ≢ i → now j ≡ arrival j
   pub new : (j : ℕ) → Entered x j → now j < now i

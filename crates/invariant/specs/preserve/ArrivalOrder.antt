@@ -18,7 +18,7 @@ use Rattle.invariant.specs.matching.RowChanges.{Grows, state-name}
 use Rattle.invariant.specs.matching.Stable.{Later}
 use Rattle.invariant.specs.preserve.Places.{prefix}
 
--- `came`, with i at the step that now is
+-- `arrival`, with i at the step that now is
 unfoldable pub arrival-with : (ℕ → ℕ) → (i now j : ℕ) → ℕ
 arrival-with arrival i now j = cond (eqb j i) now (arrival j)
 

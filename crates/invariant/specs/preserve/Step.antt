@@ -24,7 +24,8 @@ use Rattle.invariant.specs.deliveries.Laws.{Delivery-laws}
 use Rattle.invariant.specs.sheet.Kinds.{send-not-only-half, receive-not-only-half, receive-not-send, send-not-receive}
 use Rattle.laws.specs.Sums.{sum-below, sum-same}
 use Rattle.laws.specs.WaitingLists.{Holds, first-by-none, first-by-some}
-use Rattle.invariant.specs.Invariant.{Entered, state-at, unmatched-state, steps-done, charge-in, replayed, Pending-message, Pending-receive, Stable, Arrived, Placed, Shaped, Posted-before, Arrived-before, Reached, Extended}
+use Rattle.invariant.specs.Invariant.{Entered, state-at, unmatched-state, steps-done, charge-in, replayed, Pending-message, Pending-receive}
+use Rattle.invariant.specs.Invariant.{Stable, Arrived, Placed, Shaped, Posted-before, Arrived-before, Reached, Extended}
 use Rattle.invariant.specs.matching.RowChanges.{Grows, Enters, Matches, state-same, state-name, enters-grows, matches-grows}
 use Rattle.invariant.specs.matching.Stable.{Later, First, enter-stable, match-stable}
 use Rattle.invariant.specs.step.Places.{Next, moved-peak, able-next}
@@ -44,7 +45,7 @@ use Rattle.invariant.specs.matching.Earliest.{first-for-receive, first-f
 use Rattle.invariant.specs.preserve.Stop.{stops-extended}
 use Rattle.invariant.specs.preserve.OngoingSteps.{ongoing-initiating, ongoing-only-half, ongoing-half}
 
--- what is to be shown of a step that goes on and takes x to y, where `came` is the order of arrival in y
+-- what is to be shown of a step that goes on and takes x to y, where `arrival` is the order of arrival in y
 record Parts {s : Sheet} {lent : List ℕ} {x : Job} (R : Reached s lent x) (y : Job) (i : ℕ) (arrival : ℕ → ℕ) : Type 0 where
   old : (j : ℕ) → Entered x j → arrival j ≡ R .arrival j
   new : Entered y i → (Entered x i → ⊥) → (j : ℕ) → Entered x j → arrival j < arrival i

@@ -17,7 +17,8 @@ use Rattle.laws.specs.Tests.{true-not-false}
 use Rattle.invariant.specs.sheet.Kinds.{send-receive-differ}
 use Rattle.laws.specs.WaitingLists.{Holds, holds-more, holds-less, holds-same}
 use Rattle.invariant.specs.Invariant.{Entered, state-at, Pending-message, Pending-receive, Placed, Posted-before, Arrived-before}
-use Rattle.invariant.specs.matching.RowChanges.{Grows, Enters, Matches, state-same, state-name, enters-state, enters-grows, enters-differ, matches-grows, matches-message-state, matches-receive-state, grows-message, grows-receive}
+use Rattle.invariant.specs.matching.RowChanges.{Grows, Enters, Matches, state-same, state-name, enters-state, enters-grows, enters-differ}
+use Rattle.invariant.specs.matching.RowChanges.{matches-grows, matches-message-state, matches-receive-state, grows-message, grows-receive}
 use Rattle.invariant.specs.matching.Stable.{Later}
 use Rattle.invariant.specs.preserve.Places.{prefix}
 

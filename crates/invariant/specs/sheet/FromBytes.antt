@@ -12,7 +12,8 @@ use lib.ListN.{length}
 use borrow.Author.Tests.{leb-true, eqb-true, not-false}
 use Rattle.rules.specs.Limits.{most-boards, most-comms, most-ops, most-payload, most-inbox, header-size}
 use Rattle.rules.specs.Sheet.{Sheet, board, P-of, N-of, rank-of, inbox-start, inbox-total, P-in, C-in, N-in, L-in, sheet-in}
-use Rattle.rules.specs.Refusal.{Refusal, refusal, or-else, first-broken, sizes-good, layout-good, crc-good, board-good, boards-refusal, op-good, ops-refusal, request-good, requests-refusal, tables-refusal, sheet-refusal}
+use Rattle.rules.specs.Refusal.{Refusal, refusal, or-else, first-broken, sizes-good, layout-good, crc-good, board-good, boards-refusal, op-good}
+use Rattle.rules.specs.Refusal.{ops-refusal, request-good, requests-refusal, tables-refusal, sheet-refusal}
 use Rattle.rules.specs.Claims.{all-bytes, passes}
 use Rattle.laws.specs.Tests.{and-left, and-right}
 use Rattle.laws.specs.Broken.{broken-passed}

@@ -15,7 +15,8 @@ use native.Mathlib.Omega.{arith}
 use lib.Dec.{ltb, leb, eqb}
 use borrow.Author.Tests.{leb-true, eqb-true, ne-eqb}
 use Rattle.rules.specs.Limits.{any, slot-limit}
-use Rattle.rules.specs.Sheet.{Sheet, Op, op, P-of, N-of, rank-of, is-send, is-receive, is-buffered, is-wait, is-nonblocking, only-half, no-half, takes-slot, names-slot, frees-slot}
+use Rattle.rules.specs.Sheet.{Sheet, Op, op, P-of, N-of, rank-of, is-send, is-receive, is-buffered, is-wait, is-nonblocking, only-half, no-half}
+use Rattle.rules.specs.Sheet.{takes-slot, names-slot, frees-slot}
 use Rattle.rules.specs.Refusal.{op-good, fields-good, envelope-good, extent-good, wait-good, room-for}
 use Rattle.rules.specs.Step.{fits-with}
 use Rattle.laws.specs.Tests.{true-not-false, and-left, and-right, or-cases, not-so, cond-true}

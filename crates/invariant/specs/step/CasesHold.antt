@@ -14,7 +14,9 @@ use lib.Seq.{getD-set-same, getD-set-other}
 use Rattle.rules.specs.Limits.{absent}
 use Rattle.rules.specs.Sheet.{Sheet, op, N-of, rank-of, is-send, is-receive, only-half, is-ready, is-buffered, no-half}
 use Rattle.rules.specs.Job.{Job, Entry, job, entry, bare-entry, entry-at, place-at, with-entries, with-places, with-messages, with-receives, with-steps}
-use Rattle.rules.specs.Step.{step, next-op, in-waiting-half, one-finished, first-message, first-receive, fits-with, is-cut, without, delivered, with-place, charge, matched, with-state, pend-message, pend-receive, stopped, initiated, fits-buffer, unmatched, sent, received, initiating, ended}
+use Rattle.rules.specs.Step.{step, next-op, in-waiting-half, one-finished, first-message, first-receive, fits-with, is-cut, without, delivered}
+use Rattle.rules.specs.Step.{with-place, charge, matched, with-state, pend-message, pend-receive, stopped, initiated, fits-buffer, unmatched, sent}
+use Rattle.rules.specs.Step.{received, initiating, ended}
 use Rattle.laws.specs.Tests.{true-not-false}
 use Rattle.invariant.specs.sheet.Valid.{Valid}
 use Rattle.invariant.specs.sheet.Kinds.{kind-send, send-receive-differ}
@@ -23,7 +25,8 @@ use Rattle.invariant.specs.Invariant.{Entered, state-at, Posted-before, 
 use Rattle.invariant.specs.matching.UnmatchedState.{unmatched-send}
 use Rattle.invariant.specs.matching.RowChanges.{Enters, Matches}
 use Rattle.invariant.specs.step.Places.{Next, next-fresh, Moved}
-use Rattle.invariant.specs.step.BufferUse.{Use, use-kept, use-charged, use-released, used-kept, used-released, used-charged, used-uncharged, released-places, matched-is, stepped-places, stepped-moved, set-enters}
+use Rattle.invariant.specs.step.BufferUse.{Use, use-kept, use-charged, use-released, used-kept, used-released, used-charged, used-uncharged}
+use Rattle.invariant.specs.step.BufferUse.{released-places, matched-is, stepped-places, stepped-moved, set-enters}
 use Rattle.invariant.specs.step.Cases.{Finds, Outcome, ends-half, ends-only-half, posts, pends, matches, stops}
 
 -- OUTCOMES of a step of board r, which is able, of a job that keeps the invariant

@@ -235,13 +235,13 @@ module _ {s : Sheet} (g : Valid s) (c : calm s ≡ true) {lent : List ℕ} {x : 
 pub calm-order : {s : Sheet} → calm s ≡ true → {i j : List ℕ} {x y : Job} (X : Reached s i x) (Y : Reached s j y) →
     Same-order s (X .arrival) x (Y .arrival) y
 unfolding is-any-source
-calm-order {s} c {i} {j} {x} {y} X Y k m r sk sm rr fk fm hm hk l = go (decLt k m) (decLt m k)
+calm-order {s} c {i} {j} {x} {y} X Y k m q sk sm rr fk fm hm hk l = go (decLt k m) (decLt m k)
   where
-    source : (q : ℕ) → fits-with s q r ≡ true → op s r .peer ≡ rank-of s q
-    source q f = answers (fit-source s q r f)
+    source : (z : ℕ) → fits-with s z q ≡ true → op s q .peer ≡ rank-of s z
+    source z f = answers (fit-source s z q f)
       where
-        answers : (op s r .peer ≡ any) ⊎ (op s r .peer ≡ rank-of s q) → op s r .peer ≡ rank-of s q
-        answers (inl e) = true-not-false (and-both rr (eq-eqb (op s r .peer) any e)) (calm-not-any-source s c r)
+        answers : (op s q .peer ≡ any) ⊎ (op s q .peer ≡ rank-of s z) → op s q .peer ≡ rank-of s z
+        answers (inl e) = true-not-false (and-both rr (eq-eqb (op s q .peer) any e)) (calm-not-any-source s c q)
         answers (inr e) = e
 
     same : rank-of s k ≡ rank-of s m

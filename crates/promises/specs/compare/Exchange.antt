@@ -32,7 +32,8 @@ use Rattle.invariant.specs.preserve.Step.{step-sound}
 use Rattle.promises.specs.compare.ArrivalGrowth.{Arrivals-grew, arrivals-step, arrivals-trans, arrivals-same-order, arrivals-order}
 use Rattle.invariant.specs.step.Position.{position}
 use Rattle.promises.specs.compare.Behind.{Behind, still-able, places-entered}
-use Rattle.promises.specs.compare.AfterStep.{After, continues, stops-job, step-after, step-counted, finishing, moved-position-other, position-next, position-moved, position-further, stop-stays}
+use Rattle.promises.specs.compare.AfterStep.{After, continues, stops-job, step-after, step-counted, finishing, moved-position-other}
+use Rattle.promises.specs.compare.AfterStep.{position-next, position-moved, position-further, stop-stays}
 use Rattle.promises.specs.compare.SamePositions.{Same-positions}
 
 -- A STEP of p, after which the job goes on
@@ -161,12 +162,12 @@ module _ {s : Sheet} (g : Valid s) (A : Delivery-laws s) {lent : List ℕ} (room
           (X .placed .entered-if (next-op s x r) (n .inside)
           (omega (arith, ap (λ (z : ℕ). reach s x z) (n .ranked), ap (λ (w : Bool). next-op s x r + cond w 1 0) h)))))
 
-  -- the two messages do not meet in one receive
-  no-meeting : (k m r : ℕ) → k ≡ next-op s x p → m ≡ next-op s x q → is-send (op s k) ≡ true → is-send (op s m) ≡ true →
-      is-receive (op s r) ≡ true →
-      fits-with s k r ≡ true → fits-with s m r ≡ true → (Entered x k → ⊥) → (Entered x m → ⊥) → ⊥
+  -- the two messages do not both fit one receive w
+  no-race-in : (k m w : ℕ) → k ≡ next-op s x p → m ≡ next-op s x q → is-send (op s k) ≡ true → is-send (op s m) ≡ true →
+      is-receive (op s w) ≡ true →
+      fits-with s k w ≡ true → fits-with s m w ≡ true → (Entered x k → ⊥) → (Entered x m → ⊥) → ⊥
   unfolding is-any-source
-  no-meeting k m r ek em sk sm rr fk fm out gone = go (fit-source s k r fk) (fit-source s m r fm)
+  no-race-in k m w ek em sk sm rr fk fm out gone = go (fit-source s k w fk) (fit-source s m w fm)
     where
       rank-k : rank-of s k ≡ p
       rank-k = ap (λ (z : ℕ). rank-of s z) ek ∙ able-next s g x p a .ranked
@@ -174,26 +175,26 @@ module _ {s : Sheet} (g : Valid s) (A : Delivery-laws s) {lent : List ℕ} (room
       rank-m : rank-of s m ≡ q
       rank-m = ap (λ (z : ℕ). rank-of s z) em ∙ able-next s g x q b .ranked
 
-      race : op s r .peer ≡ any → ⊥
+      race : op s w .peer ≡ any → ⊥
       race e =
-          H .no-race r (in-no-half p k a ek sk out) (in-no-half q m b em sm gone) (ap (λ (z : ℕ). is-send (op s z)) (sym ek) ∙ sk)
-          (ap (λ (z : ℕ). is-send (op s z)) (sym em) ∙ sm) (and-both rr (eq-eqb (op s r .peer) any e))
-          (ap (λ (z : ℕ). fits-with s z r) (sym ek) ∙ fk) (ap (λ (z : ℕ). fits-with s z r) (sym em) ∙ fm)
+          H .no-race w (in-no-half p k a ek sk out) (in-no-half q m b em sm gone) (ap (λ (z : ℕ). is-send (op s z)) (sym ek) ∙ sk)
+          (ap (λ (z : ℕ). is-send (op s z)) (sym em) ∙ sm) (and-both rr (eq-eqb (op s w .peer) any e))
+          (ap (λ (z : ℕ). fits-with s z w) (sym ek) ∙ fk) (ap (λ (z : ℕ). fits-with s z w) (sym em) ∙ fm)
 
-      go : (op s r .peer ≡ any) ⊎ (op s r .peer ≡ rank-of s k) → (op s r .peer ≡ any) ⊎ (op s r .peer ≡ rank-of s m) → ⊥
+      go : (op s w .peer ≡ any) ⊎ (op s w .peer ≡ rank-of s k) → (op s w .peer ≡ any) ⊎ (op s w .peer ≡ rank-of s m) → ⊥
       go (inl e) _ = race e
       go (inr e) (inl f) = race f
       go (inr e) (inr f) = d (sym rank-k ∙ sym e ∙ f ∙ rank-m)
 
-  no-meetings : (k m r : ℕ) → is-send (op s k) ≡ true → is-send (op s m) ≡ true → is-receive (op s r) ≡ true →
-      fits-with s k r ≡ true → fits-with s m r ≡ true →
+  no-races : (k m w : ℕ) → is-send (op s k) ≡ true → is-send (op s m) ≡ true → is-receive (op s w) ≡ true →
+      fits-with s k w ≡ true → fits-with s m w ≡ true →
       Entered (step s q (step s p x)) k → Entered (step s q (step s p x)) m → (Entered x k → ⊥) → (Entered x m → ⊥) → k ≢ m → ⊥
-  no-meetings k m r sk sm rr fk fm hk hm out gone c = go (entered-since k hk out) (entered-since m hm gone)
+  no-races k m w sk sm rr fk fm hk hm out gone c = go (entered-since k hk out) (entered-since m hm gone)
     where
       go : (k ≡ next-op s x p) ⊎ (k ≡ next-op s x q) → (m ≡ next-op s x p) ⊎ (m ≡ next-op s x q) → ⊥
       go (inl e) (inl f) = c (e ∙ sym f)
-      go (inl e) (inr f) = no-meeting k m r e f sk sm rr fk fm out gone
-      go (inr e) (inl f) = no-meeting m k r f e sm sk rr fm fk gone out
+      go (inl e) (inr f) = no-race-in k m w e f sk sm rr fk fm out gone
+      go (inr e) (inl f) = no-race-in m k w f e sm sk rr fm fk gone out
       go (inr e) (inr f) = c (e ∙ sym f)
 
   pub swap-same-positions : Same-positions (EPQ .reached) (EQP .reached)
@@ -206,10 +207,10 @@ module _ {s : Sheet} (g : Valid s) (A : Delivery-laws s) {lent : List ℕ} (room
         places = λ r l. swap-places r;
         order =
             arrivals-order grown-pq grown-qp (λ k h. h) (λ k h. h) back same
-            (λ k m r sk sm rr fk fm hk hm. no-meetings k m r sk sm rr fk fm (back k hk) hm);
+            (λ k m w sk sm rr fk fm hk hm. no-races k m w sk sm rr fk fm (back k hk) hm);
         order-back =
             arrivals-order grown-qp grown-pq (λ k h. h) (λ k h. h) on same
-            (λ k m r sk sm rr fk fm hk hm. no-meetings k m r sk sm rr fk fm hk (back m hm));
+            (λ k m w sk sm rr fk fm hk hm. no-races k m w sk sm rr fk fm hk (back m hm));
       }
     where
       grown-pq : Arrivals-grew X (EPQ .reached)
@@ -219,7 +220,7 @@ module _ {s : Sheet} (g : Valid s) (A : Delivery-laws s) {lent : List ℕ} (room
       grown-qp = arrivals-trans (arrivals-step EQ) (arrivals-step EQP)
 
       same : Same-order s (X .arrival) x (X .arrival) x
-      same k m r sk sm rr fk fm hm hk l = (hk, l)
+      same k m w sk sm rr fk fm hm hk l = (hk, l)
 
       on : (k : ℕ) → Entered (step s q (step s p x)) k → Entered (step s p (step s q x)) k
       on = places-entered g (EPQ .reached .placed) (EQP .reached .placed) (λ r l. omega (arith, swap-places r))

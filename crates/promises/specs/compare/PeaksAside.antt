@@ -19,7 +19,8 @@ use Rattle.rules.specs.Sheet.{Sheet, op, board, P-of, N-of, frees-slot, is-send
 use Rattle.rules.specs.Job.{Job, Entry, Stop, bare-entry, entry-at, place-at}
 use Rattle.rules.specs.Step.{able, is-finished, next-op, in-waiting-half, half-complete, complete, complete-if, waited, is-none}
 use Rattle.rules.specs.Order.{lowest-able, next-rank, none-able}
-use Rattle.rules.specs.Report.{count-from, is-pending-message, is-pending-receive, pending-messages, pending-receives, cut-messages, all-finished, verdict-of, header-bytes, board-state, report}
+use Rattle.rules.specs.Report.{count-from, is-pending-message, is-pending-receive, pending-messages, pending-receives, cut-messages, all-finished}
+use Rattle.rules.specs.Report.{verdict-of, header-bytes, board-state, report}
 use Rattle.rules.specs.Claims.{without-peaks, Alike}
 use Rattle.promises.specs.compare.ReportBytes.{bare-row, bare-rows, bare-report, report-bare}
 

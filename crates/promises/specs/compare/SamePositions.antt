@@ -34,7 +34,8 @@ use Rattle.promises.specs.compare.PeaksAside.{Equal-but-peaks, equal-abl
 use Rattle.promises.specs.compare.ArrivalGrowth.{arrivals-step, arrivals-order}
 use Rattle.invariant.specs.step.Position.{position, position-finished, position-waiting}
 use Rattle.promises.specs.compare.Behind.{Behind, both-behind-rows, places-entered, behind-entered}
-use Rattle.promises.specs.compare.AfterStep.{stop-after, step-stop, After, continues, stops-job, step-after, step-counted, finishing, moved-position-other, places-position, position-next, position-half, position-moved}
+use Rattle.promises.specs.compare.AfterStep.{stop-after, step-stop, After, continues, stops-job, step-after, step-counted, finishing}
+use Rattle.promises.specs.compare.AfterStep.{moved-position-other, places-position, position-next, position-half, position-moved}
 
 pub record Same-positions {s : Sheet} {i j : List ℕ} {x y : Job} (X : Reached s i x) (Y : Reached s j y) : Type 0 where
   pub stop : x .stop ≡ y .stop
@@ -127,7 +128,7 @@ module _ {s : Sheet} (g : Valid s) {i j : List ℕ} {x y : Job} {X : Reached s i
       (pending-receive-same y (state-same (positions-rows v)) (found-x v e .0))))))
     where
       f : ℕ → Bool
-      f = λ r. fits-with s m r
+      f = λ q. fits-with s m q
 
       found-x : (v : ℕ) → first-by f (x .receives) ≡ some v → Pending-receive s x v × (f v ≡ true)
       found-x v e = let h = first-by-some f (x .receives) (X .receives-held .sorted) v e in

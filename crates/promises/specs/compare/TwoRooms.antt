@@ -27,7 +27,7 @@ use Rattle.promises.specs.compare.WholeOrders.{Left-same-positions, posi
 -- nothing is entered at the start, so there is no order of arrival to differ in
 start-order : {s : Sheet} (g : Valid s) (i j : List ℕ) →
     Same-order s (start-reached g i .arrival) (started s i) (start-reached g j .arrival) (started s j)
-start-order g i j k m r sk sm rr fk fm there-m = none-entered g i m there-m
+start-order g i j k m q sk sm rr fk fm there-m = none-entered g i m there-m
 
 start-same-positions : {s : Sheet} (g : Valid s) (i j : List ℕ) → Same-positions (start-reached g i) (start-reached g j)
 unfolding started job
