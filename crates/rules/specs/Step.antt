@@ -140,6 +140,7 @@ matched s m q x =
 unfoldable pub with-state : (i state : ℕ) → Job → Job
 with-state i v x = with-entries (set (x .entries) i (bare-entry v)) x
 
+-- pending: MPI's unexpected message, and posted receive
 unfoldable pub pend-message : (i state : ℕ) → Job → Job
 pend-message i v x = with-messages (x .messages ++ (i ∷ [])) (with-state i v x)
 
