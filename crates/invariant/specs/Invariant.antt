@@ -81,6 +81,7 @@ pub record Arrived (s : Sheet) (arrival : ℕ → ℕ) (x : Job) : Type 0 where
 unfoldable pub reach : Sheet → Job → (r : ℕ) → ℕ
 reach s x r = next-op s x r + cond (place-at x r .waiting) 1 0
 
+-- where the boards stand decides what is entered, and what has been waited for
 pub record Placed (s : Sheet) (x : Job) : Type 0 where
   -- lengths (the report; the engine's tables)
   pub entries-long : length (x .entries) ≡ N-of s
@@ -110,6 +111,7 @@ row-of s j v p =
 unfoldable pub unmatched-state : Op → ℕ
 unmatched-state o = cond (only-half o) 5 (cond (is-buffered o) 2 1)
 
+-- what the rows of a job can be
 pub record Shaped (s : Sheet) (x : Job) : Type 0 where
   -- (the report's rows; whole or cut)
   pub row : (j : ℕ) → entry-at x j ≡ row-of s j (state-at x j) (partner-at x j)
@@ -148,6 +150,7 @@ pub record Stopped (s : Sheet) (x : Job) (t : Stop) : Type 0 where
 abbrev pub Posted-before : Sheet → (a b : ℕ) → Type 0
 Posted-before s a b = rank-of s a ≡ rank-of s b → a < b
 
+-- order of the entered sends
 abbrev pub Arrived-before : (arrival : ℕ → ℕ) → (a b : ℕ) → Type 0
 Arrived-before arrival a b = arrival a < arrival b
 

@@ -59,10 +59,12 @@ module _ (s : Sheet) (g : Valid s) (m r : ℕ) (receives : is-receive (op s r) �
   delivered-room : area-start s r + length (copied-bytes s m r) ≤ length bs
   delivered-room = omega (arith, area-inside s g r receives, copied-short s m r)
 
+  -- a delivery keeps the length of the inboxes
   pub delivered-length : length (delivered s m r bs) ≡ length bs
   unfolding delivered
   delivered-length = splice-length bs (area-start s r) (copied-bytes s m r) delivered-room
 
+  -- each byte after a delivery
   pub delivered-at : is-send (op s m) ≡ true → (i : ℕ) →
       getD (delivered s m r bs) i 0 ≡ cond (within (area-start s r) (copied s m r) i)
       (getD (s .payload) (op s m .offset + (i - area-start s r)) 0) (getD bs i 0)
@@ -83,6 +85,7 @@ module _ (s : Sheet) (g : Valid s) (m r : ℕ) (receives : is-receive (op s r) �
           ∙ getD-drop (op s m .offset) (s .payload) (i - area-start s r) 0
       go false e = refl
 
+-- deliveries to areas that share no byte commute
 pub delivered-swap : (s : Sheet) → Valid s → (m r k q : ℕ) (bs : List ℕ) → is-receive (op s r) ≡ true →
     is-receive (op s q) ≡ true →
     (rank-of s r ≡ rank-of s q → share (op s r) (op s q) ≡ false) → inbox-total s ≤ length bs →

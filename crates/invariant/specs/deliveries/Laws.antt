@@ -26,6 +26,7 @@ pub record Pair (s : Sheet) (m r : ℕ) : Type 0 where
 abbrev pub Areas-apart : Sheet → (r q : ℕ) → Type 0
 Areas-apart s r q = (rank-of s r ≢ rank-of s q) ⊎ (share (op s r) (op s q) ≡ false)
 
+-- what holds of the deliveries of a sheet
 pub record Delivery-laws (s : Sheet) : Type 0 where
   -- a receive r that takes a slot, and for which nothing up to q that frees a slot waits, still holds it at q, so q's area is
   -- another

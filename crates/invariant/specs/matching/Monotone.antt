@@ -127,5 +127,6 @@ module _ (s : Sheet) (cx : ℕ → ℕ) (x : Job) (cy : ℕ → ℕ) (y : Job) (
   stays-below zero m r l a = absurd (omega arith)
   stays-below (suc n) m r l a = stays-at m r (λ k q h. stays-below n k q (omega arith)) a
 
+  -- what is matched in x is matched alike in y
   pub matched-stays : (m r : ℕ) → Matched-pair s x m r → Matched-pair s y m r
   matched-stays m r a = stays-below (suc r) m r (omega arith) a

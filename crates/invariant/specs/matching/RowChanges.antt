@@ -19,6 +19,7 @@ use Rattle.rules.specs.Step.{fits-with, is-cut}
 use Rattle.invariant.specs.sheet.Kinds.{send-receive-differ}
 use Rattle.invariant.specs.Invariant.{Entered, state-at, partner-at, Pending-message, Pending-receive, Matched-pair}
 
+-- the rows of x grow to those of y, where operation i enters
 pub record Grows (x y : Job) (i : ℕ) : Type 0 where
   pub fresh : state-at x i ≡ 0
   pub enters : Entered y i
@@ -30,6 +31,7 @@ pub record Grows (x y : Job) (i : ℕ) : Type 0 where
   pub back : (j : ℕ) → j ≢ i → Entered y j → Entered x j
   pub same : (j : ℕ) → j ≢ i → state-at y j ≢ 3 → entry-at y j ≡ entry-at x j
 
+-- operation i enters unmatched, in state v
 pub record Enters (x y : Job) (i v : ℕ) : Type 0 where
   pub fresh : state-at x i ≡ 0
   pub row : entry-at y i ≡ bare-entry v
@@ -37,6 +39,7 @@ pub record Enters (x y : Job) (i v : ℕ) : Type 0 where
   pub some-state : 1 ≤ v
   pub no-match : v ≢ 3
 
+-- message m and receive r are matched; one of them is i, which enters
 pub record Matches (s : Sheet) (x y : Job) (m r i : ℕ) : Type 0 where
   pub sends : is-send (op s m) ≡ true
   pub receives : is-receive (op s r) ≡ true

@@ -24,6 +24,7 @@ pub record Later (arrival now : ℕ → ℕ) (x : Job) (i : ℕ) : Type 0 where
   pub old : (j : ℕ) → j ≢ i → now j ≡ arrival j
   pub new : (j : ℕ) → Entered x j → now j < now i
 
+-- the pair of message and receive took the earliest on both sides
 pub record First (s : Sheet) (arrival : ℕ → ℕ) (y : Job) (m r : ℕ) : Type 0 where
   pub sent : (k : ℕ) → is-send (op s k) ≡ true → Entered y k → arrival k < arrival m → fits-with s k r ≡ true → (state-at y k ≡ 3)
       × (partner-at y k < r)

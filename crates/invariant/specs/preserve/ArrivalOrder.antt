@@ -44,6 +44,7 @@ module _ {s : Sheet} {x y : Job} {i : ℕ} {arrival : ℕ → ℕ} (A : Arrived 
         new = λ j h. omega (arith, A .past j h, arrival-same arrival i (x .steps), arrival-other arrival i (x .steps) j (differ j h));
       }
 
+  -- a step keeps the order of arrival right
   pub arrived-step : Placed s x → y .steps ≡ suc (x .steps) → Arrived s now y
   arrived-step p more =
       record {

@@ -84,6 +84,7 @@ module _ {s : Sheet} (g : Valid s) (lent : List ℕ) where
       ∙ ap (λ (b : Bool). cond b 1 0) (le-ltb j (reach s x₀ (rank-of s j))
       (omega (arith, start-reach (rank-of s j), g .rank-low j l)))
 
+  -- the start has the invariant
   pub start-reached : Reached s lent x₀
   unfolding started job is-none
   start-reached =
@@ -168,11 +169,13 @@ follow-from-keeps s P keeps k (r ∷ rs) x h =
     go true e rest = rest e
     go false e rest = h
 
+-- what every able step keeps, an order keeps
 pub left-keeps : (s : Sheet) (P : Job → Type 0) → ((x : Job) (r : ℕ) → P x → able s x r ≡ true → P (step s r x)) →
     (rs lent : List ℕ) → P (started s lent) → P (left-by s rs lent)
 unfolding left-by follow
 left-keeps s P keeps rs lent h = follow-from-keeps s P keeps 0 rs (started s lent) h
 
+-- an order keeps the invariant, up to where it is refused
 pub left-reached : {s : Sheet} → Valid s → Delivery-laws s → {lent : List ℕ} → inbox-total s ≤ length lent → (rs : List ℕ) →
     Reached s lent (left-by s rs lent)
 left-reached {s} g A {lent} room rs =

@@ -23,6 +23,7 @@ use Rattle.invariant.specs.sheet.Valid.{Valid}
 use Rattle.invariant.specs.Invariant.{Entered, state-at, Placed, reach, steps-of}
 use Rattle.invariant.specs.step.Places.{Next, Moved, moved-finished, moved-waiting, moved-finished-other, moved-waiting-other}
 
+-- what becomes entered by a step of operation i, and what stays
 pub record Advances (x y : Job) (i : ℕ) : Type 0 where
   pub here : Entered y i
   pub on : (j : ℕ) → Entered x j → Entered y j
@@ -125,6 +126,7 @@ module _ {s : Sheet} {x y : Job} {r : ℕ} {last : Bool} (g : Valid s) (p : Plac
   pub next-mine-before : (j : ℕ) → rank-of s j ≡ r → next-op s x (rank-of s j) ≡ here
   next-mine-before j e = ap (λ (z : ℕ). next-op s x z) e
 
+  -- a step that goes on keeps the places right
   pub placed-step : Placed s y
   placed-step =
       record {

@@ -14,6 +14,7 @@ use Rattle.invariant.specs.Invariant.{Entered, Pending-message, Pending-
 use Rattle.invariant.specs.matching.RowChanges.{state-same, partner-same, pair-same}
 use Rattle.invariant.specs.preserve.WaitingLists.{pending-message-same, pending-receive-same}
 
+-- no row of x changed in y
 abbrev pub Same-rows : (x y : Job) → Type 0
 Same-rows x y = (j : ℕ) → entry-at y j ≡ entry-at x j
 

@@ -320,5 +320,6 @@ module _ {s : Sheet} (g : Valid s) (A : Delivery-laws s) {lent : List ℕ} (room
   sound y r n (stops v h) =
       subst (λ (z : Job). Extended R z (next-op s x r)) (sym (h .job-is)) (stops-extended R v r n (h .reason) (h .not-waiting))
 
+  -- an able step keeps the invariant
   pub step-sound : (r : ℕ) → able s x r ≡ true → Extended R (step s r x) (next-op s x r)
   step-sound r a = let n = able-next s g x r a in sound (step s r x) r n (outcome s g lent x R r n)

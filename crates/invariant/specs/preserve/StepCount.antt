@@ -138,6 +138,7 @@ module _ {s : Sheet} {x y : Job} {r : ℕ} {last : Bool} (g : Valid s) (p : Plac
           (omega (arith, reach-mine g p T mine (T .next .ranked)))
           ∙ omega (arith, ap {B = ℕ} (λ (c : Bool). cond c 1 0) (T .goes-waiting q .2))
 
+  -- a step that goes on adds one
   pub steps-step : sum-below (N-of s) (steps-done s y) ≡ suc (sum-below (N-of s) (steps-done s x))
   steps-step =
       omega (
@@ -176,6 +177,7 @@ module _ {s : Sheet} {lent : List ℕ} {x : Job} (R : Reached s lent x) where
       go true = omega arith
       go false = omega arith
 
+  -- a job with an able board has taken fewer than 2N steps
   pub able-room : Valid s → (r : ℕ) → able s x r ≡ true → x .steps < 2 * N-of s
   unfolding is-none
   able-room g r a =

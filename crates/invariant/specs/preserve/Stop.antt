@@ -19,6 +19,7 @@ use Rattle.invariant.specs.preserve.Rows.{shaped-same}
 use Rattle.invariant.specs.preserve.Memory.{replayed-rows}
 use Rattle.invariant.specs.preserve.SameRows.{Same-rows, stable-same, arrived-same, messages-same, receives-same}
 
+-- a stopping step keeps the invariant
 pub stops-extended : {s : Sheet} {lent : List ℕ} {x : Job} (R : Reached s lent x) (v r : ℕ) → Next s x r → (v ≡ 3) ⊎ (v ≡ 4) →
     place-at x r .waiting ≡ false →
     Extended R (with-steps (suc (x .steps)) (stopped v r (next-op s x r) x)) (next-op s x r)

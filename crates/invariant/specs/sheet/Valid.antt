@@ -14,6 +14,7 @@ use Rattle.rules.specs.Sheet.{Sheet, board, P-of, N-of, rank-of, counts-before,
 use Rattle.rules.specs.Refusal.{board-good, op-good, request-good}
 use Rattle.laws.specs.Tests.{and-left}
 
+-- a valid sheet: each part of the refusal table, settled
 pub record Valid (s : Sheet) : Type 0 where
   -- P, C, N and L in their ranges (number 2)
   pub some-board : 1 ≤ P-of s

@@ -88,6 +88,7 @@ pub record Stops (s : Sheet) (x y : Job) (r i : ℕ) (v : ℕ) : Type 0 where
   pub not-waiting : place-at x r .waiting ≡ false
   pub job-is : y ≡ with-steps (suc (x .steps)) (stopped v r i x)
 
+-- what a step does: one of the six
 pub data Outcome (s : Sheet) (x y : Job) (r i : ℕ) : Type 0 where
   ends-half : Ends-half s x y r i → Outcome s x y r i
   ends-only-half : Ends-only-half s x y r i → Outcome s x y r i

@@ -307,6 +307,7 @@ module _ (s : Sheet) (g : Valid s) (lent : List ℕ) (x : Job) (R : Reached s le
       (λ c. omega (arith, next-fresh s x r (R .placed) n w)) (p .unmatched) (λ d. absurd (d refl)) (λ d. p .entered)
       (inr (refl, e))
 
+  -- a step of an able board goes one of the six ways
   pub outcome : Outcome s x (step s r x) r here
   unfolding step in-waiting-half initiating
   outcome = go (place-at x r .waiting) refl (only-half (op s here)) refl (is-receive (op s here)) refl

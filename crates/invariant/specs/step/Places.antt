@@ -29,6 +29,7 @@ unfolding is-none
 none-is none e = refl
 none-is (some a) e = true-not-false e refl
 
+-- board r is able in x: what that says of it and of its next operation
 pub record Next (s : Sheet) (x : Job) (r : ℕ) : Type 0 where
   pub going : x .stop ≡ none
   pub rank-small : r < P-of s
@@ -126,6 +127,7 @@ after-peak true true p = refl
 after-peak true false p = refl
 after-peak false l p = refl
 
+-- the places in y are those in x after a step of board r, which finished its operation or not (`last`)
 pub record Moved (x y : Job) (r : ℕ) (last : Bool) : Type 0 where
   -- the places after the charge or release of this step
   pub used : ℕ → Place

@@ -78,6 +78,7 @@ run-runs {s} g A room (suc fuel) o {x} R l =
     go (some r) e rest = let a = next-some s x r e in run-goes s fuel o x r (run-from fuel s (o ++ (r ∷ [])) (step s r x)) a
         (rest r a)
 
+-- a run ends where no board is able, within two steps an operation
 pub run-ended : {s : Sheet} → Valid s → Delivery-laws s → (lent : List ℕ) → inbox-total s ≤ length lent → Ends s lent
 unfolding run accepts left-by follow followed is-none started job
 run-ended {s} g A lent room =

@@ -117,6 +117,7 @@ initiates s x r w e =
     (ap (λ (b : Bool). (b || only-half (op s (next-op s x r))) || no-half (op s (next-op s x r))) w
     ∙ ap (λ (b : Bool). b || no-half (op s (next-op s x r))) e)
 
+-- what a step of board r did: the job goes on, or it stopped
 pub data After (s : Sheet) (x y : Job) (r : ℕ) : Type 0 where
   continues : y .stop ≡ none → Moved x y r (finishing s x r) → After s x y r
   stops-job : (t : Stop) → y .stop ≡ some t → y .places ≡ x .places → y .steps ≡ suc (x .steps) → After s x y r
@@ -158,6 +159,7 @@ module _ {s : Sheet} {x y : Job} {r : ℕ} (n : Next s x r) where
       (ap (λ (z : Job). z .stop) (h .job-is)) (ap (λ (z : Job). z .places) (h .job-is))
       (ap (λ (z : Job). z .steps) (h .job-is))
 
+-- a step of an able board did one or the other
 pub step-after : {s : Sheet} (g : Valid s) {lent : List ℕ} {x : Job} → Reached s lent x → (r : ℕ) → able s x r ≡ true →
     After s x (step s r x) r
 step-after {s} g {lent} {x} R r a = let n = able-next s g x r a in after n (outcome s g lent x R r n)

@@ -19,6 +19,7 @@ use Rattle.invariant.specs.Invariant.{Entered, state-at, Reached, Extended}
 use Rattle.invariant.specs.matching.Monotone.{Same-order}
 use Rattle.invariant.specs.matching.RowChanges.{state-name}
 
+-- y is x some steps later: what was entered in x arrived in y when it did, and before all else
 pub record Arrivals-grew {s : Sheet} {i : List ℕ} {x y : Job} (X : Reached s i x) (Y : Reached s i y) : Type 0 where
   pub on : (j : ℕ) → Entered x j → Entered y j
   pub old : (j : ℕ) → Entered x j → Y .arrival j ≡ X .arrival j

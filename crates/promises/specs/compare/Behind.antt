@@ -39,6 +39,7 @@ position-reach s x y r = go (place-at x r .waiting) (place-at y r .waiting)
     go false true l = omega arith
     go false false l = omega arith
 
+-- no board of x is further in its script than in y, and messages that one receive could take came in the same order
 pub record Behind {s : Sheet} {i j : List ℕ} {x y : Job} (X : Reached s i x) (Y : Reached s j y) : Type 0 where
   pub places : (r : ℕ) → r < P-of s → position x r ≤ position y r
   pub order : Same-order s (X .arrival) x (Y .arrival) y
@@ -175,5 +176,6 @@ module _ {s : Sheet} (g : Valid s) {i j : List ℕ} {x y : Job} (X : Reached s i
           let there : Entered x k = omega arith in
           bare (Y .shaped .unmatched k (behind-entered g X Y B k there) c ∙ sym (X .shaped .unmatched k there d)) d
 
+  -- jobs that are behind each other have the same rows
   pub both-behind-rows : (k : ℕ) → entry-at y k ≡ entry-at x k
   both-behind-rows k = Y .shaped .row k ∙ both-behind-row k .1 ∙ sym (X .shaped .row k)

@@ -212,6 +212,7 @@ module _ {s : Sheet} (g : Valid s) (c : calm s ≡ true) {lent : List ℕ} {x : 
       fresh : state-at x i ≡ 0
       fresh = next-fresh s x r (R .placed) n (or-false-left (place-at x r .waiting) (only-half (op s i)) half)
 
+  -- an able step on a calm sheet does not stop the job
   pub calm-going : step s r x .stop ≡ none
   unfolding stop-after
   calm-going =

@@ -197,6 +197,7 @@ module _ {s : Sheet} (g : Valid s) (A : Delivery-laws s) {lent : List ℕ} (room
       go (inr e) (inl f) = no-race-in m k w f e sm sk rr fm fk gone out
       go (inr e) (inr f) = c (e ∙ sym f)
 
+  -- after both orders the boards stand at the same places
   pub swap-same-positions : Same-positions (EPQ .reached) (EQP .reached)
   swap-same-positions =
       record {

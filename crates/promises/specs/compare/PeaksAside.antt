@@ -24,6 +24,7 @@ use Rattle.rules.specs.Report.{verdict-of, header-bytes, board-state, report}
 use Rattle.rules.specs.Claims.{without-peaks, Alike}
 use Rattle.promises.specs.compare.ReportBytes.{bare-row, bare-rows, bare-report, report-bare}
 
+-- the same rows, stop, steps and places, peaks aside
 pub record Equal-but-peaks (s : Sheet) (x y : Job) : Type 0 where
   pub entries : x .entries ≡ y .entries
   pub stop : x .stop ≡ y .stop

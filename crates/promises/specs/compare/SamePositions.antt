@@ -37,6 +37,7 @@ use Rattle.promises.specs.compare.Behind.{Behind, both-behind-rows, plac
 use Rattle.promises.specs.compare.AfterStep.{stop-after, step-stop, After, continues, stops-job, step-after, step-counted, finishing}
 use Rattle.promises.specs.compare.AfterStep.{moved-position-other, places-position, position-next, position-half, position-moved}
 
+-- the boards of x and y stand at the same places, and messages that one receive could take came in the same order
 pub record Same-positions {s : Sheet} {i j : List ℕ} {x y : Job} (X : Reached s i x) (Y : Reached s j y) : Type 0 where
   pub stop : x .stop ≡ y .stop
   pub steps : x .steps ≡ y .steps
@@ -199,6 +200,7 @@ module _ {s : Sheet} (g : Valid s) {i j : List ℕ} {x y : Job} {X : Reached s i
         go (yes c) (no e) = gone (EX .back m e hm)
         go (yes c) (yes e) = d (c ∙ sym e)
 
+    -- a step of one board in both keeps them so
     pub positions-step : Same-positions (EX .reached) (EY .reached)
     positions-step =
         record {

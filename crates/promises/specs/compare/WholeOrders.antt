@@ -23,12 +23,14 @@ use Rattle.invariant.specs.deliveries.Laws.{Delivery-laws}
 use Rattle.invariant.specs.Invariant.{Reached}
 use Rattle.promises.specs.compare.SamePositions.{Same-positions, positions-able, positions-step}
 
+-- two calls of follow were refused at the same index, and left their boards at the same places
 pub record Left-same-positions (s : Sheet) (i j : List ℕ) (a b : Followed) : Type 0 where
   pub refused : a .refused-at ≡ b .refused-at
   pub reached-x : Reached s i (a .left)
   pub reached-y : Reached s j (b .left)
   pub same-positions : Same-positions reached-x reached-y
 
+-- from jobs at the same places a whole order leads to such jobs
 pub positions-follow : {s : Sheet} → Valid s → Delivery-laws s → {i j : List ℕ} → inbox-total s ≤ length i → inbox-total s ≤ length j →
     (k : ℕ) (rs : List ℕ) →
     {x y : Job} {X : Reached s i x} {Y : Reached s j y} → Same-positions X Y → Left-same-positions s i j (follow-from k s rs x) (follow-from k s rs y)
