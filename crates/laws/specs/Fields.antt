@@ -6,7 +6,7 @@ use native.Mathlib.Omega.{arith}
 use lib.Dec.{ltb, leb, eqb}
 use borrow.Author.Tests.{ltb-true, leb-true, eqb-true, ne-eqb}
 use Rattle.rules.specs.Limits.{most-length, slot-limit}
-use Rattle.rules.specs.Sheet.{Op, is-send, is-receive, is-wait, is-nonblocking}
+use Rattle.rules.specs.Sheet.{Op, is-send, is-receive, is-nonblocking, takes-slot, names-slot}
 use Rattle.rules.specs.Refusal.{fields-good, wait-good, envelope-good, extent-good, slot-good}
 use Rattle.laws.specs.Tests.{and-left, and-right, true-not-false, cond-true, cond-false}
 
@@ -71,38 +71,38 @@ module _ (room : ℕ) (o : Op) (g : extent-good room o ≡ true) where
 
 -- of any operation, by its kind
 module _ (p c room : ℕ) (o : Op) (g : fields-good p c room o ≡ true) where
-  pub fields-wait : is-wait o ≡ true → wait-good o ≡ true
+  pub fields-wait : names-slot o ≡ true → wait-good o ≡ true
   unfolding fields-good
-  fields-wait w = sym (cond-true (is-wait o) (wait-good o) ((is-send o || is-receive o) && (envelope-good p c o && extent-good room o)) w) ∙ g
+  fields-wait w = sym (cond-true (names-slot o) (wait-good o) ((is-send o || is-receive o) && (envelope-good p c o && extent-good room o)) w) ∙ g
 
-  fields-transfer : is-wait o ≡ false → ((is-send o || is-receive o) && (envelope-good p c o && extent-good room o)) ≡ true
+  fields-transfer : names-slot o ≡ false → ((is-send o || is-receive o) && (envelope-good p c o && extent-good room o)) ≡ true
   unfolding fields-good
-  fields-transfer w = sym (cond-false (is-wait o) (wait-good o) ((is-send o || is-receive o) && (envelope-good p c o && extent-good room o)) w) ∙ g
+  fields-transfer w = sym (cond-false (names-slot o) (wait-good o) ((is-send o || is-receive o) && (envelope-good p c o && extent-good room o)) w) ∙ g
 
-  pub fields-kind : is-wait o ≡ false → (is-send o || is-receive o) ≡ true
+  pub fields-kind : names-slot o ≡ false → (is-send o || is-receive o) ≡ true
   fields-kind w = and-left (is-send o || is-receive o) (envelope-good p c o && extent-good room o) (fields-transfer w)
 
-  pub fields-envelope : is-wait o ≡ false → envelope-good p c o ≡ true
+  pub fields-envelope : names-slot o ≡ false → envelope-good p c o ≡ true
   fields-envelope w = and-left (envelope-good p c o) (extent-good room o) (and-right (is-send o || is-receive o) (envelope-good p c o && extent-good room o) (fields-transfer w))
 
-  pub fields-extent : is-wait o ≡ false → extent-good room o ≡ true
+  pub fields-extent : names-slot o ≡ false → extent-good room o ≡ true
   fields-extent w = and-right (envelope-good p c o) (extent-good room o) (and-right (is-send o || is-receive o) (envelope-good p c o && extent-good room o) (fields-transfer w))
 
   -- a wait is blocking
-  pub fields-wait-blocking : is-wait o ≡ true → is-nonblocking o ≡ false
+  pub fields-wait-blocking : names-slot o ≡ true → takes-slot o ≡ false
   unfolding is-nonblocking
   fields-wait-blocking w = ne-eqb (o .flag) 1 (λ e. absurd (omega (arith, wait-flag o (fields-wait w))))
 
   pub fields-slot : o .slot < slot-limit
-  fields-slot = go (is-wait o) refl
+  fields-slot = go (names-slot o) refl
     where
-      go : (b : Bool) → is-wait o ≡ b → o .slot < slot-limit
+      go : (b : Bool) → names-slot o ≡ b → o .slot < slot-limit
       go true w = wait-slot o (fields-wait w)
       go false w = extent-slot room o (fields-extent w)
 
   pub fields-end : o .offset + o .long ≤ room
-  fields-end = go (is-wait o) refl
+  fields-end = go (names-slot o) refl
     where
-      go : (b : Bool) → is-wait o ≡ b → o .offset + o .long ≤ room
+      go : (b : Bool) → names-slot o ≡ b → o .offset + o .long ≤ room
       go true w = omega (arith, wait-empty o (fields-wait w))
       go false w = extent-inside room o (fields-extent w)

@@ -8,7 +8,7 @@ use native.Mathlib.Omega.{arith}
 use native.Mathlib.Nat.{add-zero, add-suc, suc-add}
 use lib.Dec.{ltb, eqb}
 use borrow.Author.Tests.{lt-ltb, eq-eqb, eqb-true, not-true}
-use Rattle.rules.specs.Sheet.{Sheet, op, rank-of, is-wait, is-nonblocking}
+use Rattle.rules.specs.Sheet.{Sheet, op, rank-of, frees-slot, takes-slot}
 use Rattle.rules.specs.Refusal.{freed, holds, some-below, slot-held}
 use Rattle.laws.specs.Tests.{and-left, and-right, and-both, not-so, true-not-false}
 use Rattle.laws.specs.Below.{below-some, below-equal, below-none}
@@ -16,26 +16,26 @@ use Rattle.laws.specs.Below.{below-some, below-equal, below-none}
 -- `holds` of rules, for the board of rank r
 unfoldable pub holds-for : Sheet → (r j i : ℕ) → Bool
 holds-for s r j i =
-    (ltb j i && eqb (rank-of s j) r) && (is-nonblocking (op s j) && not (freed s (i - suc j) (suc j) (op s j .slot)))
+    (ltb j i && eqb (rank-of s j) r) && (takes-slot (op s j) && not (freed s (i - suc j) (suc j) (op s j .slot)))
 
 -- a holder of board r before operation i passes the test g
 unfoldable pub held-by : Sheet → (r i : ℕ) → (ℕ → Bool) → Bool
 held-by s r i g = some-below i (λ j. holds-for s r j i && g j)
 
 -- a wait one operation further on
-freed-last : (s : Sheet) (l j k : ℕ) → freed s (suc l) j k ≡ (freed s l j k || (is-wait (op s (j + l)) && eqb (op s (j + l) .slot) k))
+freed-last : (s : Sheet) (l j k : ℕ) → freed s (suc l) j k ≡ (freed s l j k || (frees-slot (op s (j + l)) && eqb (op s (j + l) .slot) k))
 unfolding freed
-freed-last s zero j k = rw (add-zero j) (or-false (is-wait (op s j) && eqb (op s j .slot) k))
+freed-last s zero j k = rw (add-zero j) (or-false (frees-slot (op s j) && eqb (op s j .slot) k))
 freed-last s (suc l) j k =
     let e : suc j + l ≡ j + suc l = omega arith in
-    ap (λ (b : Bool). (is-wait (op s j) && eqb (op s j .slot) k) || b)
-    (freed-last s l (suc j) k ∙ ap (λ (m : ℕ). freed s l (suc j) k || (is-wait (op s m) && eqb (op s m .slot) k)) e)
-    ∙ sym (or-assoc (is-wait (op s j) && eqb (op s j .slot) k) (freed s l (suc j) k) (is-wait (op s (j + suc l)) && eqb (op s (j + suc l) .slot) k))
+    ap (λ (b : Bool). (frees-slot (op s j) && eqb (op s j .slot) k) || b)
+    (freed-last s l (suc j) k ∙ ap (λ (m : ℕ). freed s l (suc j) k || (frees-slot (op s m) && eqb (op s m .slot) k)) e)
+    ∙ sym (or-assoc (frees-slot (op s j) && eqb (op s j .slot) k) (freed s l (suc j) k) (frees-slot (op s (j + suc l)) && eqb (op s (j + suc l) .slot) k))
 
 module _ (s : Sheet) (r i : ℕ) where
   -- operation i ends j's hold: it is a wait on j's slot
   abbrev pub ends : (j : ℕ) → Bool
-  ends j = is-wait (op s i) && eqb (op s i .slot) (op s j .slot)
+  ends j = frees-slot (op s i) && eqb (op s i .slot) (op s j .slot)
 
   -- an earlier holder goes on unless operation i ends its hold
   holds-on : (j : ℕ) → j < i → holds-for s r j (suc i) ≡ (holds-for s r j i && not (ends j))
@@ -48,8 +48,8 @@ module _ (s : Sheet) (r i : ℕ) where
       let k : ℕ = op s j .slot in
       let last : freed s (suc i - suc j) (suc j) k ≡ (freed s (i - suc j) (suc j) k || ends j) =
       ap (λ (m : ℕ). freed s m (suc j) k) n ∙ (freed-last s (i - suc j) (suc j) k
-      ∙ ap (λ (m : ℕ). freed s (i - suc j) (suc j) k || (is-wait (op s m) && eqb (op s m .slot) k)) at) in
-      rw (now, then, last) (both (eqb (rank-of s j) r) (is-nonblocking (op s j)) (freed s (i - suc j) (suc j) k) (ends j))
+      ∙ ap (λ (m : ℕ). freed s (i - suc j) (suc j) k || (frees-slot (op s m) && eqb (op s m .slot) k)) at) in
+      rw (now, then, last) (both (eqb (rank-of s j) r) (takes-slot (op s j)) (freed s (i - suc j) (suc j) k) (ends j))
     where
       both : (a b c d : Bool) → (a && (b && not (c || d))) ≡ ((a && (b && not c)) && not d)
       both false b c d = refl
@@ -58,19 +58,19 @@ module _ (s : Sheet) (r i : ℕ) where
       both true true false d = refl
 
   -- operation i itself
-  holds-new : rank-of s i ≡ r → holds-for s r i (suc i) ≡ is-nonblocking (op s i)
+  holds-new : rank-of s i ≡ r → holds-for s r i (suc i) ≡ takes-slot (op s i)
   unfolding holds-for freed
   holds-new e =
       let now : ltb i (suc i) ≡ true = lt-ltb i (suc i) (omega arith) in
       let rank : eqb (rank-of s i) r ≡ true = eq-eqb (rank-of s i) r e in
       let n : suc i - suc i ≡ 0 = omega arith in
-      rw (now, rank, n) (whole (is-nonblocking (op s i)))
+      rw (now, rank, n) (whole (takes-slot (op s i)))
     where
       whole : (b : Bool) → (b && true) ≡ b
       whole true = refl
       whole false = refl
 
-  pub held-more : rank-of s i ≡ r → (g : ℕ → Bool) → held-by s r (suc i) g ≡ ((is-nonblocking (op s i) && g i) || held-by s r i (λ j. not (ends j) && g j))
+  pub held-more : rank-of s i ≡ r → (g : ℕ → Bool) → held-by s r (suc i) g ≡ ((takes-slot (op s i) && g i) || held-by s r i (λ j. not (ends j) && g j))
   unfolding held-by some-below
   held-more e g =
       ap₂ (λ (a b : Bool). a || b) (ap (λ (b : Bool). b && g i) (holds-new e))
@@ -101,7 +101,7 @@ module _ (s : Sheet) (r i : ℕ) (e : rank-of s i ≡ r) (rest : ℕ → Bool) w
   pub by-slot-other : (k : ℕ) → (k ≡ op s i .slot → ⊥) → by-slot s r (suc i) k rest ≡ by-slot s r i k rest
   by-slot-other k d =
       held-more s r i e (named k)
-      ∙ (ap₂ (λ (a b : Bool). a || b) (none-new (is-nonblocking (op s i)) (eqb (op s i .slot) k) refl) (held-equal s r i (λ j. not (ends s r i j) && named k j) (named k) same))
+      ∙ (ap₂ (λ (a b : Bool). a || b) (none-new (takes-slot (op s i)) (eqb (op s i .slot) k) refl) (held-equal s r i (λ j. not (ends s r i j) && named k j) (named k) same))
     where
       none-new : (a b : Bool) → eqb (op s i .slot) k ≡ b → (a && (b && rest i)) ≡ false
       none-new true true h = absurd (d (sym (eqb-true (op s i .slot) k h)))
@@ -109,7 +109,7 @@ module _ (s : Sheet) (r i : ℕ) (e : rank-of s i ≡ r) (rest : ℕ → Bool) w
       none-new false b h = refl
 
       same : (j : ℕ) → (not (ends s r i j) && named k j) ≡ named k j
-      same j = go (eqb (op s j .slot) k) refl (is-wait (op s i)) (eqb (op s i .slot) (op s j .slot)) refl
+      same j = go (eqb (op s j .slot) k) refl (frees-slot (op s i)) (eqb (op s i .slot) (op s j .slot)) refl
         where
           go : (a : Bool) → eqb (op s j .slot) k ≡ a → (w b : Bool) → eqb (op s i .slot) (op s j .slot) ≡ b → (not (w && b) && (a && rest j)) ≡ (a && rest j)
           go false p w b q = all-false (not (w && b))
@@ -122,7 +122,7 @@ module _ (s : Sheet) (r i : ℕ) (e : rank-of s i ≡ r) (rest : ℕ → Bool) w
           go true p true true q = absurd (d (sym (eqb-true (op s i .slot) (op s j .slot) q ∙ eqb-true (op s j .slot) k p)))
 
   -- a wait leaves nobody holding its slot
-  pub by-slot-freed : is-wait (op s i) ≡ true → is-nonblocking (op s i) ≡ false → by-slot s r (suc i) (op s i .slot) rest ≡ false
+  pub by-slot-freed : frees-slot (op s i) ≡ true → takes-slot (op s i) ≡ false → by-slot s r (suc i) (op s i .slot) rest ≡ false
   unfolding held-by
   by-slot-freed w n =
       held-more s r i e (named (op s i .slot))
@@ -136,10 +136,10 @@ module _ (s : Sheet) (r i : ℕ) (e : rank-of s i ≡ r) (rest : ℕ → Bool) w
           true-not-false z (not-true (ends s r i j) (and-left (not (ends s r i j)) (named (op s i .slot) j) h))
 
   -- a nonblocking operation that takes a free slot is its only holder
-  pub by-slot-taken : is-wait (op s i) ≡ false → is-nonblocking (op s i) ≡ true → by-slot s r i (op s i .slot) (λ j. true) ≡ false → by-slot s r (suc i) (op s i .slot) rest ≡ rest i
+  pub by-slot-taken : frees-slot (op s i) ≡ false → takes-slot (op s i) ≡ true → by-slot s r i (op s i .slot) (λ j. true) ≡ false → by-slot s r (suc i) (op s i .slot) rest ≡ rest i
   by-slot-taken w n free =
       held-more s r i e (named (op s i .slot))
-      ∙ (ap₂ (λ (a b : Bool). a || b) (new (is-nonblocking (op s i)) n (eqb (op s i .slot) (op s i .slot)) (eq-eqb (op s i .slot) (op s i .slot) refl))
+      ∙ (ap₂ (λ (a b : Bool). a || b) (new (takes-slot (op s i)) n (eqb (op s i .slot) (op s i .slot)) (eq-eqb (op s i .slot) (op s i .slot) refl))
       (held-stricter s r i (λ j. eqb (op s j .slot) (op s i .slot) && true) (λ j. not (ends s r i j) && named (op s i .slot) j) looser free)
       ∙ or-false (rest i))
     where
@@ -152,7 +152,7 @@ module _ (s : Sheet) (r i : ℕ) (e : rank-of s i ≡ r) (rest : ℕ → Bool) w
       looser j h = and-both (and-left (eqb (op s j .slot) (op s i .slot)) (rest j) (and-right (not (ends s r i j)) (named (op s i .slot) j) h)) refl
 
   -- a blocking send or receive changes no hold
-  pub by-slot-same : is-wait (op s i) ≡ false → is-nonblocking (op s i) ≡ false → (k : ℕ) → by-slot s r (suc i) k rest ≡ by-slot s r i k rest
+  pub by-slot-same : frees-slot (op s i) ≡ false → takes-slot (op s i) ≡ false → (k : ℕ) → by-slot s r (suc i) k rest ≡ by-slot s r i k rest
   by-slot-same w n k =
       held-more s r i e (named k)
       ∙ ap₂ (λ (a b : Bool). a || b) (ap (λ (b : Bool). b && named k i) n)
