@@ -90,7 +90,7 @@ module _ (p c room : ℕ) (o : Op) (g : fields-good p c room o ≡ true) where
 
   -- a wait is blocking
   pub fields-wait-blocking : names-slot o ≡ true → takes-slot o ≡ false
-  unfolding is-nonblocking
+  unfolding is-nonblocking takes-slot
   fields-wait-blocking w = ne-eqb (o .flag) 1 (λ e. absurd (omega (arith, wait-flag o (fields-wait w))))
 
   pub fields-slot : o .slot < slot-limit

@@ -17,9 +17,9 @@ unfoldable pub definitions : Unit {0}
 unfolding
     Crc.xor Crc.shift Crc.shifts Crc.crc-byte Crc.crc-from Crc.crc
     Sheet.no-op Sheet.no-board Sheet.P-of Sheet.N-of Sheet.op Sheet.board Sheet.is-send Sheet.is-buffered
-    Sheet.is-ready Sheet.is-receive Sheet.is-wait Sheet.is-nonblocking Sheet.sum-before Sheet.counts-before
-    Sheet.inbox-start Sheet.inbox-total Sheet.rank-from Sheet.rank-of Sheet.two Sheet.boards-in Sheet.ops-in
-    Sheet.sheet-in
+    Sheet.is-ready Sheet.is-receive Sheet.is-wait Sheet.is-nonblocking Sheet.only-half Sheet.no-half
+    Sheet.takes-slot Sheet.names-slot Sheet.frees-slot Sheet.sum-before Sheet.counts-before Sheet.inbox-start
+    Sheet.inbox-total Sheet.rank-from Sheet.rank-of Sheet.two Sheet.boards-in Sheet.ops-in Sheet.sheet-in
     Refusal.refusal Refusal.or-else Refusal.first-broken Refusal.sizes-good Refusal.layout-good Refusal.crc-good
     Refusal.board-good Refusal.boards-refusal Refusal.or-any Refusal.envelope-good Refusal.slot-good
     Refusal.extent-good Refusal.wait-good Refusal.fields-good Refusal.room-for Refusal.op-good Refusal.ops-refusal

@@ -67,24 +67,30 @@ receive-not-wait o e = not-so (is-wait o) (λ h. omega (arith, receive-kind o e,
 
 -- sends and receives have an initiating step
 pub send-not-only-half : (o : Op) → is-send o ≡ true → only-half o ≡ false
+unfolding only-half
 send-not-only-half o e = send-not-wait o e
 
 pub receive-not-only-half : (o : Op) → is-receive o ≡ true → only-half o ≡ false
+unfolding only-half
 receive-not-only-half o e = receive-not-wait o e
 
 -- a receive neither names a slot that is held nor frees one
 pub receive-not-names : (o : Op) → is-receive o ≡ true → names-slot o ≡ false
+unfolding names-slot
 receive-not-names o e = receive-not-wait o e
 
 pub receive-not-frees : (o : Op) → is-receive o ≡ true → frees-slot o ≡ false
+unfolding frees-slot
 receive-not-frees o e = receive-not-wait o e
 
 -- a receive that has no waiting half is nonblocking, and takes a slot
 pub receive-no-half-takes : (o : Op) → is-receive o ≡ true → no-half o ≡ true → takes-slot o ≡ true
+unfolding no-half takes-slot
 receive-no-half-takes o e h = h
 
 -- what names a slot that is held has no initiating step
 not-only-half-names : (o : Op) → only-half o ≡ false → names-slot o ≡ false
+unfolding only-half names-slot
 not-only-half-names o h = h
 
 module _ (s : Sheet) (g : Valid s) (i : ℕ) (l : i < N-of s) where
@@ -121,10 +127,12 @@ module _ (s : Sheet) (g : Valid s) (i : ℕ) (l : i < N-of s) where
 
   -- an operation that frees a slot does it in a waiting half
   pub frees-not-no-half : frees-slot (op s i) ≡ true → no-half (op s i) ≡ false
+  unfolding frees-slot names-slot no-half
   frees-not-no-half f = names-blocking f
 
   -- one that takes a slot names none that is held
   pub takes-not-names : takes-slot (op s i) ≡ true → names-slot (op s i) ≡ false
+  unfolding takes-slot
   takes-not-names t = not-so (names-slot (op s i)) (λ n. true-not-false t (names-blocking n))
 
 -- FITS
