@@ -20,7 +20,7 @@ use native.Mathlib.Omega.{arith}
 use lib.Dec.{eqb}
 use lib.ListN.{length, getD, length-append}
 use borrow.Author.Tests.{leb-false, lt-leb}
-use Rattle.rules.specs.Sheet.{Sheet, op, board, P-of, N-of, rank-of, is-send, is-receive, is-wait}
+use Rattle.rules.specs.Sheet.{Sheet, op, board, P-of, N-of, rank-of, is-send, is-receive, only-half}
 use Rattle.rules.specs.Job.{Job, place-at}
 use Rattle.rules.specs.Step.{able, next-op, is-finished, in-waiting-half, fits-with, without}
 use Rattle.laws.specs.Tests.{or-false-left, or-false-right}
@@ -110,11 +110,11 @@ module _ {s : Sheet} (g : Valid s) {lent : List ℕ} {x : Job} (R : Reached s le
   unfolding in-waiting-half
   next-new r a w =
       next-fresh s x r (R .placed) (able-next s g x r a)
-      (or-false-left (place-at x r .waiting) (is-wait (op s (next-op s x r))) w)
+      (or-false-left (place-at x r .waiting) (only-half (op s (next-op s x r))) w)
 
-  pub next-kind : (r : ℕ) → able s x r ≡ true → in-waiting-half s x r ≡ false → is-wait (op s (next-op s x r)) ≡ false
+  pub next-kind : (r : ℕ) → able s x r ≡ true → in-waiting-half s x r ≡ false → only-half (op s (next-op s x r)) ≡ false
   unfolding in-waiting-half
-  next-kind r a w = or-false-right (place-at x r .waiting) (is-wait (op s (next-op s x r))) w
+  next-kind r a w = or-false-right (place-at x r .waiting) (only-half (op s (next-op s x r))) w
 
   pub next-send : (r : ℕ) → able s x r ≡ true → in-waiting-half s x r ≡ false → is-receive (op s (next-op s x r)) ≡ false →
       is-send (op s (next-op s x r)) ≡ true
@@ -141,7 +141,7 @@ module _ {s : Sheet} (g : Valid s) {lent : List ℕ} {x : Job} (R : Reached s le
 
   -- each stands there once
   messages-apart : Holds Differ (Pending-message s x) (x .messages)
-  messages-apart = holds-same (R .messages-held) (λ v u p q c e. omega (arith, c, ap (R .came) e)) (λ v p. p) (λ v p. p)
+  messages-apart = holds-same (R .messages-held) (λ v u p q c e. omega (arith, c, ap (R .arrival) e)) (λ v p. p) (λ v p. p)
 
   receives-apart : Holds Differ (Pending-receive s x) (x .receives)
   receives-apart =
@@ -178,8 +178,8 @@ module _ {s : Sheet} (g : Valid s) {lent : List ℕ} {x : Job} (R : Reached s le
   new-receive i e = without-none i (x .receives) (λ k. omega (arith, R .receives-held .sound i k .entered))
 
   -- MATCHES
-  pub matched-receive : (r : ℕ) → r < N-of s → is-receive (op s r) ≡ true → state-at x r ≡ 3 →
-      (partner-at x r < N-of s) × (is-send (op s (partner-at x r)) ≡ true) × (fits-with s (partner-at x r) r ≡ true)
-  matched-receive r l h e =
-      let m = R .stable .receive-met r h e in
-      (send-inside s (partner-at x r) (m .sends), m .sends, m .fit)
+  pub matched-receive : (q : ℕ) → q < N-of s → is-receive (op s q) ≡ true → state-at x q ≡ 3 →
+      (partner-at x q < N-of s) × (is-send (op s (partner-at x q)) ≡ true) × (fits-with s (partner-at x q) q ≡ true)
+  matched-receive q l h e =
+      let m = R .stable .receive-met q h e in
+      (send-inside s (partner-at x q) (m .sends), m .sends, m .fit)

@@ -2,13 +2,13 @@
 -- fitting pair is pending, and each match took the earliest on both sides), a stable matching over given entered operations
 -- is unique, and rows, memory and buffer use follow from it. `Reached` collects what every job that an order leads to keeps;
 -- each field says who needs it.
---   Met        a message and a receive that are matched with each other
---   Stable     the matching is stable
---   Arrived    in which order the entered sends came
---   Placed     which operations are entered and complete, by where the boards stand
---   Shaped     a row is determined by its state and partner
---   Reached    all of it, and the waiting lists, charges, memory and steps
---   Extended   the invariant after a step, and what the step did to the order of arrival
+--   Matched-pair    a message and a receive that are matched with each other
+--   Stable          the matching is stable
+--   Arrived         in which order the entered sends came
+--   Placed          which operations are entered and complete, by where the boards stand
+--   Shaped          a row is determined by its state and partner
+--   Reached         all of it, and the waiting lists, charges, memory and steps
+--   Extended        the invariant after a step, and what the step did to the order of arrival
 -- Assumes nothing: these are definitions.
 use mathlib.Core.Path.{_≡_}
 use mathlib.Core.Logic.{_⊎_, _≢_}
@@ -19,7 +19,7 @@ use Prim.Native.Nat.{ℕ, zero, suc, _+_, _≤_, _<_}
 use lib.Dec.{eqb, ltb}
 use lib.ListN.{length}
 use Rattle.rules.specs.Limits.{absent}
-use Rattle.rules.specs.Sheet.{Sheet, Op, op, board, P-of, N-of, rank-of, is-send, is-receive, is-wait, is-buffered, is-nonblocking}
+use Rattle.rules.specs.Sheet.{Sheet, Op, op, board, P-of, N-of, rank-of, is-send, is-receive, only-half, is-buffered, no-half}
 use Rattle.rules.specs.Job.{Job, Entry, Stop, entry, bare-entry, entry-at, place-at}
 use Rattle.rules.specs.Step.{next-op, half-complete, fits-with, is-cut, charge-of, delivered, is-none}
 use Rattle.laws.specs.Sums.{sum-below}
@@ -31,7 +31,7 @@ state-at x j = entry-at x j .state
 abbrev pub partner-at : Job → (j : ℕ) → ℕ
 partner-at x j = entry-at x j .partner
 
--- an operation is entered by its initiating step, a wait by its only one
+-- an operation is entered by its initiating step, and one that is only a waiting half by that
 abbrev pub Entered : Job → (j : ℕ) → Type 0
 Entered x j = 1 ≤ state-at x j
 
@@ -41,46 +41,47 @@ pub record Pending-message (s : Sheet) (x : Job) (m : ℕ) : Type 0 where
   pub entered : Entered x m
   pub unmatched : state-at x m ≢ 3
 
-pub record Pending-receive (s : Sheet) (x : Job) (r : ℕ) : Type 0 where
-  pub receives : is-receive (op s r) ≡ true
-  pub entered : Entered x r
-  pub unmatched : state-at x r ≢ 3
+pub record Pending-receive (s : Sheet) (x : Job) (q : ℕ) : Type 0 where
+  pub receives : is-receive (op s q) ≡ true
+  pub entered : Entered x q
+  pub unmatched : state-at x q ≢ 3
 
--- message m and receive r are matched with each other
-pub record Met (s : Sheet) (x : Job) (m r : ℕ) : Type 0 where
+-- message m and receive q are matched with each other
+pub record Matched-pair (s : Sheet) (x : Job) (m q : ℕ) : Type 0 where
   pub sends : is-send (op s m) ≡ true
-  pub receives : is-receive (op s r) ≡ true
-  pub fit : fits-with s m r ≡ true
+  pub receives : is-receive (op s q) ≡ true
+  pub fit : fits-with s m q ≡ true
   pub message-matched : state-at x m ≡ 3
-  pub receive-matched : state-at x r ≡ 3
-  pub to-receive : partner-at x m ≡ r
-  pub to-message : partner-at x r ≡ m
+  pub receive-matched : state-at x q ≡ 3
+  pub to-receive : partner-at x m ≡ q
+  pub to-message : partner-at x q ≡ m
 
--- STABLE, where `came` gives the order in which the sends were entered
-pub record Stable (s : Sheet) (came : ℕ → ℕ) (x : Job) : Type 0 where
+-- STABLE, where `arrival` gives the order in which the sends were entered
+pub record Stable (s : Sheet) (arrival : ℕ → ℕ) (x : Job) : Type 0 where
   -- matched operations come in pairs (everyone)
-  pub message-met : (m : ℕ) → is-send (op s m) ≡ true → state-at x m ≡ 3 → Met s x m (partner-at x m)
-  pub receive-met : (r : ℕ) → is-receive (op s r) ≡ true → state-at x r ≡ 3 → Met s x (partner-at x r) r
+  pub message-pair : (m : ℕ) → is-send (op s m) ≡ true → state-at x m ≡ 3 → Matched-pair s x m (partner-at x m)
+  pub receive-met : (q : ℕ) → is-receive (op s q) ≡ true → state-at x q ≡ 3 → Matched-pair s x (partner-at x q) q
   -- no pending message fits a pending receive (None-fit)
-  pub none-fit : (m r : ℕ) → Pending-message s x m → Pending-receive s x r → fits-with s m r ≡ true → ⊥
+  pub none-fit : (m q : ℕ) → Pending-message s x m → Pending-receive s x q → fits-with s m q ≡ true → ⊥
   -- a receive took the earliest message: one that came before and fits was taken by an earlier receive (No-overtaking)
-  pub first-sent : (m r k : ℕ) → Met s x m r → is-send (op s k) ≡ true → Entered x k → came k < came m →
-      fits-with s k r ≡ true → (state-at x k ≡ 3) × (partner-at x k < r)
+  pub first-sent : (m q k : ℕ) → Matched-pair s x m q → is-send (op s k) ≡ true → Entered x k → arrival k < arrival m →
+      fits-with s k q ≡ true → (state-at x k ≡ 3) × (partner-at x k < q)
   -- a message went to the earliest receive: an earlier one of that board that it fits is matched (its other half)
-  pub first-posted : (m r q : ℕ) → Met s x m r → is-receive (op s q) ≡ true → q < r → fits-with s m q ≡ true → state-at x q ≡ 3
+  pub first-posted : (m q p : ℕ) → Matched-pair s x m q → is-receive (op s p) ≡ true → p < q → fits-with s m p ≡ true → state-at x p ≡ 3
 
--- ARRIVED: `came` numbers the entered sends by the step that entered them, so that each sender's are in script order
-pub record Arrived (s : Sheet) (came : ℕ → ℕ) (x : Job) : Type 0 where
-  pub past : (m : ℕ) → Entered x m → came m < x .steps
-  pub apart : (k m : ℕ) → is-send (op s k) ≡ true → is-send (op s m) ≡ true → Entered x k → Entered x m → came k ≡ came m → k ≡ m
+-- ARRIVED: `arrival` numbers the entered sends by the step that entered them, so that each sender's are in script order
+pub record Arrived (s : Sheet) (arrival : ℕ → ℕ) (x : Job) : Type 0 where
+  pub past : (m : ℕ) → Entered x m → arrival m < x .steps
+  pub apart : (k m : ℕ) → is-send (op s k) ≡ true → is-send (op s m) ≡ true → Entered x k → Entered x m → arrival k ≡ arrival m → k ≡ m
   pub in-script : (k m : ℕ) → is-send (op s k) ≡ true → is-send (op s m) ≡ true → Entered x k → Entered x m →
       rank-of s k ≡ rank-of s m →
-      k < m → came k < came m
+      k < m → arrival k < arrival m
 
 -- PLACED: a board has entered its operations up to here
 unfoldable pub reach : Sheet → Job → (r : ℕ) → ℕ
 reach s x r = next-op s x r + cond (place-at x r .waiting) 1 0
 
+-- where the boards stand decides what is entered, and what has been waited for
 pub record Placed (s : Sheet) (x : Job) : Type 0 where
   -- lengths (the report; the engine's tables)
   pub entries-long : length (x .entries) ≡ N-of s
@@ -89,13 +90,13 @@ pub record Placed (s : Sheet) (x : Job) : Type 0 where
   pub finished-most : (r : ℕ) → r < P-of s → place-at x r .finished ≤ board s r .count
   -- only a blocking operation has a waiting half after its initiating step (step-behind)
   pub waiting-unfinished : (r : ℕ) → r < P-of s → place-at x r .waiting ≡ true → place-at x r .finished < board s r .count
-  pub waiting-blocking : (r : ℕ) → r < P-of s → place-at x r .waiting ≡ true → is-nonblocking (op s (next-op s x r)) ≡ false
-  pub waiting-no-wait : (r : ℕ) → r < P-of s → place-at x r .waiting ≡ true → is-wait (op s (next-op s x r)) ≡ false
+  pub waiting-not-no-half : (r : ℕ) → r < P-of s → place-at x r .waiting ≡ true → no-half (op s (next-op s x r)) ≡ false
+  pub waiting-not-only-half : (r : ℕ) → r < P-of s → place-at x r .waiting ≡ true → only-half (op s (next-op s x r)) ≡ false
   -- an operation is entered exactly when it lies before its board's reach (determinacy)
   pub entered-if : (j : ℕ) → j < N-of s → j < reach s x (rank-of s j) → Entered x j
   pub entered-only : (j : ℕ) → Entered x j → (j < N-of s) × (j < reach s x (rank-of s j))
-  -- a finished operation that is a wait or blocking had what it waited for complete (disjoint areas)
-  pub passed-complete : (j : ℕ) → j < N-of s → j < next-op s x (rank-of s j) → is-nonblocking (op s j) ≡ false →
+  -- a finished operation with a waiting half had what it waited for complete (disjoint areas)
+  pub passed-complete : (j : ℕ) → j < N-of s → j < next-op s x (rank-of s j) → no-half (op s j) ≡ false →
       half-complete s x j ≡ true
 
 -- SHAPED: a row by its state and partner
@@ -108,20 +109,21 @@ row-of s j v p =
 
 -- the state of an entered operation that is not matched
 unfoldable pub unmatched-state : Op → ℕ
-unmatched-state o = cond (is-wait o) 5 (cond (is-buffered o) 2 1)
+unmatched-state o = cond (only-half o) 5 (cond (is-buffered o) 2 1)
 
+-- what the rows of a job can be
 pub record Shaped (s : Sheet) (x : Job) : Type 0 where
   -- (the report's rows; whole or cut)
   pub row : (j : ℕ) → entry-at x j ≡ row-of s j (state-at x j) (partner-at x j)
   -- (determinacy, still-able)
   pub unmatched : (j : ℕ) → Entered x j → state-at x j ≢ 3 → state-at x j ≡ unmatched-state (op s j)
-  pub wait-unmatched : (j : ℕ) → is-wait (op s j) ≡ true → state-at x j ≢ 3
+  pub only-half-unmatched : (j : ℕ) → only-half (op s j) ≡ true → state-at x j ≢ 3
 
 -- CHARGED: what operation j has in the attached buffer of board r
 unfoldable pub charge-in : Sheet → Job → (r j : ℕ) → ℕ
 charge-in s x r j = cond (eqb (rank-of s j) r && eqb (state-at x j) 2) (charge-of (op s j)) 0
 
--- PAINTED: inboxes with every matched receive among the first n operations delivered, in script order
+-- REPLAYED: inboxes with every matched receive among the first n operations delivered, in script order
 unfoldable pub replay : Sheet → Job → (j : ℕ) → List ℕ → List ℕ
 replay s x j bs = cond (is-receive (op s j) && eqb (state-at x j) 3) (delivered s (partner-at x j) j bs) bs
 
@@ -129,9 +131,9 @@ unfoldable pub replayed : Sheet → Job → (n : ℕ) → List ℕ → List ℕ
 replayed s x zero bs = bs
 replayed s x (suc j) bs = replay s x j (replayed s x j bs)
 
--- STEPS that operation j has taken: a blocking send or receive has two, a wait and a nonblocking operation one
+-- STEPS that operation j has taken: one that has both an initiating step and a waiting half has two
 unfoldable pub steps-of : Op → ℕ
-steps-of o = cond (is-nonblocking o || is-wait o) 1 2
+steps-of o = cond (no-half o || only-half o) 1 2
 
 unfoldable pub steps-done : Sheet → Job → (j : ℕ) → ℕ
 steps-done s x j =
@@ -148,19 +150,20 @@ pub record Stopped (s : Sheet) (x : Job) (t : Stop) : Type 0 where
 abbrev pub Posted-before : Sheet → (a b : ℕ) → Type 0
 Posted-before s a b = rank-of s a ≡ rank-of s b → a < b
 
-abbrev pub Came-before : (came : ℕ → ℕ) → (a b : ℕ) → Type 0
-Came-before came a b = came a < came b
+-- order of the entered sends
+abbrev pub Arrived-before : (arrival : ℕ → ℕ) → (a b : ℕ) → Type 0
+Arrived-before arrival a b = arrival a < arrival b
 
 -- `i` is the lent inboxes
 pub record Reached (s : Sheet) (i : List ℕ) (x : Job) : Type 0 where
   -- the step at which each send was entered: known to the proofs only
-  pub came : ℕ → ℕ
-  pub stable : Stable s came x
-  pub arrived : Arrived s came x
+  pub arrival : ℕ → ℕ
+  pub stable : Stable s arrival x
+  pub arrived : Arrived s arrival x
   pub placed : Placed s x
   pub shaped : Shaped s x
   -- the waiting lists hold exactly what is pending: messages by arrival, each board's receives in script order (steps)
-  pub messages-held : Holds (Came-before came) (Pending-message s x) (x .messages)
+  pub messages-held : Holds (Arrived-before arrival) (Pending-message s x) (x .messages)
   pub receives-held : Holds (Posted-before s) (Pending-receive s x) (x .receives)
   -- in use is the sum of the pending charges, and at most the peak (In-use, Peaks, calm sheets never stop)
   pub in-use-sum : (r : ℕ) → r < P-of s → place-at x r .in-use ≡ sum-below (N-of s) (charge-in s x r)
@@ -182,5 +185,5 @@ pub record Extended {s : Sheet} {lent : List ℕ} {x : Job} (R : Reached s lent 
   pub reached : Reached s lent y
   pub on : (j : ℕ) → Entered x j → Entered y j
   pub back : (j : ℕ) → j ≢ i → Entered y j → Entered x j
-  pub old : (j : ℕ) → Entered x j → reached .came j ≡ R .came j
-  pub new : Entered y i → (Entered x i → ⊥) → (j : ℕ) → Entered x j → reached .came j < reached .came i
+  pub old : (j : ℕ) → Entered x j → reached .arrival j ≡ R .arrival j
+  pub new : Entered y i → (Entered x i → ⊥) → (j : ℕ) → Entered x j → reached .arrival j < reached .arrival i

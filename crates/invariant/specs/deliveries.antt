@@ -1,5 +1,5 @@
 -- The bytes that matches copy.
---   Assumed    what the proofs about steps use of bytes and areas, as one record
+--   Laws       what the proofs about steps use of bytes and areas, as one record
 --   Commute    deliveries byte by byte, and which of them commute: the record, proved
-pub mod Assumed
+pub mod Laws
 pub mod Commute

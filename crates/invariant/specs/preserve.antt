@@ -7,7 +7,7 @@
 --   Charges         bytes in use
 --   Memory          the inboxes
 --   SameRows        jobs with the same rows
---   NextPart        which part of an operation comes next
+--   OngoingSteps    the three ways to step without stopping
 --   Stop            a stopping step
 --   Step            an able step keeps the whole invariant
 --   Orders          the start has it, and an order keeps it
@@ -19,7 +19,7 @@ pub mod WaitingLists
 pub mod Charges
 pub mod Memory
 pub mod SameRows
-pub mod NextPart
+pub mod OngoingSteps
 pub mod Stop
 pub mod Step
 pub mod Orders

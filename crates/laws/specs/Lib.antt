@@ -14,7 +14,8 @@
 --   CrcStep   a byte of the CRC by a table of remainders
 --   Sums          sums over the numbers below n
 --   WaitingLists  members, order, searches, removal
---   SpliceOrder   bytes put into a list at a place
+--   Splice        bytes put into a list at a place: what is read there, and what stays
+--   SpliceOrder   splices in any order
 pub mod Tests
 pub mod Below
 pub mod Broken
@@ -30,4 +31,5 @@ pub mod Xor
 pub mod CrcStep
 pub mod Sums
 pub mod WaitingLists
+pub mod Splice
 pub mod SpliceOrder

@@ -79,7 +79,9 @@ unfolding rank-from
 rank-from-end q [] i k e h = absurd (omega arith)
 rank-from-end q (b ∷ bs) i k e h = go (ltb i (b .first + b .count)) refl e k refl h (λ j l. rank-from-end (suc q) bs i j l)
   where
-    go : (t : Bool) → ltb i (b .first + b .count) ≡ t → cond t q (rank-from (suc q) bs i) ≡ q + k → (m : ℕ) → k ≡ m → k < suc (length bs) → ((j : ℕ) → rank-from (suc q) bs i ≡ suc q + j → j < length bs → i < script-end bs j) → i < script-end (b ∷ bs) k
+    go : (t : Bool) → ltb i (b .first + b .count) ≡ t → cond t q (rank-from (suc q) bs i) ≡ q + k → (m : ℕ) → k ≡ m →
+        k < suc (length bs) → ((j : ℕ) → rank-from (suc q) bs i ≡ suc q + j → j < length bs → i < script-end bs j) →
+        i < script-end (b ∷ bs) k
     go true p r zero z l ih = subst (λ (n : ℕ). i < script-end (b ∷ bs) n) (sym z) (ltb-true i (b .first + b .count) p)
     go true p r (suc m) z l ih = absurd (omega arith)
     go false p r zero z l ih = absurd (let x = rank-from-least (suc q) bs 0 i (omega arith) (λ j y. absurd (omega arith)) in omega arith)
@@ -139,5 +141,11 @@ module _ (s : Sheet) (c : Consecutive s) where
           (below, lower (decLt i (board s r .first)), end)
         where
           lower : Dec (i < board s (rank-of s i) .first) → board s (rank-of s i) .first ≤ i
-          lower (yes l) = absurd (let a = rank-from-most 0 (s .boards) p i (omega arith) (let last = script-next p (omega arith) in let y = ap (λ (n : ℕ). counts-before s n) e in omega arith) in let x = rank-before-script (rank-of s i) i (omega arith) l in omega arith)
+          lower (yes l) =
+              absurd
+              (let last = script-next p (omega arith) in
+              let y = ap (λ (n : ℕ). counts-before s n) e in
+              let a = rank-from-most 0 (s .boards) p i (omega arith) (omega arith) in
+              let x = rank-before-script (rank-of s i) i (omega arith) l in
+              omega arith)
           lower (no l) = omega arith

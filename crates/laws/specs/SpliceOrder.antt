@@ -1,23 +1,24 @@
--- Bytes put into a list at a place: what stands where afterwards, and splices over ranges that share no index commute.
---   within          index i lies among n indices from `at` on
---   splice-length   a splice inside keeps the length
---   splice-at       each byte of a splice
---   splice-swap     two splices commute
---   Near            two lists, long enough, that agree on their first n bytes
---   splice-near     and do so after the same splice
+-- Splices in any order: each byte of a splice by cases, and two splices over ranges that share no index commute; lists that
+-- agree on their first bytes agree on them after the same splice.
+--   within, within-..   index i lies among n indices from `at` on
+--   splice-at           each byte of a splice
+--   Disjoint            ranges that share no index
+--   splice-swap         two splices commute
+--   Near, splice-near   two lists, long enough, that agree on their first n bytes
 -- Assumes nothing.
 use mathlib.Core.Path.{_≡_, refl, sym, ap, subst, _∙_}
 use mathlib.Core.Bool.{Bool, true, false, _&&_, cond}
-use mathlib.Core.List.{List, _++_}
-use Prim.Native.Nat.{ℕ, _+_, _-_, _≤_, _<_, min}
+use mathlib.Core.List.{List}
+use Prim.Native.Nat.{ℕ, _+_, _-_, _≤_, _<_}
 use native.Mathlib.Omega.{arith}
 use native.Mathlib.Decide.{decLt}
 use lib.Dec.{ltb, leb}
 use borrow.Author.Tests.{leb-true, ltb-true, le-leb, lt-ltb}
-use lib.ListN.{length, getD, take, drop, length-append, length-take, length-drop, List·getD-append}
-use lib.Seq.{length-take-le, getD-take, getD-drop, getD-append-add, ext-getD}
+use lib.ListN.{length, getD, take}
+use lib.Seq.{length-take-le, getD-take, ext-getD}
 use Rattle.rules.specs.Step.{splice}
 use Rattle.laws.specs.Tests.{and-left, and-right, and-both, not-so}
+use Rattle.laws.specs.Splice.{Apart, splice-length, splice-longer, splice-before, splice-in, splice-after}
 
 abbrev pub within : (at n i : ℕ) → Bool
 within at n i = leb at i && ltb i (at + n)
@@ -34,59 +35,8 @@ within-both at n i a b = and-both (le-leb at i a) (lt-ltb i (at + n) b)
 within-not : (at n i : ℕ) → (at ≤ i → i < at + n → ⊥) → within at n i ≡ false
 within-not at n i h = not-so (within at n i) (λ e. h (within-low at n i e) (within-high at n i e))
 
--- LENGTHS
-module _ (bs : List ℕ) (at : ℕ) (vs : List ℕ) where
-  splice-lengths : length (splice bs at vs) ≡ min at (length bs) + (length vs + (length bs - (at + length vs)))
-  unfolding splice
-  splice-lengths =
-      let rest = drop (at + length vs) bs in
-      omega (
-        arith,
-        length-append (take at bs) (vs ++ rest),
-        length-append vs rest,
-        length-take at bs,
-        length-drop
-            (at + length vs) bs,
-      )
-
-  pub splice-length : at + length vs ≤ length bs → length (splice bs at vs) ≡ length bs
-  splice-length room = omega (arith, splice-lengths)
-
-  -- no splice is shorter than what it goes into
-  splice-longer : length bs ≤ length (splice bs at vs)
-  splice-longer = omega (arith, splice-lengths)
-
-  splice-before : (i : ℕ) → i < at → i < length bs → getD (splice bs at vs) i 0 ≡ getD bs i 0
-  unfolding splice
-  splice-before i h l =
-      List·getD-append (take at bs) (vs ++ drop (at + length vs) bs) 0 i (omega (arith, length-take at bs))
-      ∙ getD-take at bs i 0 h
-
--- BYTES of a splice that starts inside
+-- each byte of a splice that starts inside
 module _ (bs : List ℕ) (at : ℕ) (vs : List ℕ) (start : at ≤ length bs) where
-  front-length : length (take at bs) ≡ at
-  front-length = length-take-le at bs start
-
-  -- past the front
-  splice-behind : (i : ℕ) → at ≤ i → getD (splice bs at vs) i 0 ≡ getD (vs ++ drop (at + length vs) bs) (i - at) 0
-  unfolding splice
-  splice-behind i h =
-      let there : i ≡ length (take at bs) + (i - at) = omega (arith, front-length) in
-      ap (λ (k : ℕ). getD (splice bs at vs) k 0) there ∙ getD-append-add (take at bs) (vs ++ drop (at + length vs) bs) (i - at) 0
-
-  splice-in : (i : ℕ) → at ≤ i → i < at + length vs → getD (splice bs at vs) i 0 ≡ getD vs (i - at) 0
-  splice-in i a b = splice-behind i a ∙ List·getD-append vs (drop (at + length vs) bs) 0 (i - at) (omega arith)
-
-  splice-after : (i : ℕ) → at + length vs ≤ i → getD (splice bs at vs) i 0 ≡ getD bs i 0
-  splice-after i h =
-      let there : i - at ≡ length vs + (i - (at + length vs)) = omega arith in
-      let back : at + length vs + (i - (at + length vs)) ≡ i = omega arith in
-      splice-behind i (omega arith)
-      ∙ ap (λ (k : ℕ). getD (vs ++ drop (at + length vs) bs) k 0) there
-      ∙ getD-append-add vs (drop (at + length vs) bs) (i - (at + length vs)) 0
-      ∙ getD-drop (at + length vs) bs (i - (at + length vs)) 0
-      ∙ ap (λ (k : ℕ). getD bs k 0) back
-
   pub splice-at : (i : ℕ) → getD (splice bs at vs) i 0 ≡ cond (within at (length vs) i) (getD vs (i - at) 0) (getD bs i 0)
   splice-at i = go (decLt i at) (decLt i (at + length vs))
     where
@@ -97,12 +47,12 @@ module _ (bs : List ℕ) (at : ℕ) (vs : List ℕ) (start : at ≤ length bs) w
       go : Dec (i < at) → Dec (i < at + length vs) →
           getD (splice bs at vs) i 0 ≡ cond (within at (length vs) i) (getD vs (i - at) 0) (getD bs i 0)
       go (yes a) _ = chosen false (within-not at (length vs) i (λ c d. omega arith)) (splice-before bs at vs i a (omega arith))
-      go (no a) (yes b) = chosen true (within-both at (length vs) i (omega arith) b) (splice-in i (omega arith) b)
-      go (no a) (no b) = chosen false (within-not at (length vs) i (λ c d. omega arith)) (splice-after i (omega arith))
+      go (no a) (yes b) = chosen true (within-both at (length vs) i (omega arith) b) (splice-in bs at vs start i (omega arith) b)
+      go (no a) (no b) = chosen false (within-not at (length vs) i (λ c d. omega arith)) (splice-after bs at vs start i (omega arith))
 
 -- ranges of n indices from a on and of k from b on that share none
 abbrev pub Disjoint : (a n b k : ℕ) → Type 0
-Disjoint a n b k = (i : ℕ) → a ≤ i → i < a + n → b ≤ i → i < b + k → ⊥
+Disjoint a n b k = Apart a (a + n) b k
 
 module _ (bs : List ℕ) (a : ℕ) (vs : List ℕ) (b : ℕ) (ws : List ℕ) (v-room : a + length vs ≤ length bs)
     (w-room : b + length ws ≤ length bs)

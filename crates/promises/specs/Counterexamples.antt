@@ -14,16 +14,13 @@ use Prim.Native.Nat.{ℕ, _≤_}
 use lib.Dec.{leb}
 use lib.ListN.{length}
 use borrow.Author.Tests.{leb-true, not-true, eq-eqb}
-use Rattle.rules.specs.Crc.{xor, shift, shifts, crc-byte, crc-from, crc}
-use Rattle.rules.specs.Sheet.{Sheet, Op, no-op, no-board, P-of, N-of, op, board, is-send, is-buffered, is-ready, is-receive, is-wait, is-nonblocking, sum-before, counts-before, inbox-start, inbox-total, rank-from, rank-of, two, boards-in, ops-in, sheet-in}
-use Rattle.rules.specs.Refusal.{refusal, or-else, first-broken, sizes-good, layout-good, crc-good, board-good, boards-refusal, or-any, envelope-good, slot-good, extent-good, wait-good, fields-good, room-for, op-good, ops-refusal, freed, holds, some-below, slot-held, share, area-taken, request-good, requests-refusal, tables-refusal, sheet-refusal}
-use Rattle.rules.specs.Job.{entry, bare-entry, place, job, started, entry-at, place-at, with-entries, with-places, with-messages, with-receives, with-memory, with-stop, with-steps}
-use Rattle.rules.specs.Step.{next-op, is-finished, complete, waited-below, waited, complete-if, half-complete, in-waiting-half, is-none, able, fits-with, first-by, first-message, first-receive, without, splice, area-start, is-cut, copied, delivered, charge-of, charged, released, with-place, charge, release, matched-rows, matched, with-state, pend-message, pend-receive, stopped, one-finished, now-waiting, initiated, fits-buffer, unmatched, sent, received, initiating, ended, step}
-use Rattle.rules.specs.Order.{followed, follow-from, follow, lowest-able, next-rank, none-able}
-use Rattle.rules.specs.Report.{low-two, count-from, is-pending-message, is-pending-receive, pending-messages, pending-receives, cut-messages, all-finished, verdict-of, stop-bytes, header-bytes, board-state, board-row, board-rows, op-row, op-rows, report}
-use Rattle.rules.specs.Claims.{all-bytes, passes, is-any-source, none-wild, all-charges, all-covered, calm, accepts, left-by, rows-without-peaks, without-peaks, Alike}
-use Rattle.rules.specs.BenchJob.{buffered, any, send, receive, script, Draft, draft, lines-of, as-words, line-bytes, all-line-bytes, entry-bytes, draft-bytes, same, all}
+use Rattle.rules.specs.Sheet.{Sheet, Op, P-of, is-ready, inbox-total, sheet-in}
+use Rattle.rules.specs.Order.{none-able}
+use Rattle.rules.specs.Report.{report}
+use Rattle.rules.specs.Claims.{passes, is-any-source, none-wild, all-covered, calm, accepts, left-by, without-peaks, Alike}
+use Rattle.rules.specs.BenchJob.{buffered, any, send, receive, script, Draft, draft, draft-bytes, same, all}
 use Rattle.rules.specs.BenchNumbered.{ready-sheet, any-source-sheet}
+use Rattle.rules.specs.Definitions.{definitions}
 use Rattle.laws.specs.Tests.{and-left, and-right, true-not-false}
 
 -- THE CONDITIONS OF CALM, one by one
@@ -188,35 +185,6 @@ calm-pair =
       other = 1 ∷ 0 ∷ 0 ∷ 1 ∷ 1 ∷ 0 ∷ 0 ∷ 1 ∷ [];
     }
 
--- what calm still asks when one of its conditions is dropped, and the orders that then end apart
-pub record Dropped : Type 0 where
-  pub asks : Sheet → Bool
-  pub orders : Pair-of-orders
-
-unfoldable pub without-any-source : Dropped
-without-any-source =
-    record {
-      asks = λ s. no-ready s && covered s;
-      orders = any-source-pair;
-    }
-
-unfoldable pub without-ready : Dropped
-without-ready =
-    record {
-      asks = λ s. no-any-source s && covered s;
-      orders = ready-pair;
-    }
-
-unfoldable pub without-cover : Dropped
-without-cover =
-    record {
-      asks = λ s. no-any-source s && no-ready s;
-      orders = uncovered-pair;
-    }
-
-abbrev pub drops-matter : List Dropped → Bool
-drops-matter ds = all (λ d. ends-apart (d .asks) (d .orders)) ds
-
 -- the whole reports of two full orders differ, and only in peaks
 unfoldable pub peaks-apart : Pair-of-orders → Bool
 peaks-apart p =
@@ -225,72 +193,32 @@ peaks-apart p =
     (report (sheet-of p) (left-by (sheet-of p) (p .other) (p .inbox))))
     && same (bare-report-of p (p .one)) (bare-report-of p (p .other)))
 
-pub pairs-hold : drops-matter (without-any-source ∷ without-ready ∷ without-cover ∷ []) && peaks-apart calm-pair ≡ true
-unfolding
-    without-any-source without-ready without-cover any-source-pair ready-pair uncovered-pair calm-pair two-buffered
-    ends-apart peaks-apart no-any-source no-ready covered
-    ready-sheet any-source-sheet
-    lines-of as-words line-bytes all-line-bytes entry-bytes draft-bytes same all
-    all-bytes passes is-any-source none-wild all-charges Rattle.rules.specs.Claims.script all-covered calm accepts left-by
-    rows-without-peaks without-peaks
-    low-two count-from is-pending-message is-pending-receive pending-messages pending-receives cut-messages all-finished
-    verdict-of stop-bytes header-bytes board-state board-row board-rows op-row op-rows report
-    followed follow-from follow lowest-able next-rank none-able
-    next-op is-finished complete waited-below waited complete-if half-complete in-waiting-half is-none able fits-with
-    first-by first-message first-receive without splice area-start is-cut copied delivered charge-of charged released
-    with-place charge release matched-rows matched with-state pend-message pend-receive stopped one-finished now-waiting
-    initiated fits-buffer unmatched sent received initiating ended step
-    entry bare-entry place job started entry-at place-at with-entries with-places with-messages with-receives
-    with-memory with-stop with-steps
-    refusal or-else first-broken sizes-good layout-good crc-good board-good boards-refusal or-any envelope-good slot-good
-    extent-good wait-good fields-good room-for
-    op-good ops-refusal freed holds some-below slot-held share area-taken request-good requests-refusal
-    tables-refusal sheet-refusal
-    no-op no-board P-of N-of op board is-send is-buffered is-ready is-receive is-wait is-nonblocking sum-before
-    counts-before inbox-start inbox-total rank-from rank-of two boards-in ops-in sheet-in
-    xor shift shifts crc-byte crc-from crc
-pairs-hold = refl
+-- THE LAWS: what calm still asks when one of its conditions is dropped, and orders that then end apart
+any-source-apart : ends-apart (λ s. no-ready s && covered s) any-source-pair ≡ true
+unfolding definitions ends-apart no-ready covered any-source-pair
+any-source-apart = refl
 
--- THE LAWS
-dropped-hold : drops-matter (without-any-source ∷ without-ready ∷ without-cover ∷ []) ≡ true
-dropped-hold =
-    and-left (drops-matter (without-any-source ∷ without-ready ∷ without-cover ∷ []))
-    (peaks-apart calm-pair) pairs-hold
+ready-apart : ends-apart (λ s. no-any-source s && covered s) ready-pair ≡ true
+unfolding definitions ends-apart no-any-source covered ready-pair
+ready-apart = refl
 
-dropped-here : (d : Dropped) (ds : List Dropped) → drops-matter (d ∷ ds) ≡ true → ends-apart (d .asks) (d .orders) ≡ true
-unfolding all
-dropped-here d ds h = and-left (ends-apart (d .asks) (d .orders)) (drops-matter ds) h
-
-dropped-next : (d : Dropped) (ds : List Dropped) → drops-matter (d ∷ ds) ≡ true → drops-matter ds ≡ true
-unfolding all
-dropped-next d ds h = and-right (ends-apart (d .asks) (d .orders)) (drops-matter ds) h
+uncovered-apart : ends-apart (λ s. no-any-source s && no-ready s) uncovered-pair ≡ true
+unfolding definitions ends-apart no-any-source no-ready uncovered-pair two-buffered
+uncovered-apart = refl
 
 -- receives from any source cannot be allowed
 pub any-source-matters : Ends-alike-on (λ s. no-ready s && covered s) → ⊥
-unfolding without-any-source
-any-source-matters =
-    apart-refutes (without-any-source .asks) (without-any-source .orders)
-    (dropped-here without-any-source (without-ready ∷ without-cover ∷ []) dropped-hold)
+any-source-matters = apart-refutes (λ s. no-ready s && covered s) any-source-pair any-source-apart
 
 -- nor ready sends
 pub ready-matters : Ends-alike-on (λ s. no-any-source s && covered s) → ⊥
-unfolding without-ready
-ready-matters =
-    apart-refutes (without-ready .asks) (without-ready .orders)
-    (dropped-here without-ready (without-cover ∷ [])
-    (dropped-next without-any-source (without-ready ∷ without-cover ∷ []) dropped-hold))
+ready-matters = apart-refutes (λ s. no-any-source s && covered s) ready-pair ready-apart
 
 -- nor buffers that the charges may outgrow
 pub cover-matters : Ends-alike-on (λ s. no-any-source s && no-ready s) → ⊥
-unfolding without-cover
-cover-matters =
-    apart-refutes (without-cover .asks) (without-cover .orders)
-    (dropped-here without-cover []
-    (dropped-next without-ready (without-cover ∷ [])
-    (dropped-next without-any-source (without-ready ∷ without-cover ∷ []) dropped-hold)))
+cover-matters = apart-refutes (λ s. no-any-source s && no-ready s) uncovered-pair uncovered-apart
 
 -- and on a calm sheet peaks differ where all else is equal
 pub peaks-matter : peaks-apart calm-pair ≡ true
-peaks-matter =
-    and-right (drops-matter (without-any-source ∷ without-ready ∷ without-cover ∷ []))
-    (peaks-apart calm-pair) pairs-hold
+unfolding definitions peaks-apart calm-pair two-buffered
+peaks-matter = refl

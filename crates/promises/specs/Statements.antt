@@ -80,18 +80,18 @@ covers s x r at =
     (is-receive (op s r) && eqb (entry-at x r .state) 3)
     && (leb (area-start s r) at && ltb at (area-start s r + copied s (entry-at x r .partner) r))
 
-unfoldable pub byte-due : (n : ℕ) → Sheet → Job → (lent : List ℕ) → (at : ℕ) → ℕ
-byte-due zero s x i at = getD i at 0
-byte-due (suc r) s x i at =
+unfoldable pub expected-byte : (n : ℕ) → Sheet → Job → (lent : List ℕ) → (at : ℕ) → ℕ
+expected-byte zero s x i at = getD i at 0
+expected-byte (suc r) s x i at =
     cond (covers s x r at) (getD (s .payload) (op s (entry-at x r .partner) .offset + (at - area-start s r)) 0)
-    (byte-due r s x i at)
+    (expected-byte r s x i at)
 
 unfoldable pub Deliveries : Type 0
 Deliveries =
     (bs i rs : List ℕ) → Lent bs i →
     let s = sheet-in bs in
     let x = left-by s rs i in
-    (length (x .memory) ≡ length i) × ((at : ℕ) → getD (x .memory) at 0 ≡ byte-due (N-of s) s x i at)
+    (length (x .memory) ≡ length i) × ((at : ℕ) → getD (x .memory) at 0 ≡ expected-byte (N-of s) s x i at)
 
 -- Verdicts: exactly one of 0 to 4 is given, each exactly when it should be. Deadlock: nothing stopped the job, some board is
 -- unfinished, and none is able.

@@ -1,10 +1,11 @@
 -- Each claim of Statements.antt under its name in small letters, proved.
---   demand 2             none-fit, no-overtaking, no-overtaking-receives, statuses (Matched);
---                        deliveries, verdicts, in-use, peaks (Kept)
---   run, demand 3        run-ends, ends-alike (Ended); swap-general, swap-same (Swapped)
---   of the services      follows-alike, run-alike (Ended); follow-swaps (Swapped)
+--   demand 2             none-fit, no-overtaking, no-overtaking-receives, statuses (claims.Matching);
+--                        deliveries, verdicts, in-use, peaks (claims.OneJob)
+--   run, demand 3        run-ends, ends-alike (claims.EndsAlike); swap-general, swap-same (claims.SwapSame)
+--   of the services      follows-alike, run-alike (claims.EndsAlike); follow-swaps (claims.SwapSame)
 -- Assumes nothing.
-use Rattle.promises.specs.Statements.{None-fit, No-overtaking, No-overtaking-receives, Statuses, Deliveries, Verdicts, In-use, Peaks, Run-ends, Ends-alike, Swap-same, Swap-general, Follows-alike, Run-alike, Follow-swaps}
+use Rattle.promises.specs.Statements.{None-fit, No-overtaking, No-overtaking-receives, Statuses, Deliveries, Verdicts, In-use, Peaks, Run-ends}
+use Rattle.promises.specs.Statements.{Ends-alike, Swap-same, Swap-general, Follows-alike, Run-alike, Follow-swaps}
 use Rattle.promises.specs.claims.Matching
 use Rattle.promises.specs.claims.OneJob
 use Rattle.promises.specs.claims.EndsAlike

@@ -1,301 +1,155 @@
 -- Further bench jobs, for the slips that document 01 lists and for rules that jobs 1 to 12 leave untested: fits, posted
 -- receives, charges, waits, orders that stop early. Worked out by hand; BenchNumbered says how to read them. Assumes nothing.
 use mathlib.Core.List.{List, [], _∷_}
-use mathlib.Core.Option.{Option, none, some}
-use Rattle.rules.specs.BenchJob.{standard, buffered, synchronous, any, Line, send, isend, receive, ireceive, wait, Script, script, Draft, draft, Drive, runs, follows, Verdict, still-able, finished, deadlock, overflow, Match, _meets_, Row, row, BenchJob}
+use Rattle.rules.specs.BenchJob.{standard, buffered, synchronous, any, Line, send, isend, receive, ireceive, wait, Script, script, Draft, draft}
+use Rattle.rules.specs.BenchJob.{Drive, runs, follows, Verdict, still-able, finished, deadlock, overflow, Match, _meets_, Row, row}
+use Rattle.rules.specs.BenchJob.{_becomes_, pending, cut, told, BenchJob, bench, bench-whole}
 use Rattle.rules.specs.BenchNumbered.{case-1-sheet, nonblocking-sheet}
 
 unfoldable pub further-jobs : List BenchJob
 further-jobs =
     -- A. Fits: two communicators: the receive, of any tag, is on communicator 1. It leaves the earlier message, on
     -- communicator 0, which stays pending though all boards are finished; its slot is held at the end
-    record {
-      sheet =
-          draft 2 0x4e89 (11 ∷ 12 ∷ [])
-          (script 0 0 (isend standard 1 0 1 0 1 0 ∷ send standard 1 1 2 1 1 ∷ [])
-          ∷ script 0 1 (receive 0 1 any 0 1 ∷ []) ∷ []);
-      drive = runs (0 ∷ 0 ∷ 1 ∷ 0 ∷ 1 ∷ []);
-      inbox = 90 ∷ [];
-      verdict = finished;
-      steps = 5;
-      matches = 1 meets 2 ∷ [];
-      pending = (1, 0);
-      cut = 0;
-      boards = row 2 0 0 2 ∷ row 1 0 0 2 ∷ [];
-      inbox-after = 12 ∷ [];
-      whole = none;
-    }
+    bench
+    (draft 2 0x4e89 (11 ∷ 12 ∷ [])
+    (script 0 0 (isend standard 1 0 1 0 1 0 ∷ send standard 1 1 2 1 1 ∷ [])
+    ∷ script 0 1 (receive 0 1 any 0 1 ∷ []) ∷ []))
+    (runs (0 ∷ 0 ∷ 1 ∷ 0 ∷ 1 ∷ []))
+    (told finished 5 (1 meets 2 ∷ []) (pending 1 0) (cut 0) (row 2 0 0 2 ∷ row 1 0 0 2 ∷ []))
+    ((90 ∷ []) becomes (12 ∷ []))
     -- B. The same with the receive posted first, of any source and any tag: no message on its communicator, deadlock
-    ∷ record {
-      sheet =
-          draft 2 0x87e7 (11 ∷ [])
-          (script 0 0 (send standard 1 0 1 0 1 ∷ [])
-          ∷ script 0 1 (receive any 1 any 0 1 ∷ []) ∷ []);
-      drive = follows (1 ∷ 0 ∷ []);
-      inbox = 90 ∷ [];
-      verdict = deadlock;
-      steps = 2;
-      matches = [];
-      pending = (1, 1);
-      cut = 0;
-      boards = row 0 0 0 0 ∷ row 0 0 0 0 ∷ [];
-      inbox-after = 90 ∷ [];
-      whole = none;
-    }
+    ∷ bench
+    (draft 2 0x87e7 (11 ∷ [])
+    (script 0 0 (send standard 1 0 1 0 1 ∷ [])
+    ∷ script 0 1 (receive any 1 any 0 1 ∷ []) ∷ []))
+    (follows (1 ∷ 0 ∷ []))
+    (told deadlock 2 [] (pending 1 1) (cut 0) (row 0 0 0 0 ∷ row 0 0 0 0 ∷ []))
+    ((90 ∷ []) becomes (90 ∷ []))
     -- C. A receive from any source, of any tag, leaves the earlier message, which is addressed to another board
-    ∷ record {
-      sheet =
-          draft 1 0xb884 (11 ∷ 12 ∷ [])
-          (script 0 0 (isend standard 1 0 1 0 1 0 ∷ send standard 2 0 1 1 1 ∷ [])
-          ∷ script 0 2 []
-          ∷ script 0 1 (receive any 0 any 0 1 ∷ []) ∷ []);
-      drive = runs (0 ∷ 0 ∷ 2 ∷ 0 ∷ 2 ∷ []);
-      inbox = 90 ∷ 91 ∷ 92 ∷ [];
-      verdict = finished;
-      steps = 5;
-      matches = 1 meets 2 ∷ [];
-      pending = (1, 0);
-      cut = 0;
-      boards = row 2 0 0 2 ∷ row 0 0 0 2 ∷ row 1 0 0 2 ∷ [];
-      inbox-after = 90 ∷ 91 ∷ 12 ∷ [];
-      whole = none;
-    }
+    ∷ bench
+    (draft 1 0xb884 (11 ∷ 12 ∷ [])
+    (script 0 0 (isend standard 1 0 1 0 1 0 ∷ send standard 2 0 1 1 1 ∷ [])
+    ∷ script 0 2 []
+    ∷ script 0 1 (receive any 0 any 0 1 ∷ []) ∷ []))
+    (runs (0 ∷ 0 ∷ 2 ∷ 0 ∷ 2 ∷ []))
+    (told finished 5 (1 meets 2 ∷ []) (pending 1 0) (cut 0) (row 2 0 0 2 ∷ row 0 0 0 2 ∷ row 1 0 0 2 ∷ []))
+    ((90 ∷ 91 ∷ 92 ∷ []) becomes (90 ∷ 91 ∷ 12 ∷ []))
     -- D. A receive from rank 1 leaves rank 0's message, which arrived first
-    ∷ record {
-      sheet =
-          draft 1 0x5f64 (11 ∷ 12 ∷ [])
-          (script 0 0 (isend standard 2 0 1 0 1 0 ∷ [])
-          ∷ script 0 0 (send standard 2 0 1 1 1 ∷ [])
-          ∷ script 0 1 (receive 1 0 any 0 1 ∷ []) ∷ []);
-      drive = runs (0 ∷ 1 ∷ 2 ∷ 1 ∷ 2 ∷ []);
-      inbox = 90 ∷ [];
-      verdict = finished;
-      steps = 5;
-      matches = 1 meets 2 ∷ [];
-      pending = (1, 0);
-      cut = 0;
-      boards = row 1 0 0 2 ∷ row 1 0 0 2 ∷ row 1 0 0 2 ∷ [];
-      inbox-after = 12 ∷ [];
-      whole = none;
-    }
+    ∷ bench
+    (draft 1 0x5f64 (11 ∷ 12 ∷ [])
+    (script 0 0 (isend standard 2 0 1 0 1 0 ∷ [])
+    ∷ script 0 0 (send standard 2 0 1 1 1 ∷ [])
+    ∷ script 0 1 (receive 1 0 any 0 1 ∷ []) ∷ []))
+    (runs (0 ∷ 1 ∷ 2 ∷ 1 ∷ 2 ∷ []))
+    (told finished 5 (1 meets 2 ∷ []) (pending 1 0) (cut 0) (row 1 0 0 2 ∷ row 1 0 0 2 ∷ row 1 0 0 2 ∷ []))
+    ((90 ∷ []) becomes (12 ∷ []))
     -- E. Posted receives: the first send goes past the earliest posted receive, whose tag differs, to the next that fits;
     -- the third, which fits too, was posted later and stays pending
-    ∷ record {
-      sheet =
-          draft 1 0x4ee1 (11 ∷ 12 ∷ [])
-          (script 0 0 (send standard 1 0 1 0 1 ∷ send synchronous 1 0 2 1 1 ∷ [])
-          ∷ script 0 3
-          (ireceive 0 0 2 0 1 0 ∷ ireceive 0 0 1 1 1 1 ∷ ireceive any 0 any 2 1 2 ∷ wait 1 ∷ wait 0 ∷ []) ∷ []);
-      drive = follows (1 ∷ 1 ∷ 1 ∷ 0 ∷ 0 ∷ 0 ∷ 0 ∷ 1 ∷ 1 ∷ []);
-      inbox = 90 ∷ 91 ∷ 92 ∷ [];
-      verdict = finished;
-      steps = 9;
-      matches = 0 meets 3 ∷ 1 meets 2 ∷ [];
-      pending = (0, 1);
-      cut = 0;
-      boards = row 2 0 0 2 ∷ row 5 0 0 2 ∷ [];
-      inbox-after = 12 ∷ 11 ∷ 92 ∷ [];
-      whole = none;
-    }
+    ∷ bench
+    (draft 1 0x4ee1 (11 ∷ 12 ∷ [])
+    (script 0 0 (send standard 1 0 1 0 1 ∷ send synchronous 1 0 2 1 1 ∷ [])
+    ∷ script 0 3
+    (ireceive 0 0 2 0 1 0 ∷ ireceive 0 0 1 1 1 1 ∷ ireceive any 0 any 2 1 2 ∷ wait 1 ∷ wait 0 ∷ []) ∷ []))
+    (follows (1 ∷ 1 ∷ 1 ∷ 0 ∷ 0 ∷ 0 ∷ 0 ∷ 1 ∷ 1 ∷ []))
+    (told finished 9 (0 meets 3 ∷ 1 meets 2 ∷ []) (pending 0 1) (cut 0) (row 2 0 0 2 ∷ row 5 0 0 2 ∷ []))
+    ((90 ∷ 91 ∷ 92 ∷ []) becomes (12 ∷ 11 ∷ 92 ∷ []))
     -- F. Job 7's sheet with both receives posted before the sends, which both fit both: a matched receive is posted no
     -- longer
-    ∷ record {
-      sheet = nonblocking-sheet;
-      drive = follows (1 ∷ 1 ∷ 0 ∷ 0 ∷ 0 ∷ 0 ∷ 1 ∷ 1 ∷ []);
-      inbox = 90 ∷ 91 ∷ 92 ∷ 93 ∷ [];
-      verdict = finished;
-      steps = 8;
-      matches = 0 meets 4 ∷ 1 meets 5 ∷ [];
-      pending = (0, 0);
-      cut = 0;
-      boards = row 4 0 0 2 ∷ row 4 0 0 2 ∷ [];
-      inbox-after = 11 ∷ 12 ∷ 13 ∷ 14 ∷ [];
-      whole = none;
-    }
+    ∷ bench nonblocking-sheet
+    (follows (1 ∷ 1 ∷ 0 ∷ 0 ∷ 0 ∷ 0 ∷ 1 ∷ 1 ∷ []))
+    (told finished 8 (0 meets 4 ∷ 1 meets 5 ∷ []) (pending 0 0) (cut 0) (row 4 0 0 2 ∷ row 4 0 0 2 ∷ []))
+    ((90 ∷ 91 ∷ 92 ∷ 93 ∷ []) becomes (11 ∷ 12 ∷ 13 ∷ 14 ∷ []))
     -- G. Buffered sends: one that meets a posted receive is charged nothing, not even in the peak: its attached size is 0
-    ∷ record {
-      sheet =
-          draft 1 0xee55 (11 ∷ 12 ∷ [])
-          (script 0 0 (send buffered 1 0 1 0 2 ∷ [])
-          ∷ script 0 2 (receive 0 0 1 0 2 ∷ []) ∷ []);
-      drive = follows (1 ∷ 0 ∷ 0 ∷ 1 ∷ []);
-      inbox = 90 ∷ 91 ∷ [];
-      verdict = finished;
-      steps = 4;
-      matches = 0 meets 1 ∷ [];
-      pending = (0, 0);
-      cut = 0;
-      boards = row 1 0 0 2 ∷ row 1 0 0 2 ∷ [];
-      inbox-after = 11 ∷ 12 ∷ [];
-      whole = none;
-    }
+    ∷ bench
+    (draft 1 0xee55 (11 ∷ 12 ∷ [])
+    (script 0 0 (send buffered 1 0 1 0 2 ∷ [])
+    ∷ script 0 2 (receive 0 0 1 0 2 ∷ []) ∷ []))
+    (follows (1 ∷ 0 ∷ 0 ∷ 1 ∷ []))
+    (told finished 4 (0 meets 1 ∷ []) (pending 0 0) (cut 0) (row 1 0 0 2 ∷ row 1 0 0 2 ∷ []))
+    ((90 ∷ 91 ∷ []) becomes (11 ∷ 12 ∷ []))
     -- H. Charges go at the match, and the peak stays: 4, then 4 and 2, then 2, then 2 and 3 of 6 bytes. The order stops
     -- early, rank 1 being able: verdict 0. Two sends share payload bytes
-    ∷ record {
-      sheet =
-          draft 1 0xadc5 (11 ∷ 12 ∷ 13 ∷ 14 ∷ 15 ∷ 16 ∷ [])
-          (script 6 0 (send buffered 1 0 1 0 4 ∷ send buffered 1 0 2 4 2 ∷ send buffered 1 0 3 1 3 ∷ [])
-          ∷ script 0 4 (receive 0 0 1 0 4 ∷ []) ∷ []);
-      drive = follows (0 ∷ 0 ∷ 0 ∷ 0 ∷ 1 ∷ 0 ∷ 0 ∷ []);
-      inbox = 90 ∷ 91 ∷ 92 ∷ 93 ∷ [];
-      verdict = still-able;
-      steps = 7;
-      matches = 0 meets 3 ∷ [];
-      pending = (2, 0);
-      cut = 0;
-      boards = row 3 5 6 2 ∷ row 0 0 0 1 ∷ [];
-      inbox-after = 11 ∷ 12 ∷ 13 ∷ 14 ∷ [];
-      whole =
-          some
-          (0x00 ∷ 0xff ∷ 0xff ∷ 0xff ∷ 0x07 ∷ 0x00 ∷ 0x02 ∷ 0x00 ∷ 0x04 ∷ 0x00 ∷ 0x02 ∷ 0x00 ∷ 0x00 ∷ 0x00 ∷ 0x00 ∷ 0x00
-          ∷ 0x03 ∷ 0x00 ∷ 0x05 ∷ 0x00 ∷ 0x06 ∷ 0x00 ∷ 0x02 ∷ 0x00
-          ∷ 0x00 ∷ 0x00 ∷ 0x00 ∷ 0x00 ∷ 0x00 ∷ 0x00 ∷ 0x01 ∷ 0x00
-          ∷ 0x03 ∷ 0x00 ∷ 0x03 ∷ 0x00 ∷ 0xff ∷ 0xff ∷ 0xff ∷ 0xff ∷ 0x00 ∷ 0x00 ∷ 0x00 ∷ 0x00
-          ∷ 0x02 ∷ 0x00 ∷ 0xff ∷ 0xff ∷ 0xff ∷ 0xff ∷ 0xff ∷ 0xff ∷ 0x00 ∷ 0x00 ∷ 0x00 ∷ 0x00
-          ∷ 0x02 ∷ 0x00 ∷ 0xff ∷ 0xff ∷ 0xff ∷ 0xff ∷ 0xff ∷ 0xff ∷ 0x00 ∷ 0x00 ∷ 0x00 ∷ 0x00
-          ∷ 0x03 ∷ 0x00 ∷ 0x00 ∷ 0x00 ∷ 0x00 ∷ 0x00 ∷ 0x01 ∷ 0x00 ∷ 0x04 ∷ 0x00 ∷ 0x00 ∷ 0x00 ∷ []);
-    }
+    ∷ bench-whole
+    (draft 1 0xadc5 (11 ∷ 12 ∷ 13 ∷ 14 ∷ 15 ∷ 16 ∷ [])
+    (script 6 0 (send buffered 1 0 1 0 4 ∷ send buffered 1 0 2 4 2 ∷ send buffered 1 0 3 1 3 ∷ [])
+    ∷ script 0 4 (receive 0 0 1 0 4 ∷ []) ∷ []))
+    (follows (0 ∷ 0 ∷ 0 ∷ 0 ∷ 1 ∷ 0 ∷ 0 ∷ []))
+    (told still-able 7 (0 meets 3 ∷ []) (pending 2 0) (cut 0) (row 3 5 6 2 ∷ row 0 0 0 1 ∷ []))
+    ((90 ∷ 91 ∷ 92 ∷ 93 ∷ []) becomes (11 ∷ 12 ∷ 13 ∷ 14 ∷ []))
+    (0x00 ∷ 0xff ∷ 0xff ∷ 0xff ∷ 0x07 ∷ 0x00 ∷ 0x02 ∷ 0x00 ∷ 0x04 ∷ 0x00 ∷ 0x02 ∷ 0x00 ∷ 0x00 ∷ 0x00 ∷ 0x00 ∷ 0x00
+    ∷ 0x03 ∷ 0x00 ∷ 0x05 ∷ 0x00 ∷ 0x06 ∷ 0x00 ∷ 0x02 ∷ 0x00
+    ∷ 0x00 ∷ 0x00 ∷ 0x00 ∷ 0x00 ∷ 0x00 ∷ 0x00 ∷ 0x01 ∷ 0x00
+    ∷ 0x03 ∷ 0x00 ∷ 0x03 ∷ 0x00 ∷ 0xff ∷ 0xff ∷ 0xff ∷ 0xff ∷ 0x00 ∷ 0x00 ∷ 0x00 ∷ 0x00
+    ∷ 0x02 ∷ 0x00 ∷ 0xff ∷ 0xff ∷ 0xff ∷ 0xff ∷ 0xff ∷ 0xff ∷ 0x00 ∷ 0x00 ∷ 0x00 ∷ 0x00
+    ∷ 0x02 ∷ 0x00 ∷ 0xff ∷ 0xff ∷ 0xff ∷ 0xff ∷ 0xff ∷ 0xff ∷ 0x00 ∷ 0x00 ∷ 0x00 ∷ 0x00
+    ∷ 0x03 ∷ 0x00 ∷ 0x00 ∷ 0x00 ∷ 0x00 ∷ 0x00 ∷ 0x01 ∷ 0x00 ∷ 0x04 ∷ 0x00 ∷ 0x00 ∷ 0x00 ∷ [])
     -- I. The second send does not fit with the first still charged: overflow at rank 1, operation 2
-    ∷ record {
-      sheet =
-          draft 1 0xc66a (11 ∷ 12 ∷ 13 ∷ 14 ∷ 15 ∷ [])
-          (script 0 1 (receive 1 0 9 0 1 ∷ [])
-          ∷ script 4 0 (send buffered 0 0 1 0 2 ∷ send buffered 0 0 1 2 3 ∷ []) ∷ []);
-      drive = runs (0 ∷ 1 ∷ 1 ∷ 1 ∷ []);
-      inbox = 90 ∷ [];
-      verdict = overflow 1 2;
-      steps = 4;
-      matches = [];
-      pending = (1, 1);
-      cut = 0;
-      boards = row 0 0 0 0 ∷ row 1 2 2 0 ∷ [];
-      inbox-after = 90 ∷ [];
-      whole =
-          some
-          (0x03 ∷ 0x01 ∷ 0x02 ∷ 0x00 ∷ 0x04 ∷ 0x00 ∷ 0x02 ∷ 0x00 ∷ 0x03 ∷ 0x00 ∷ 0x01 ∷ 0x00 ∷ 0x01 ∷ 0x00 ∷ 0x00 ∷ 0x00
-          ∷ 0x00 ∷ 0x00 ∷ 0x00 ∷ 0x00 ∷ 0x00 ∷ 0x00 ∷ 0x00 ∷ 0x00
-          ∷ 0x01 ∷ 0x00 ∷ 0x02 ∷ 0x00 ∷ 0x02 ∷ 0x00 ∷ 0x00 ∷ 0x00
-          ∷ 0x01 ∷ 0x00 ∷ 0xff ∷ 0xff ∷ 0xff ∷ 0xff ∷ 0xff ∷ 0xff ∷ 0x00 ∷ 0x00 ∷ 0x00 ∷ 0x00
-          ∷ 0x02 ∷ 0x00 ∷ 0xff ∷ 0xff ∷ 0xff ∷ 0xff ∷ 0xff ∷ 0xff ∷ 0x00 ∷ 0x00 ∷ 0x00 ∷ 0x00
-          ∷ 0x00 ∷ 0x00 ∷ 0xff ∷ 0xff ∷ 0xff ∷ 0xff ∷ 0xff ∷ 0xff ∷ 0x00 ∷ 0x00 ∷ 0x00 ∷ 0x00 ∷ []);
-    }
+    ∷ bench-whole
+    (draft 1 0xc66a (11 ∷ 12 ∷ 13 ∷ 14 ∷ 15 ∷ [])
+    (script 0 1 (receive 1 0 9 0 1 ∷ [])
+    ∷ script 4 0 (send buffered 0 0 1 0 2 ∷ send buffered 0 0 1 2 3 ∷ []) ∷ []))
+    (runs (0 ∷ 1 ∷ 1 ∷ 1 ∷ []))
+    (told (overflow 1 2) 4 [] (pending 1 1) (cut 0) (row 0 0 0 0 ∷ row 1 2 2 0 ∷ []))
+    ((90 ∷ []) becomes (90 ∷ []))
+    (0x03 ∷ 0x01 ∷ 0x02 ∷ 0x00 ∷ 0x04 ∷ 0x00 ∷ 0x02 ∷ 0x00 ∷ 0x03 ∷ 0x00 ∷ 0x01 ∷ 0x00 ∷ 0x01 ∷ 0x00 ∷ 0x00 ∷ 0x00
+    ∷ 0x00 ∷ 0x00 ∷ 0x00 ∷ 0x00 ∷ 0x00 ∷ 0x00 ∷ 0x00 ∷ 0x00
+    ∷ 0x01 ∷ 0x00 ∷ 0x02 ∷ 0x00 ∷ 0x02 ∷ 0x00 ∷ 0x00 ∷ 0x00
+    ∷ 0x01 ∷ 0x00 ∷ 0xff ∷ 0xff ∷ 0xff ∷ 0xff ∷ 0xff ∷ 0xff ∷ 0x00 ∷ 0x00 ∷ 0x00 ∷ 0x00
+    ∷ 0x02 ∷ 0x00 ∷ 0xff ∷ 0xff ∷ 0xff ∷ 0xff ∷ 0xff ∷ 0xff ∷ 0x00 ∷ 0x00 ∷ 0x00 ∷ 0x00
+    ∷ 0x00 ∷ 0x00 ∷ 0xff ∷ 0xff ∷ 0xff ∷ 0xff ∷ 0xff ∷ 0xff ∷ 0x00 ∷ 0x00 ∷ 0x00 ∷ 0x00 ∷ [])
     -- J. Two cut messages: neither is copied, and the buffered one's charge goes at the match
-    ∷ record {
-      sheet =
-          draft 1 0xa4d1 (11 ∷ 12 ∷ 13 ∷ 14 ∷ 15 ∷ [])
-          (script 3 0 (send buffered 1 0 1 0 3 ∷ send standard 1 0 2 3 2 ∷ [])
-          ∷ script 0 2 (receive 0 0 1 0 2 ∷ receive 0 0 2 0 1 ∷ []) ∷ []);
-      drive = runs (0 ∷ 0 ∷ 0 ∷ 1 ∷ 1 ∷ 1 ∷ 0 ∷ 1 ∷ []);
-      inbox = 90 ∷ 91 ∷ [];
-      verdict = finished;
-      steps = 8;
-      matches = 0 meets 2 ∷ 1 meets 3 ∷ [];
-      pending = (0, 0);
-      cut = 2;
-      boards = row 2 0 3 2 ∷ row 2 0 0 2 ∷ [];
-      inbox-after = 90 ∷ 91 ∷ [];
-      whole = none;
-    }
+    ∷ bench
+    (draft 1 0xa4d1 (11 ∷ 12 ∷ 13 ∷ 14 ∷ 15 ∷ [])
+    (script 3 0 (send buffered 1 0 1 0 3 ∷ send standard 1 0 2 3 2 ∷ [])
+    ∷ script 0 2 (receive 0 0 1 0 2 ∷ receive 0 0 2 0 1 ∷ []) ∷ []))
+    (runs (0 ∷ 0 ∷ 0 ∷ 1 ∷ 1 ∷ 1 ∷ 0 ∷ 1 ∷ []))
+    (told finished 8 (0 meets 2 ∷ 1 meets 3 ∷ []) (pending 0 0) (cut 2) (row 2 0 3 2 ∷ row 2 0 0 2 ∷ []))
+    ((90 ∷ 91 ∷ []) becomes (90 ∷ 91 ∷ []))
     -- K. Waits: an unmatched synchronous send is not complete, and its wait is not able: deadlock. The blocking send between
     -- them holds no slot, and is not what the wait looks at
-    ∷ record {
-      sheet =
-          draft 1 0x5443 (11 ∷ 12 ∷ [])
-          (script 0 0 (isend synchronous 1 0 1 0 1 0 ∷ send standard 1 0 2 1 1 ∷ wait 0 ∷ [])
-          ∷ script 0 1 (receive 0 0 2 0 1 ∷ []) ∷ []);
-      drive = runs (0 ∷ 0 ∷ 1 ∷ 0 ∷ 1 ∷ []);
-      inbox = 90 ∷ [];
-      verdict = deadlock;
-      steps = 5;
-      matches = 1 meets 3 ∷ [];
-      pending = (1, 0);
-      cut = 0;
-      boards = row 2 0 0 0 ∷ row 1 0 0 2 ∷ [];
-      inbox-after = 12 ∷ [];
-      whole = none;
-    }
+    ∷ bench
+    (draft 1 0x5443 (11 ∷ 12 ∷ [])
+    (script 0 0 (isend synchronous 1 0 1 0 1 0 ∷ send standard 1 0 2 1 1 ∷ wait 0 ∷ [])
+    ∷ script 0 1 (receive 0 0 2 0 1 ∷ []) ∷ []))
+    (runs (0 ∷ 0 ∷ 1 ∷ 0 ∷ 1 ∷ []))
+    (told deadlock 5 (1 meets 3 ∷ []) (pending 1 0) (cut 0) (row 2 0 0 0 ∷ row 1 0 0 2 ∷ []))
+    ((90 ∷ []) becomes (12 ∷ []))
     -- L. An unmatched buffered send is complete: its wait ends, and the message stays pending and charged under verdict 1
-    ∷ record {
-      sheet =
-          draft 1 0xa6a4 (11 ∷ 12 ∷ [])
-          (script 3 0 (isend buffered 1 0 1 0 2 0 ∷ wait 0 ∷ [])
-          ∷ script 0 0 [] ∷ []);
-      drive = runs (0 ∷ 0 ∷ []);
-      inbox = [];
-      verdict = finished;
-      steps = 2;
-      matches = [];
-      pending = (1, 0);
-      cut = 0;
-      boards = row 2 2 2 2 ∷ row 0 0 0 2 ∷ [];
-      inbox-after = [];
-      whole =
-          some
-          (0x01 ∷ 0xff ∷ 0xff ∷ 0xff ∷ 0x02 ∷ 0x00 ∷ 0x02 ∷ 0x00 ∷ 0x02 ∷ 0x00 ∷ 0x01 ∷ 0x00 ∷ 0x00 ∷ 0x00 ∷ 0x00 ∷ 0x00
-          ∷ 0x02 ∷ 0x00 ∷ 0x02 ∷ 0x00 ∷ 0x02 ∷ 0x00 ∷ 0x02 ∷ 0x00
-          ∷ 0x00 ∷ 0x00 ∷ 0x00 ∷ 0x00 ∷ 0x00 ∷ 0x00 ∷ 0x02 ∷ 0x00
-          ∷ 0x02 ∷ 0x00 ∷ 0xff ∷ 0xff ∷ 0xff ∷ 0xff ∷ 0xff ∷ 0xff ∷ 0x00 ∷ 0x00 ∷ 0x00 ∷ 0x00
-          ∷ 0x05 ∷ 0x00 ∷ 0xff ∷ 0xff ∷ 0xff ∷ 0xff ∷ 0xff ∷ 0xff ∷ 0x00 ∷ 0x00 ∷ 0x00 ∷ 0x00 ∷ []);
-    }
+    ∷ bench-whole
+    (draft 1 0xa6a4 (11 ∷ 12 ∷ [])
+    (script 3 0 (isend buffered 1 0 1 0 2 0 ∷ wait 0 ∷ [])
+    ∷ script 0 0 [] ∷ []))
+    (runs (0 ∷ 0 ∷ []))
+    (told finished 2 [] (pending 1 0) (cut 0) (row 2 2 2 2 ∷ row 0 0 0 2 ∷ []))
+    ([] becomes [])
+    (0x01 ∷ 0xff ∷ 0xff ∷ 0xff ∷ 0x02 ∷ 0x00 ∷ 0x02 ∷ 0x00 ∷ 0x02 ∷ 0x00 ∷ 0x01 ∷ 0x00 ∷ 0x00 ∷ 0x00 ∷ 0x00 ∷ 0x00
+    ∷ 0x02 ∷ 0x00 ∷ 0x02 ∷ 0x00 ∷ 0x02 ∷ 0x00 ∷ 0x02 ∷ 0x00
+    ∷ 0x00 ∷ 0x00 ∷ 0x00 ∷ 0x00 ∷ 0x00 ∷ 0x00 ∷ 0x02 ∷ 0x00
+    ∷ 0x02 ∷ 0x00 ∷ 0xff ∷ 0xff ∷ 0xff ∷ 0xff ∷ 0xff ∷ 0xff ∷ 0x00 ∷ 0x00 ∷ 0x00 ∷ 0x00
+    ∷ 0x05 ∷ 0x00 ∷ 0xff ∷ 0xff ∷ 0xff ∷ 0xff ∷ 0xff ∷ 0xff ∷ 0x00 ∷ 0x00 ∷ 0x00 ∷ 0x00 ∷ [])
     -- M. A wait frees its slot, which is taken again, with the same area; the second wait looks at the later receive, which
     -- is pending: deadlock
-    ∷ record {
-      sheet =
-          draft 1 0xf568 (11 ∷ [])
-          (script 0 0 (send standard 1 0 1 0 1 ∷ [])
-          ∷ script 0 1 (ireceive 0 0 1 0 1 5 ∷ wait 5 ∷ ireceive 0 0 2 0 1 5 ∷ wait 5 ∷ []) ∷ []);
-      drive = runs (0 ∷ 1 ∷ 0 ∷ 1 ∷ 1 ∷ []);
-      inbox = 90 ∷ [];
-      verdict = deadlock;
-      steps = 5;
-      matches = 0 meets 1 ∷ [];
-      pending = (0, 1);
-      cut = 0;
-      boards = row 1 0 0 2 ∷ row 3 0 0 0 ∷ [];
-      inbox-after = 11 ∷ [];
-      whole = none;
-    }
+    ∷ bench
+    (draft 1 0xf568 (11 ∷ [])
+    (script 0 0 (send standard 1 0 1 0 1 ∷ [])
+    ∷ script 0 1 (ireceive 0 0 1 0 1 5 ∷ wait 5 ∷ ireceive 0 0 2 0 1 5 ∷ wait 5 ∷ []) ∷ []))
+    (runs (0 ∷ 1 ∷ 0 ∷ 1 ∷ 1 ∷ []))
+    (told deadlock 5 (0 meets 1 ∷ []) (pending 0 1) (cut 0) (row 1 0 0 2 ∷ row 3 0 0 0 ∷ []))
+    ((90 ∷ []) becomes (11 ∷ []))
     -- N. Orders: no step: nothing is entered, and both boards are able
-    ∷ record {
-      sheet = case-1-sheet;
-      drive = follows [];
-      inbox = 90 ∷ 91 ∷ 92 ∷ 93 ∷ [];
-      verdict = still-able;
-      steps = 0;
-      matches = [];
-      pending = (0, 0);
-      cut = 0;
-      boards = row 0 0 0 1 ∷ row 0 0 0 1 ∷ [];
-      inbox-after = 90 ∷ 91 ∷ 92 ∷ 93 ∷ [];
-      whole = none;
-    }
+    ∷ bench case-1-sheet
+    (follows [])
+    (told still-able 0 [] (pending 0 0) (cut 0) (row 0 0 0 1 ∷ row 0 0 0 1 ∷ []))
+    ((90 ∷ 91 ∷ 92 ∷ 93 ∷ []) becomes (90 ∷ 91 ∷ 92 ∷ 93 ∷ []))
     -- O. One step: the synchronous send is pending, and rank 0 is not able
-    ∷ record {
-      sheet = case-1-sheet;
-      drive = follows (0 ∷ []);
-      inbox = 90 ∷ 91 ∷ 92 ∷ 93 ∷ [];
-      verdict = still-able;
-      steps = 1;
-      matches = [];
-      pending = (1, 0);
-      cut = 0;
-      boards = row 0 0 0 0 ∷ row 0 0 0 1 ∷ [];
-      inbox-after = 90 ∷ 91 ∷ 92 ∷ 93 ∷ [];
-      whole = none;
-    }
+    ∷ bench case-1-sheet
+    (follows (0 ∷ []))
+    (told still-able 1 [] (pending 1 0) (cut 0) (row 0 0 0 0 ∷ row 0 0 0 1 ∷ []))
+    ((90 ∷ 91 ∷ 92 ∷ 93 ∷ []) becomes (90 ∷ 91 ∷ 92 ∷ 93 ∷ []))
     -- P. Two steps: both operations are complete, neither is finished. The inbox room is longer than the inboxes, and keeps
     -- its excess
-    ∷ record {
-      sheet = case-1-sheet;
-      drive = follows (0 ∷ 1 ∷ []);
-      inbox = 90 ∷ 91 ∷ 92 ∷ 93 ∷ 94 ∷ 95 ∷ [];
-      verdict = still-able;
-      steps = 2;
-      matches = 0 meets 1 ∷ [];
-      pending = (0, 0);
-      cut = 0;
-      boards = row 0 0 0 1 ∷ row 0 0 0 1 ∷ [];
-      inbox-after = 11 ∷ 12 ∷ 13 ∷ 93 ∷ 94 ∷ 95 ∷ [];
-      whole = none;
-    }
+    ∷ bench case-1-sheet
+    (follows (0 ∷ 1 ∷ []))
+    (told still-able 2 (0 meets 1 ∷ []) (pending 0 0) (cut 0) (row 0 0 0 1 ∷ row 0 0 0 1 ∷ []))
+    ((90 ∷ 91 ∷ 92 ∷ 93 ∷ 94 ∷ 95 ∷ []) becomes (11 ∷ 12 ∷ 13 ∷ 93 ∷ 94 ∷ 95 ∷ []))
     ∷ []

@@ -112,19 +112,31 @@ pub data Match : Type 0 where
 pub data Row : Type 0 where
   row : (done in-use peak state : ℕ) → Row
 
--- pending: messages, then receives; cut: how many matches; whole: the report byte by byte, where it is written down
-pub record BenchJob : Type 0 where
-  pub sheet : Draft
-  pub drive : Drive
-  pub inbox : List ℕ
-  pub verdict : Verdict
-  pub steps : ℕ
-  pub matches : List Match
-  pub pending : ℕ × ℕ
-  pub cut : ℕ
-  pub boards : List Row
-  pub inbox-after : List ℕ
-  pub whole : Option (List ℕ)
+-- how many messages and receives are pending; how many matches are cut
+pub data Pending : Type 0 where
+  pending : (messages receives : ℕ) → Pending
+
+pub data Cut : Type 0 where
+  cut : (matches : ℕ) → Cut
+
+-- what the report tells
+pub data Told : Type 0 where
+  told : Verdict → (steps : ℕ) → List Match → Pending → Cut → (boards : List Row) → Told
+
+-- the inboxes before and after
+infix 60 _becomes_
+pub data Inboxes : Type 0 where
+  _becomes_ : (before after : List ℕ) → Inboxes
+
+-- whole: the report byte by byte, where it is written down
+pub data BenchJob : Type 0 where
+  job : Draft → Drive → Told → Inboxes → (whole : Option (List ℕ)) → BenchJob
+
+abbrev pub bench : Draft → Drive → Told → Inboxes → BenchJob
+bench d v t i = job d v t i none
+
+abbrev pub bench-whole : Draft → Drive → Told → Inboxes → (report : List ℕ) → BenchJob
+bench-whole d v t i w = job d v t i (some w)
 
 -- THE TEST
 unfoldable pub same : List ℕ → List ℕ → Bool
@@ -141,11 +153,9 @@ verdict-bytes deadlock = 2 ∷ 255 ∷ 255 ∷ 255 ∷ []
 verdict-bytes (overflow r i) = 3 ∷ r ∷ as-words (i ∷ [])
 verdict-bytes (not-ready r i) = 4 ∷ r ∷ as-words (i ∷ [])
 
--- the report's header
-unfoldable pub opening : BenchJob → List ℕ
-opening j =
-    verdict-bytes (j .verdict)
-    ++ as-words (j .steps ∷ P-drafted (j .sheet) ∷ N-drafted (j .sheet) ∷ j .pending .0 ∷ j .pending .1 ∷ j .cut ∷ [])
+-- the report's header, for p boards and n operations
+unfoldable pub opening : (p n : ℕ) → Told → List ℕ
+opening p n (told v k ms (pending m r) (cut c) rs) = verdict-bytes v ++ as-words (k ∷ p ∷ n ∷ m ∷ r ∷ c ∷ [])
 
 unfoldable pub rows-bytes : List Row → List ℕ
 rows-bytes [] = []
@@ -170,12 +180,11 @@ unfoldable pub same-if-given : (report : List ℕ) → Option (List ℕ) → Boo
 same-if-given r none = true
 same-if-given r (some w) = same r w
 
-unfoldable pub reported : BenchJob → (report : List ℕ) → Bool
-reported j r =
-    let p = P-drafted (j .sheet) in
-    let n = N-drafted (j .sheet) in
-    (same (take 16 r) (opening j) && same (take (8 * p) (drop 16 r)) (rows-bytes (j .boards)))
-    && ((eqb (length r) (16 + 8 * p + 12 * n) && rows-match r (j .matches) n 0 (16 + 8 * p)) && same-if-given r (j .whole))
+-- a report of p boards and n operations tells what it must
+unfoldable pub reported : (p n : ℕ) → Told → (report : List ℕ) → Bool
+reported p n (told v k ms q c rs) r =
+    (same (take 16 r) (opening p n (told v k ms q c rs)) && same (take (8 * p) (drop 16 r)) (rows-bytes rs))
+    && (eqb (length r) (16 + 8 * p + 12 * n) && rows-match r ms n 0 (16 + 8 * p))
 
 -- whether run wrote the order down, or follow accepted it; and the job as it was left
 unfoldable pub driven : Drive → Sheet → (inboxes : List ℕ) → Bool × Job
@@ -188,12 +197,13 @@ driven (follows o) s i =
 
 -- check accepts the sheet, the order is as it must be, the report and the inboxes come out as written
 unfoldable pub as-expected : BenchJob → Bool
-as-expected j =
-    let bs = draft-bytes (j .sheet) in
+as-expected (job d v t (before becomes after) w) =
+    let bs = draft-bytes d in
     let s = sheet-in bs in
-    let d = driven (j .drive) s (j .inbox) in
-    (eqb (sheet-refusal bs .number) 0 && d .0)
-    && (reported j (report s (d .1)) && same (d .1 .memory) (j .inbox-after))
+    let e = driven v s before in
+    let r = report s (e .1) in
+    (eqb (sheet-refusal bs .number) 0 && e .0)
+    && (reported (P-drafted d) (N-drafted d) t r && (same-if-given r w && same (e .1 .memory) after))
 
 unfoldable pub all : {A : Type 0} → (A → Bool) → List A → Bool
 all f [] = true

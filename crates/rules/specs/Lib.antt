@@ -12,7 +12,8 @@
 --   BenchJob       a bench job as it is written down, and the test that it is put to
 --   BenchNumbered  the starred bench jobs, 1 to 12
 --   BenchFurther   jobs for the listed slips, and for rules that those leave untested
---   Bench          both in one list, under one claim
+--   Definitions    all definitions under one name, for claims that the checker computes
+--   Bench          both lists of jobs in one, under one claim
 pub mod Limits
 pub mod Sheet
 pub mod Crc
@@ -26,4 +27,5 @@ pub mod Claims
 pub mod BenchJob
 pub mod BenchNumbered
 pub mod BenchFurther
+pub mod Definitions
 pub mod Bench

@@ -5,8 +5,10 @@ use mathlib.Core.List.{List}
 use Prim.Native.Nat.{ℕ, zero, suc, _+_, _-_}
 use lib.Dec.{ltb, leb, eqb}
 use lib.ListN.{length}
-use Rattle.rules.specs.Limits.{most-boards, most-comms, most-ops, most-payload, most-attached, most-inbox, tag-limit, most-length, slot-limit, any, header-size, boards-at, ops-at, payload-at, sheet-size}
-use Rattle.rules.specs.Sheet.{Sheet, Op, op, board, P-of, N-of, rank-of, counts-before, inbox-start, is-send, is-receive, takes-slot, names-slot, frees-slot, two, P-in, C-in, N-in, L-in, sheet-in}
+use Rattle.rules.specs.Limits.{most-boards, most-comms, most-ops, most-payload, most-attached, most-inbox, tag-limit, most-length, slot-limit}
+use Rattle.rules.specs.Limits.{any, header-size, boards-at, ops-at, payload-at, sheet-size}
+use Rattle.rules.specs.Sheet.{Sheet, Op, op, board, P-of, N-of, rank-of, counts-before, inbox-start, is-send, is-receive, takes-slot}
+use Rattle.rules.specs.Sheet.{names-slot, frees-slot, two, P-in, C-in, N-in, L-in, sheet-in}
 use Rattle.rules.specs.Crc.{crc}
 
 -- an answer: number 0 and place 0 is success

@@ -90,22 +90,23 @@ is-nonblocking o = eqb (o .flag) 1
 
 -- ROLES: what an operation is asked for, beside sending and receiving. A further kind is given its roles here; everything else
 -- asks for the role that it means and not for the kind. "Each operation but wait has an initiating step. A blocking one then
--- has a waiting half; a wait is only a waiting half."
-abbrev pub only-half : Op → Bool
+-- has a waiting half; a wait is only a waiting half." (MPI: an operation is initiated, and then completed.)
+unfoldable pub only-half : Op → Bool
 only-half o = is-wait o
 
 -- an operation that is finished after its initiating step: it has no waiting half
-abbrev pub no-half : Op → Bool
+unfoldable pub no-half : Op → Bool
 no-half o = is-nonblocking o
 
--- SLOTS: "a nonblocking operation takes a slot that its board doesn't hold; a wait names one it holds and frees it"
-abbrev pub takes-slot : Op → Bool
+-- SLOTS (MPI: requests): "a nonblocking operation takes a slot that its board doesn't hold; a wait names one it holds and
+-- frees it"
+unfoldable pub takes-slot : Op → Bool
 takes-slot o = is-nonblocking o
 
-abbrev pub names-slot : Op → Bool
+unfoldable pub names-slot : Op → Bool
 names-slot o = is-wait o
 
-abbrev pub frees-slot : Op → Bool
+unfoldable pub frees-slot : Op → Bool
 frees-slot o = is-wait o
 
 -- a figure of the boards before rank r, added up: counts give first operations, inbox sizes give inbox starts

@@ -8,7 +8,8 @@ use lib.Dec.{ltb, leb, eqb}
 use lib.ListN.{length, set, take, drop}
 use Rattle.rules.specs.Limits.{any, absent}
 use Rattle.rules.specs.Sheet.{Sheet, Op, op, board, P-of, rank-of, inbox-start, is-buffered, is-ready, is-receive, only-half, no-half, takes-slot, frees-slot}
-use Rattle.rules.specs.Job.{Job, Place, Stop, place, entry, bare-entry, entry-at, place-at, with-entries, with-places, with-messages, with-receives, with-memory, with-stop, with-steps}
+use Rattle.rules.specs.Job.{Job, Place, Stop, place, entry, bare-entry, entry-at, place-at, with-entries, with-places, with-messages}
+use Rattle.rules.specs.Job.{with-receives, with-memory, with-stop, with-steps}
 
 -- the operation that is next on a board
 unfoldable pub next-op : Sheet → Job → (r : ℕ) → ℕ
@@ -56,11 +57,11 @@ able s x r =
     && (not (in-waiting-half s x r) || half-complete s x (next-op s x r))
 
 -- FIT (004): message m is addressed to the receiver; communicators equal; source equal or any; tag equal or any
-unfoldable pub fits-with : Sheet → (m r : ℕ) → Bool
-fits-with s m r =
+unfoldable pub fits-with : Sheet → (m q : ℕ) → Bool
+fits-with s m q =
     let a = op s m in
-    let b = op s r in
-    (eqb (a .peer) (rank-of s r) && eqb (a .comm) (b .comm))
+    let b = op s q in
+    (eqb (a .peer) (rank-of s q) && eqb (a .comm) (b .comm))
     && ((eqb (b .peer) any || eqb (b .peer) (rank-of s m)) && (eqb (b .tag) any || eqb (b .tag) (a .tag)))
 
 -- the first of a list, in its order, that passes a test
@@ -68,12 +69,12 @@ unfoldable pub first-by : (ℕ → Bool) → List ℕ → Option ℕ
 first-by f [] = none
 first-by f (x ∷ xs) = cond (f x) (some x) (first-by f xs)
 
--- the earliest-arrived pending message that fits receive r; the earliest-posted pending receive that fits message m
-unfoldable pub first-message : Sheet → (r : ℕ) → List ℕ → Option ℕ
-first-message s r ms = first-by (λ m. fits-with s m r) ms
+-- the earliest-arrived pending message that fits receive q; the earliest-posted pending receive that fits message m
+unfoldable pub first-message : Sheet → (q : ℕ) → List ℕ → Option ℕ
+first-message s q ms = first-by (λ m. fits-with s m q) ms
 
 unfoldable pub first-receive : Sheet → (m : ℕ) → List ℕ → Option ℕ
-first-receive s m rs = first-by (λ r. fits-with s m r) rs
+first-receive s m rs = first-by (λ q. fits-with s m q) rs
 
 -- a list without the first v in it
 unfoldable pub without : ℕ → List ℕ → List ℕ
@@ -84,33 +85,33 @@ without v (x ∷ xs) = cond (eqb x v) xs (x ∷ without v xs)
 unfoldable pub splice : List ℕ → (at : ℕ) → List ℕ → List ℕ
 splice bs at vs = take at bs ++ (vs ++ drop (at + length vs) bs)
 
--- where receive r's area starts in the inbox memory
-unfoldable pub area-start : Sheet → (r : ℕ) → ℕ
-area-start s r = inbox-start s (rank-of s r) + op s r .offset
+-- where receive q's area starts in the inbox memory
+unfoldable pub area-start : Sheet → (q : ℕ) → ℕ
+area-start s q = inbox-start s (rank-of s q) + op s q .offset
 
 -- a message longer than the capacity is cut (MPI: truncated)
-unfoldable pub is-cut : Sheet → (m r : ℕ) → Bool
-is-cut s m r = ltb (op s r .long) (op s m .long)
+unfoldable pub is-cut : Sheet → (m q : ℕ) → Bool
+is-cut s m q = ltb (op s q .long) (op s m .long)
 
 -- how many bytes a match copies: the whole message, or none where it is cut
-unfoldable pub copied : Sheet → (m r : ℕ) → ℕ
-copied s m r = cond (is-cut s m r) 0 (op s m .long)
+unfoldable pub copied : Sheet → (m q : ℕ) → ℕ
+copied s m q = cond (is-cut s m q) 0 (op s m .long)
 
-unfoldable pub delivered : Sheet → (m r : ℕ) → List ℕ → List ℕ
-delivered s m r bs = splice bs (area-start s r) (take (copied s m r) (drop (op s m .offset) (s .payload)))
+unfoldable pub delivered : Sheet → (m q : ℕ) → List ℕ → List ℕ
+delivered s m q bs = splice bs (area-start s q) (take (copied s m q) (drop (op s m .offset) (s .payload)))
 
 -- CHARGES: what an unmatched buffered send is charged
 unfoldable pub charge-of : Op → ℕ
 charge-of o = o .long
 
 unfoldable pub charged : (n : ℕ) → Place → Place
-charged n q = place (q .finished) (q .waiting) (q .in-use + n) (max (q .peak) (q .in-use + n))
+charged n p = place (p .finished) (p .waiting) (p .in-use + n) (max (p .peak) (p .in-use + n))
 
 unfoldable pub released : (n : ℕ) → Place → Place
-released n q = place (q .finished) (q .waiting) (q .in-use - n) (q .peak)
+released n p = place (p .finished) (p .waiting) (p .in-use - n) (p .peak)
 
 unfoldable pub with-place : (r : ℕ) → Place → Job → Job
-with-place r q x = with-places (set (x .places) r q) x
+with-place r p x = with-places (set (x .places) r p) x
 
 unfoldable pub charge : Sheet → (r i : ℕ) → Job → Job
 charge s r i x = with-place r (charged (charge-of (op s i)) (place-at x r)) x
@@ -121,24 +122,25 @@ release s m x =
     cond (eqb (entry-at x m .state) 2)
     (with-place (rank-of s m) (released (charge-of (op s m)) (place-at x (rank-of s m))) x) x
 
--- A MATCH of message m and receive r: both complete, neither is pending any more, the message is delivered
-unfoldable pub matched-rows : Sheet → (m r : ℕ) → Job → Job
-matched-rows s m r x =
+-- A MATCH of message m and receive q: both complete, neither is pending any more, the message is delivered
+unfoldable pub matched-rows : Sheet → (m q : ℕ) → Job → Job
+matched-rows s m q x =
     with-entries
-    (set (set (x .entries) m (entry 3 0 r absent absent 0)) r
-    (entry 3 (cond (is-cut s m r) 1 0) m (rank-of s m) (op s m .tag) (op s m .long)))
+    (set (set (x .entries) m (entry 3 0 q absent absent 0)) q
+    (entry 3 (cond (is-cut s m q) 1 0) m (rank-of s m) (op s m .tag) (op s m .long)))
     x
 
-unfoldable pub matched : Sheet → (m r : ℕ) → Job → Job
-matched s m r x =
-    with-memory (delivered s m r (x .memory))
-    (with-receives (without r (x .receives))
-    (with-messages (without m (x .messages)) (matched-rows s m r (release s m x))))
+unfoldable pub matched : Sheet → (m q : ℕ) → Job → Job
+matched s m q x =
+    with-memory (delivered s m q (x .memory))
+    (with-receives (without q (x .receives))
+    (with-messages (without m (x .messages)) (matched-rows s m q (release s m x))))
 
 -- INITIATING STEPS
 unfoldable pub with-state : (i state : ℕ) → Job → Job
 with-state i v x = with-entries (set (x .entries) i (bare-entry v)) x
 
+-- pending: MPI's unexpected message, and posted receive
 unfoldable pub pend-message : (i state : ℕ) → Job → Job
 pend-message i v x = with-messages (x .messages ++ (i ∷ [])) (with-state i v x)
 
@@ -158,10 +160,10 @@ stopped v r i x =
 
 -- an operation is finished after its last step
 unfoldable pub one-finished : Place → Place
-one-finished q = place (suc (q .finished)) false (q .in-use) (q .peak)
+one-finished p = place (suc (p .finished)) false (p .in-use) (p .peak)
 
 unfoldable pub now-waiting : Place → Place
-now-waiting q = place (q .finished) true (q .in-use) (q .peak)
+now-waiting p = place (p .finished) true (p .in-use) (p .peak)
 
 -- after an initiating step a nonblocking operation is finished, a blocking one is in its waiting half
 unfoldable pub initiated : Sheet → (r i : ℕ) → Job → Job

@@ -8,7 +8,7 @@ use native.Mathlib.Numerals.{add-one}
 use lib.ListN.{length, getD, take, drop, set, length-set, length-drop}
 use lib.Seq.{length-take-le, getD-take, getD-drop, take-suc, take-all}
 use Rattle.rules.specs.Step.{splice}
-use Rattle.words.specs.Splice.{splice-none, splice-more, splice-above}
+use Rattle.laws.specs.Splice.{splice-none, splice-more, splice-above}
 
 -- s is c with the first i of the bytes xs put at a place
 pub record Putting (c : List ℕ) (at : ℕ) (xs s : List ℕ) (i : ℕ) : Type 0 where

@@ -8,7 +8,7 @@ use lib.ListN.{length, getD}
 use Rattle.rules.specs.Sheet.{two}
 use Rattle.rules.specs.Step.{splice}
 use Rattle.rules.specs.Report.{low-two}
-use Rattle.words.specs.Splice.{Same, splice-within}
+use Rattle.laws.specs.Splice.{Same, splice-within}
 
 pub two-same : (c d : List ℕ) (at : ℕ) → Same at (at + 2) c d → two c at ≡ two d at
 unfolding two

@@ -20,10 +20,11 @@ use Rattle.rules.specs.Sheet.{Sheet, op, rank-of, inbox-total, is-send, is-rece
 use Rattle.rules.specs.Refusal.{share}
 use Rattle.rules.specs.Step.{area-start, is-cut, copied, delivered}
 use Rattle.invariant.specs.sheet.Valid.{Valid}
-use Rattle.laws.specs.SpliceOrder.{within, within-low, within-high, splice-length, splice-at, splice-swap}
+use Rattle.laws.specs.Splice.{splice-length}
+use Rattle.laws.specs.SpliceOrder.{within, within-low, within-high, splice-at, splice-swap}
 use Rattle.invariant.specs.sheet.Extents.{send-extent, area-inside, areas-disjoint}
 use Rattle.invariant.specs.sheet.Areas.{held-apart}
-use Rattle.invariant.specs.deliveries.Assumed.{Ground, Apart}
+use Rattle.invariant.specs.deliveries.Laws.{Delivery-laws, Areas-apart}
 
 -- the bytes that a match copies
 abbrev pub copied-bytes : Sheet → (m r : ℕ) → List ℕ
@@ -58,10 +59,12 @@ module _ (s : Sheet) (g : Valid s) (m r : ℕ) (receives : is-receive (op s r) �
   delivered-room : area-start s r + length (copied-bytes s m r) ≤ length bs
   delivered-room = omega (arith, area-inside s g r receives, copied-short s m r)
 
+  -- a delivery keeps the length of the inboxes
   pub delivered-length : length (delivered s m r bs) ≡ length bs
   unfolding delivered
   delivered-length = splice-length bs (area-start s r) (copied-bytes s m r) delivered-room
 
+  -- each byte after a delivery
   pub delivered-at : is-send (op s m) ≡ true → (i : ℕ) →
       getD (delivered s m r bs) i 0 ≡ cond (within (area-start s r) (copied s m r) i)
       (getD (s .payload) (op s m .offset + (i - area-start s r)) 0) (getD bs i 0)
@@ -82,6 +85,7 @@ module _ (s : Sheet) (g : Valid s) (m r : ℕ) (receives : is-receive (op s r) �
           ∙ getD-drop (op s m .offset) (s .payload) (i - area-start s r) 0
       go false e = refl
 
+-- deliveries to areas that share no byte commute
 pub delivered-swap : (s : Sheet) → Valid s → (m r k q : ℕ) (bs : List ℕ) → is-receive (op s r) ≡ true →
     is-receive (op s q) ≡ true →
     (rank-of s r ≡ rank-of s q → share (op s r) (op s q) ≡ false) → inbox-total s ≤ length bs →
@@ -95,7 +99,7 @@ delivered-swap s g m r k q bs receives receives-too apart room =
     (omega (arith, copied-short s k q))))
 
 -- GROUND
-pub ground : (s : Sheet) → Valid s → Ground s
+pub ground : (s : Sheet) → Valid s → Delivery-laws s
 ground s g =
     record {
       held-apart =
@@ -107,6 +111,6 @@ ground s g =
       delivered-length = λ m r bs a room. delivered-length s g m r (a .receives) bs room;
     }
   where
-    one-board : (r q : ℕ) → Apart s r q → rank-of s r ≡ rank-of s q → share (op s r) (op s q) ≡ false
+    one-board : (r q : ℕ) → Areas-apart s r q → rank-of s r ≡ rank-of s q → share (op s r) (op s q) ≡ false
     one-board r q (inl d) e = absurd (d e)
     one-board r q (inr h) e = h

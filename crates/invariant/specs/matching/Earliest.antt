@@ -1,5 +1,8 @@
 -- A new match took the earliest on both sides: the search found the earliest on one side, and stability of what was before
--- gives the other. One law where a receive enters and one where a message does. Assumes nothing.
+-- gives the other.
+--   first-for-receive    where a receive enters
+--   first-for-message    where a message enters
+-- Assumes nothing.
 use mathlib.Core.Path.{_≡_, sym, ap, _∙_}
 use mathlib.Core.Logic.{_≢_}
 use mathlib.Core.Bool.{true}
@@ -11,7 +14,8 @@ use Rattle.rules.specs.Job.{Job}
 use Rattle.rules.specs.Step.{next-op, fits-with}
 use Rattle.invariant.specs.sheet.Kinds.{fit-one-board, send-receive-differ}
 use Rattle.laws.specs.WaitingLists.{Holds, Found}
-use Rattle.invariant.specs.Invariant.{Entered, state-at, partner-at, reach, Pending-message, Pending-receive, Met, Stable, Placed, Posted-before, Came-before}
+use Rattle.invariant.specs.Invariant.{Entered, state-at, partner-at, reach, Pending-message, Pending-receive, Matched-pair, Stable, Placed}
+use Rattle.invariant.specs.Invariant.{Posted-before, Arrived-before}
 use Rattle.invariant.specs.matching.RowChanges.{Grows, Matches, state-same, partner-same, state-name, matches-grows}
 use Rattle.invariant.specs.matching.Stable.{Later, First}
 use Rattle.invariant.specs.preserve.Places.{prefix}
@@ -21,7 +25,7 @@ reach-least : (s : Sheet) (x : Job) (r : ℕ) → next-op s x r ≤ reach s x r
 unfolding reach
 reach-least s x r = omega arith
 
-module _ {s : Sheet} {x y : Job} {m q i : ℕ} {came now : ℕ → ℕ} (X : Stable s came x) (p : Placed s x) (L : Later came now x i)
+module _ {s : Sheet} {x y : Job} {m q i : ℕ} {arrival now : ℕ → ℕ} (X : Stable s arrival x) (p : Placed s x) (L : Later arrival now x i)
     (M : Matches s x y m q i) where
   abbrev G : Grows x y i
   G = matches-grows M
@@ -48,15 +52,15 @@ module _ {s : Sheet} {x y : Job} {m q i : ℕ} {came now : ℕ → ℕ} (X : Sta
   matched-on k h = let same = G .kept k (h .0) in (state-same same ∙ h .0, omega (arith, h .1, partner-same same))
 
   -- messages that came before m are entered in x
-  before : (k : ℕ) → Entered y k → now k < now m → m ≢ i → (k ≢ i) × (came k < came m)
+  before : (k : ℕ) → Entered y k → now k < now m → m ≢ i → (k ≢ i) × (arrival k < arrival m)
   before k there l d =
       let k-old : k ≢ i = λ e. omega (arith, L .new m (M .message-there d), ap now e) in
       (k-old, omega (arith, L .old k k-old, L .old m d))
 
   -- THE RECEIVE ENTERS, and m is the earliest message that fits it
   pub first-for-receive : q ≡ i → (r : ℕ) → Next s x r → i ≡ next-op s x r →
-      Holds (Came-before came) (Pending-message s x) (x .messages) →
-      Found (Came-before came) (λ k. fits-with s k i) (x .messages) m → First s now y m q
+      Holds (Arrived-before arrival) (Pending-message s x) (x .messages) →
+      Found (Arrived-before arrival) (λ k. fits-with s k i) (x .messages) m → First s now y m q
   first-for-receive new r n mine H F =
       record {
         sent = λ k a there l f. matched-on k (sent k a there l f (ℕ-discrete (state-at x k) 3));
@@ -79,7 +83,7 @@ module _ {s : Sheet} {x y : Job} {m q i : ℕ} {came now : ℕ → ℕ} (X : Sta
       sent : (k : ℕ) → is-send (op s k) ≡ true → Entered y k → now k < now m → fits-with s k q ≡ true → Dec (state-at x k ≡ 3) →
           (state-at x k ≡ 3) × (partner-at x k < q)
       sent k a there l f (yes e) =
-          let met = X .message-met k a e in (
+          let met = X .message-pair k a e in (
             e,
             earlier (partner-at x k) (omega (arith, met .receive-matched)) (fit-one-board s k (partner-at x k) q (met .fit) f)
                 (decLt (partner-at x k) q) (decLt q (partner-at x k)),
@@ -88,7 +92,7 @@ module _ {s : Sheet} {x y : Job} {m q i : ℕ} {came now : ℕ → ℕ} (X : Sta
           let b = before k there l m-old in
           absurd
           (let late = F .earliest k (H .whole k (pending-message k a (G .back k (b .0) there) d)) (fits-new k f)
-          (λ e. omega (arith, b .1, ap came e)) in
+          (λ e. omega (arith, b .1, ap arrival e)) in
           omega (arith, late, b .1))
 
       posted : (o : ℕ) → is-receive (op s o) ≡ true → o < q → fits-with s m o ≡ true → Dec (state-at x o ≡ 3) → state-at y o ≡ 3
@@ -126,8 +130,8 @@ module _ {s : Sheet} {x y : Job} {m q i : ℕ} {came now : ℕ → ℕ} (X : Sta
           absurd (X .none-fit k q (pending-message k a (G .back k k-old there) d) q-pending f)
       sent k a there l f (yes e) = (e, least (decLt (partner-at x k) q) (decLt q (partner-at x k)))
         where
-          met : Met s x k (partner-at x k)
-          met = X .message-met k a e
+          met : Matched-pair s x k (partner-at x k)
+          met = X .message-pair k a e
 
           least : Dec (partner-at x k < q) → Dec (q < partner-at x k) → partner-at x k < q
           least (yes c) _ = c

@@ -1,8 +1,10 @@
--- What a step does to the rows, said relationally. Every initiating step and every wait enters its operation i: unmatched
--- (`Enters`), or matched with a pending one (`Matches`). Either way the rows grow (`Grows`), which is what most proofs ask.
---   Grows           matched rows stay, i enters, nothing else does
---   Enters          operation i enters unmatched
---   Matches         message m and receive r are matched; one of them is i, which enters
+-- What a step does to the rows, said relationally. Every initiating step, and every step of an operation that is only a waiting
+-- half, enters its operation i: unmatched (`Enters`), or matched with a pending one (`Matches`). Either way the rows grow
+-- (`Grows`), which is what most proofs ask.
+--   Grows              matched rows stay, i enters, nothing else does; grows-pair, grows-message, grows-receive
+--   Enters             operation i enters unmatched; enters-state, enters-differ, enters-grows
+--   Matches            message m and receive q are matched; one of them is i, which enters; matches-pair, matches-grows, matches-split
+--   state-same, partner-same, state-name, pair-same    rows that are equal, and one row under two names
 -- Assumes nothing.
 use mathlib.Core.Path.{_≡_, sym, ap, _∙_}
 use mathlib.Core.Logic.{_⊎_, inl, inr, _≢_}
@@ -15,8 +17,9 @@ use Rattle.rules.specs.Sheet.{Sheet, op, rank-of, is-send, is-receive}
 use Rattle.rules.specs.Job.{Job, Entry, entry, bare-entry, entry-at}
 use Rattle.rules.specs.Step.{fits-with, is-cut}
 use Rattle.invariant.specs.sheet.Kinds.{send-receive-differ}
-use Rattle.invariant.specs.Invariant.{Entered, state-at, partner-at, Pending-message, Pending-receive, Met}
+use Rattle.invariant.specs.Invariant.{Entered, state-at, partner-at, Pending-message, Pending-receive, Matched-pair}
 
+-- the rows of x grow to those of y, where operation i enters
 pub record Grows (x y : Job) (i : ℕ) : Type 0 where
   pub fresh : state-at x i ≡ 0
   pub enters : Entered y i
@@ -28,6 +31,7 @@ pub record Grows (x y : Job) (i : ℕ) : Type 0 where
   pub back : (j : ℕ) → j ≢ i → Entered y j → Entered x j
   pub same : (j : ℕ) → j ≢ i → state-at y j ≢ 3 → entry-at y j ≡ entry-at x j
 
+-- operation i enters unmatched, in state v
 pub record Enters (x y : Job) (i v : ℕ) : Type 0 where
   pub fresh : state-at x i ≡ 0
   pub row : entry-at y i ≡ bare-entry v
@@ -35,6 +39,7 @@ pub record Enters (x y : Job) (i v : ℕ) : Type 0 where
   pub some-state : 1 ≤ v
   pub no-match : v ≢ 3
 
+-- message m and receive r are matched; one of them is i, which enters
 pub record Matches (s : Sheet) (x y : Job) (m r i : ℕ) : Type 0 where
   pub sends : is-send (op s m) ≡ true
   pub receives : is-receive (op s r) ≡ true
@@ -61,9 +66,9 @@ pub state-name : (x : Job) {j i : ℕ} → j ≡ i → state-at x j ≡ state-at
 state-name x e = ap (λ (z : ℕ). state-at x z) e
 
 -- a pair is matched in y as in x where neither row changed
-pub met-same : {s : Sheet} {x y : Job} {m r : ℕ} → entry-at y m ≡ entry-at x m → entry-at y r ≡ entry-at x r → Met s x m r →
-    Met s y m r
-met-same a b h =
+pub pair-same : {s : Sheet} {x y : Job} {m r : ℕ} → entry-at y m ≡ entry-at x m → entry-at y r ≡ entry-at x r → Matched-pair s x m r →
+    Matched-pair s y m r
+pair-same a b h =
     record {
       sends = h .sends;
       receives = h .receives;
@@ -76,8 +81,8 @@ met-same a b h =
 
 -- what grows keeps its pairs, and what is pending in y other than i was pending in x
 module _ {s : Sheet} {x y : Job} {i : ℕ} (G : Grows x y i) where
-  pub grows-met : {m r : ℕ} → Met s x m r → Met s y m r
-  grows-met {m} {r} h = met-same (G .kept m (h .message-matched)) (G .kept r (h .receive-matched)) h
+  pub grows-pair : {m r : ℕ} → Matched-pair s x m r → Matched-pair s y m r
+  grows-pair {m} {r} h = pair-same (G .kept m (h .message-matched)) (G .kept r (h .receive-matched)) h
 
   pub grows-message : (m : ℕ) → m ≢ i → Pending-message s y m → Pending-message s x m
   grows-message m d h =
@@ -130,9 +135,9 @@ module _ {s : Sheet} {x y : Job} {m r i : ℕ} (M : Matches s x y m r i) where
   unfolding entry
   matches-receive-state = state-same (M .receive-row)
 
-  pub matches-met : Met s y m r
+  pub matches-pair : Matched-pair s y m r
   unfolding entry
-  matches-met =
+  matches-pair =
       record {
         sends = M .sends;
         receives = M .receives;
@@ -184,13 +189,13 @@ module _ {s : Sheet} {x y : Job} {m r i : ℕ} (M : Matches s x y m r i) where
       back j d h (no a) (no b) = omega (arith, state-same (M .other j a b))
 
   -- a pair of y is the new one or was one of x
-  pub matches-split : (k q : ℕ) → Met s y k q → ((k ≡ m) × (q ≡ r)) ⊎ Met s x k q
+  pub matches-split : (k q : ℕ) → Matched-pair s y k q → ((k ≡ m) × (q ≡ r)) ⊎ Matched-pair s x k q
   matches-split k q h = go (ℕ-discrete k m) (ℕ-discrete q r)
     where
-      go : Dec (k ≡ m) → Dec (q ≡ r) → ((k ≡ m) × (q ≡ r)) ⊎ Met s x k q
-      go (yes e) _ = inl (e, sym (h .to-receive) ∙ ap (λ (z : ℕ). partner-at y z) e ∙ matches-met .to-receive)
-      go (no d) (yes e) = absurd (d (sym (h .to-message) ∙ ap (λ (z : ℕ). partner-at y z) e ∙ matches-met .to-message))
+      go : Dec (k ≡ m) → Dec (q ≡ r) → ((k ≡ m) × (q ≡ r)) ⊎ Matched-pair s x k q
+      go (yes e) _ = inl (e, sym (h .to-receive) ∙ ap (λ (z : ℕ). partner-at y z) e ∙ matches-pair .to-receive)
+      go (no d) (yes e) = absurd (d (sym (h .to-message) ∙ ap (λ (z : ℕ). partner-at y z) e ∙ matches-pair .to-message))
       go (no d) (no c) =
           let k-other : k ≢ r = send-receive-differ s k r (h .sends) (M .receives) in
           let q-other : q ≢ m = λ e. send-receive-differ s m q (M .sends) (h .receives) (sym e) in
-          inr (met-same (sym (M .other k d k-other)) (sym (M .other q q-other c)) h)
+          inr (pair-same (sym (M .other k d k-other)) (sym (M .other q q-other c)) h)

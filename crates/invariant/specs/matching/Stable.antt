@@ -14,22 +14,25 @@ use Rattle.rules.specs.Sheet.{Sheet, op, is-send, is-receive}
 use Rattle.rules.specs.Job.{Job}
 use Rattle.rules.specs.Step.{fits-with}
 use Rattle.invariant.specs.sheet.Kinds.{send-receive-differ}
-use Rattle.invariant.specs.Invariant.{Entered, state-at, partner-at, Pending-message, Pending-receive, Met, Stable}
-use Rattle.invariant.specs.matching.RowChanges.{Grows, Enters, Matches, state-same, partner-same, state-name, grows-met, grows-message, grows-receive, enters-grows, enters-differ-now, matches-grows, matches-split, matches-message-state, matches-receive-state, matches-met, met-same}
+use Rattle.invariant.specs.Invariant.{Entered, state-at, partner-at, Pending-message, Pending-receive, Matched-pair, Stable}
+use Rattle.invariant.specs.matching.RowChanges.{Grows, Enters, Matches, state-same, partner-same, state-name, grows-pair, grows-message}
+use Rattle.invariant.specs.matching.RowChanges.{grows-receive, enters-grows, enters-differ-now, matches-grows, matches-split}
+use Rattle.invariant.specs.matching.RowChanges.{matches-message-state, matches-receive-state, matches-pair, pair-same}
 
--- `now` is `came` with i after everything entered in x
-pub record Later (came now : ℕ → ℕ) (x : Job) (i : ℕ) : Type 0 where
-  pub old : (j : ℕ) → j ≢ i → now j ≡ came j
+-- `now` is `arrival` with i after everything entered in x
+pub record Later (arrival now : ℕ → ℕ) (x : Job) (i : ℕ) : Type 0 where
+  pub old : (j : ℕ) → j ≢ i → now j ≡ arrival j
   pub new : (j : ℕ) → Entered x j → now j < now i
 
-pub record First (s : Sheet) (came : ℕ → ℕ) (y : Job) (m r : ℕ) : Type 0 where
-  pub sent : (k : ℕ) → is-send (op s k) ≡ true → Entered y k → came k < came m → fits-with s k r ≡ true → (state-at y k ≡ 3)
+-- the pair of message and receive took the earliest on both sides
+pub record First (s : Sheet) (arrival : ℕ → ℕ) (y : Job) (m r : ℕ) : Type 0 where
+  pub sent : (k : ℕ) → is-send (op s k) ≡ true → Entered y k → arrival k < arrival m → fits-with s k r ≡ true → (state-at y k ≡ 3)
       × (partner-at y k < r)
   pub posted : (q : ℕ) → is-receive (op s q) ≡ true → q < r → fits-with s m q ≡ true → state-at y q ≡ 3
 
-module _ {s : Sheet} {x y : Job} {i : ℕ} {came now : ℕ → ℕ} (X : Stable s came x) (L : Later came now x i) (G : Grows x y i) where
+module _ {s : Sheet} {x y : Job} {i : ℕ} {arrival now : ℕ → ℕ} (X : Stable s arrival x) (L : Later arrival now x i) (G : Grows x y i) where
   -- a pair of x is first in y as it was in x
-  grow-first : (m r : ℕ) → Met s x m r → First s now y m r
+  grow-first : (m r : ℕ) → Matched-pair s x m r → First s now y m r
   grow-first m r h =
       record {
         sent = λ k p there l f. sent k p there l f;
@@ -51,38 +54,38 @@ module _ {s : Sheet} {x y : Job} {i : ℕ} {came now : ℕ → ℕ} (X : Stable 
           let same = G .kept k (old .0) in
           (state-same same ∙ old .0, omega (arith, old .1, partner-same same))
 
-  grow-stable : ((m : ℕ) → is-send (op s m) ≡ true → state-at y m ≡ 3 → Met s y m (partner-at y m)) →
-      ((r : ℕ) → is-receive (op s r) ≡ true → state-at y r ≡ 3 → Met s y (partner-at y r) r) →
+  grow-stable : ((m : ℕ) → is-send (op s m) ≡ true → state-at y m ≡ 3 → Matched-pair s y m (partner-at y m)) →
+      ((r : ℕ) → is-receive (op s r) ≡ true → state-at y r ≡ 3 → Matched-pair s y (partner-at y r) r) →
       ((m r : ℕ) → Pending-message s y m → Pending-receive s y r → fits-with s m r ≡ true → ⊥) →
-      ((m r : ℕ) → Met s y m r → First s now y m r ⊎ Met s x m r) → Stable s now y
-  grow-stable message-met receive-met none split =
+      ((m r : ℕ) → Matched-pair s y m r → First s now y m r ⊎ Matched-pair s x m r) → Stable s now y
+  grow-stable message-pair receive-met none split =
       record {
-        message-met = message-met;
+        message-pair = message-pair;
         receive-met = receive-met;
         none-fit = none;
         first-sent = λ m r k h. first m r (split m r h) .sent k;
         first-posted = λ m r q h. first m r (split m r h) .posted q;
       }
     where
-      first : (m r : ℕ) → First s now y m r ⊎ Met s x m r → First s now y m r
+      first : (m r : ℕ) → First s now y m r ⊎ Matched-pair s x m r → First s now y m r
       first m r (inl f) = f
       first m r (inr h) = grow-first m r h
 
 -- the operation that enters fits nothing that is pending
-pub enter-stable : {s : Sheet} {x y : Job} {i v : ℕ} {came now : ℕ → ℕ} → Stable s came x → Later came now x i → Enters x y i v →
+pub enter-stable : {s : Sheet} {x y : Job} {i v : ℕ} {arrival now : ℕ → ℕ} → Stable s arrival x → Later arrival now x i → Enters x y i v →
     (is-send (op s i) ≡ true → (r : ℕ) → Pending-receive s x r → fits-with s i r ≡ true → ⊥) →
     (is-receive (op s i) ≡ true → (m : ℕ) → Pending-message s x m → fits-with s m i ≡ true → ⊥) → Stable s now y
-enter-stable {s} {x} {y} {i} {v} {came} {now} X L E no-receive no-message =
+enter-stable {s} {x} {y} {i} {v} {arrival} {now} X L E no-receive no-message =
     grow-stable X L G
     (λ m p h.
     let same = E .other m (enters-differ-now E m h) in
-    subst (λ (z : ℕ). Met s y m z) (sym (partner-same same)) (grows-met G (X .message-met m p (sym (state-same same) ∙ h))))
+    subst (λ (z : ℕ). Matched-pair s y m z) (sym (partner-same same)) (grows-pair G (X .message-pair m p (sym (state-same same) ∙ h))))
     (λ r p h.
     let same = E .other r (enters-differ-now E r h) in
-    subst (λ (z : ℕ). Met s y z r) (sym (partner-same same)) (grows-met G (X .receive-met r p (sym (state-same same) ∙ h))))
+    subst (λ (z : ℕ). Matched-pair s y z r) (sym (partner-same same)) (grows-pair G (X .receive-met r p (sym (state-same same) ∙ h))))
     (λ m r p q f. none m r p q f (ℕ-discrete m i) (ℕ-discrete r i))
     (λ m r h.
-    inr (met-same (sym (E .other m (enters-differ-now E m (h .message-matched))))
+    inr (pair-same (sym (E .other m (enters-differ-now E m (h .message-matched))))
     (sym (E .other r (enters-differ-now E r (h .receive-matched)))) h))
   where
     G : Grows x y i
@@ -99,12 +102,12 @@ enter-stable {s} {x} {y} {i} {v} {came} {now} X L E no-receive no-message =
     none m r p q f (no d) (no c) = X .none-fit m r (grows-message G m d p) (grows-receive G r c q) f
 
 -- the new pair took the earliest on both sides
-pub match-stable : {s : Sheet} {x y : Job} {m r i : ℕ} {came now : ℕ → ℕ} → Stable s came x → Later came now x i →
+pub match-stable : {s : Sheet} {x y : Job} {m r i : ℕ} {arrival now : ℕ → ℕ} → Stable s arrival x → Later arrival now x i →
     Matches s x y m r i →
     First s now y m r → Stable s now y
-match-stable {s} {x} {y} {m} {r} {i} {came} {now} X L M F =
+match-stable {s} {x} {y} {m} {r} {i} {arrival} {now} X L M F =
     grow-stable X L G
-    (λ k p h. message-met k p h (ℕ-discrete k m))
+    (λ k p h. message-pair k p h (ℕ-discrete k m))
     (λ q p h. receive-met q p h (ℕ-discrete q r))
     (λ k q p o f. X .none-fit k q (grows-message G k (message-old (M .one) k p) p)
     (grows-receive G q (receive-old (M .one) q o) o) f)
@@ -113,21 +116,21 @@ match-stable {s} {x} {y} {m} {r} {i} {came} {now} X L M F =
     G : Grows x y i
     G = matches-grows M
 
-    message-met : (k : ℕ) → is-send (op s k) ≡ true → state-at y k ≡ 3 → Dec (k ≡ m) → Met s y k (partner-at y k)
-    message-met k p h (yes e) =
-        subst (λ (z : ℕ). Met s y z (partner-at y z)) (sym e)
-        (subst (λ (z : ℕ). Met s y m z) (sym (matches-met M .to-receive)) (matches-met M))
-    message-met k p h (no d) =
+    message-pair : (k : ℕ) → is-send (op s k) ≡ true → state-at y k ≡ 3 → Dec (k ≡ m) → Matched-pair s y k (partner-at y k)
+    message-pair k p h (yes e) =
+        subst (λ (z : ℕ). Matched-pair s y z (partner-at y z)) (sym e)
+        (subst (λ (z : ℕ). Matched-pair s y m z) (sym (matches-pair M .to-receive)) (matches-pair M))
+    message-pair k p h (no d) =
         let same = M .other k d (send-receive-differ s k r p (M .receives)) in
-        subst (λ (z : ℕ). Met s y k z) (sym (partner-same same)) (grows-met G (X .message-met k p (sym (state-same same) ∙ h)))
+        subst (λ (z : ℕ). Matched-pair s y k z) (sym (partner-same same)) (grows-pair G (X .message-pair k p (sym (state-same same) ∙ h)))
 
-    receive-met : (q : ℕ) → is-receive (op s q) ≡ true → state-at y q ≡ 3 → Dec (q ≡ r) → Met s y (partner-at y q) q
+    receive-met : (q : ℕ) → is-receive (op s q) ≡ true → state-at y q ≡ 3 → Dec (q ≡ r) → Matched-pair s y (partner-at y q) q
     receive-met q p h (yes e) =
-        subst (λ (z : ℕ). Met s y (partner-at y z) z) (sym e)
-        (subst (λ (z : ℕ). Met s y z r) (sym (matches-met M .to-message)) (matches-met M))
+        subst (λ (z : ℕ). Matched-pair s y (partner-at y z) z) (sym e)
+        (subst (λ (z : ℕ). Matched-pair s y z r) (sym (matches-pair M .to-message)) (matches-pair M))
     receive-met q p h (no d) =
         let same = M .other q (λ e. send-receive-differ s m q (M .sends) p (sym e)) d in
-        subst (λ (z : ℕ). Met s y z q) (sym (partner-same same)) (grows-met G (X .receive-met q p (sym (state-same same) ∙ h)))
+        subst (λ (z : ℕ). Matched-pair s y z q) (sym (partner-same same)) (grows-pair G (X .receive-met q p (sym (state-same same) ∙ h)))
 
     -- what is pending in y is not i, which is matched there
     message-old : (i ≡ m) ⊎ (i ≡ r) → (k : ℕ) → Pending-message s y k → k ≢ i
@@ -138,7 +141,7 @@ match-stable {s} {x} {y} {m} {r} {i} {came} {now} X L M F =
     receive-old (inl e) q p c = p .unmatched (state-name y (c ∙ e) ∙ matches-message-state M)
     receive-old (inr e) q p c = p .unmatched (state-name y (c ∙ e) ∙ matches-receive-state M)
 
-    split : (k q : ℕ) → ((k ≡ m) × (q ≡ r)) ⊎ Met s x k q → First s now y k q ⊎ Met s x k q
+    split : (k q : ℕ) → ((k ≡ m) × (q ≡ r)) ⊎ Matched-pair s x k q → First s now y k q ⊎ Matched-pair s x k q
     split k q (inl e) =
         inl (subst (λ (z : ℕ). First s now y z q) (sym (e .0))
         (subst (λ (z : ℕ). First s now y m z) (sym (e .1)) F))

@@ -1,4 +1,8 @@
--- The order of arrival after a step: the operation that enters is last. Assumes nothing.
+-- The order of arrival after a step: the operation that enters is last.
+--   arrival-with      the order of arrival with one operation more; arrival-same, arrival-other
+--   arrives-later     the operation that enters came after all that were entered
+--   arrived-step      a step keeps `Arrived`
+-- Assumes nothing.
 use mathlib.Core.Path.{_≡_, refl, sym, ap, _∙_}
 use mathlib.Core.Logic.{_≢_}
 use mathlib.Core.Bool.{Bool, true, cond}
@@ -14,32 +18,33 @@ use Rattle.invariant.specs.matching.RowChanges.{Grows, state-name}
 use Rattle.invariant.specs.matching.Stable.{Later}
 use Rattle.invariant.specs.preserve.Places.{prefix}
 
--- `came`, with i at the step that now is
-unfoldable pub came-with : (ℕ → ℕ) → (i now j : ℕ) → ℕ
-came-with came i now j = cond (eqb j i) now (came j)
+-- `arrival`, with i at the step that now is
+unfoldable pub arrival-with : (ℕ → ℕ) → (i now j : ℕ) → ℕ
+arrival-with arrival i now j = cond (eqb j i) now (arrival j)
 
-pub came-same : (came : ℕ → ℕ) (i now : ℕ) → came-with came i now i ≡ now
-unfolding came-with
-came-same came i now = ap (λ (b : Bool). cond b now (came i)) (eq-eqb i i refl)
+pub arrival-same : (arrival : ℕ → ℕ) (i now : ℕ) → arrival-with arrival i now i ≡ now
+unfolding arrival-with
+arrival-same arrival i now = ap (λ (b : Bool). cond b now (arrival i)) (eq-eqb i i refl)
 
-pub came-other : (came : ℕ → ℕ) (i now j : ℕ) → j ≢ i → came-with came i now j ≡ came j
-unfolding came-with
-came-other came i now j d = ap (λ (b : Bool). cond b now (came j)) (ne-eqb j i d)
+pub arrival-other : (arrival : ℕ → ℕ) (i now j : ℕ) → j ≢ i → arrival-with arrival i now j ≡ arrival j
+unfolding arrival-with
+arrival-other arrival i now j d = ap (λ (b : Bool). cond b now (arrival j)) (ne-eqb j i d)
 
-module _ {s : Sheet} {x y : Job} {i : ℕ} {came : ℕ → ℕ} (A : Arrived s came x) (G : Grows x y i) where
+module _ {s : Sheet} {x y : Job} {i : ℕ} {arrival : ℕ → ℕ} (A : Arrived s arrival x) (G : Grows x y i) where
   abbrev now : ℕ → ℕ
-  now = came-with came i (x .steps)
+  now = arrival-with arrival i (x .steps)
 
   differ : (j : ℕ) → Entered x j → j ≢ i
   differ j h e = omega (arith, G .fresh, state-name x e)
 
-  pub arrives-later : Later came now x i
+  pub arrives-later : Later arrival now x i
   arrives-later =
       record {
-        old = came-other came i (x .steps);
-        new = λ j h. omega (arith, A .past j h, came-same came i (x .steps), came-other came i (x .steps) j (differ j h));
+        old = arrival-other arrival i (x .steps);
+        new = λ j h. omega (arith, A .past j h, arrival-same arrival i (x .steps), arrival-other arrival i (x .steps) j (differ j h));
       }
 
+  -- a step keeps the order of arrival right
   pub arrived-step : Placed s x → y .steps ≡ suc (x .steps) → Arrived s now y
   arrived-step p more =
       record {
@@ -48,11 +53,11 @@ module _ {s : Sheet} {x y : Job} {i : ℕ} {came : ℕ → ℕ} (A : Arrived s c
         in-script = λ k m a b hk hm same l. script k m a b hk hm same l (ℕ-discrete k i) (ℕ-discrete m i);
       }
     where
-      old : (j : ℕ) → j ≢ i → now j ≡ came j
-      old = came-other came i (x .steps)
+      old : (j : ℕ) → j ≢ i → now j ≡ arrival j
+      old = arrival-other arrival i (x .steps)
 
       past : (m : ℕ) → Entered y m → Dec (m ≡ i) → now m < y .steps
-      past m h (yes e) = omega (arith, more, ap now e, came-same came i (x .steps))
+      past m h (yes e) = omega (arith, more, ap now e, arrival-same arrival i (x .steps))
       past m h (no d) = omega (arith, more, old m d, A .past m (G .back m d h))
 
       apart : (k m : ℕ) → is-send (op s k) ≡ true → is-send (op s m) ≡ true → Entered y k → Entered y m → now k ≡ now m →

@@ -17,15 +17,15 @@ use native.Mathlib.Decide.{ℕ-discrete}
 use lib.Dec.{eqb}
 use lib.ListN.{length}
 use borrow.Author.Tests.{eq-eqb, eqb-true, leb-true}
-use Rattle.rules.specs.Sheet.{Sheet, op, N-of, rank-of, inbox-total, is-receive, is-wait, is-nonblocking}
+use Rattle.rules.specs.Sheet.{Sheet, op, N-of, rank-of, inbox-total, is-receive, no-half, frees-slot}
 use Rattle.rules.specs.Job.{Job, Entry, entry-at, place-at}
 use Rattle.rules.specs.Step.{next-op, delivered, half-complete, complete, complete-if, waited}
 use Rattle.laws.specs.Tests.{true-not-false}
 use Rattle.invariant.specs.sheet.Valid.{Valid}
-use Rattle.invariant.specs.deliveries.Assumed.{Ground, Pair, Apart}
-use Rattle.invariant.specs.sheet.Kinds.{receive-no-wait, send-no-receive, is-true, wait-blocking}
+use Rattle.invariant.specs.deliveries.Laws.{Delivery-laws, Pair, Areas-apart}
+use Rattle.invariant.specs.sheet.Kinds.{is-true, send-not-receive, receive-not-frees, receive-no-half-takes, frees-not-no-half}
 use Rattle.invariant.specs.Invariant.{Entered, state-at, partner-at, replay, replayed, reach, Placed, Shaped, Stable}
-use Rattle.invariant.specs.matching.RowChanges.{Enters, Matches, state-name, enters-state, matches-met, matches-receive-state}
+use Rattle.invariant.specs.matching.RowChanges.{Enters, Matches, state-name, enters-state, matches-pair, matches-receive-state}
 use Rattle.invariant.specs.preserve.Places.{prefix}
 use Rattle.invariant.specs.matching.UnmatchedState.{unmatched-receive}
 
@@ -54,14 +54,14 @@ unfolding replay
 replay-same s x y j bs e = ap (λ (z : Entry). cond (is-receive (op s j) && eqb (z .state) 3) (delivered s (z .partner) j bs) bs) e
 
 -- by cases: does operation j replay?
-abbrev Paints : Sheet → Job → ℕ → Type 0
-Paints s x j = (is-receive (op s j) ≡ true) × (state-at x j ≡ 3)
+abbrev Delivers : Sheet → Job → ℕ → Type 0
+Delivers s x j = (is-receive (op s j) ≡ true) × (state-at x j ≡ 3)
 
-replays : (s : Sheet) (x : Job) (j : ℕ) → Paints s x j ⊎ (is-receive (op s j) ≡ true → state-at x j ≡ 3 → ⊥)
+replays : (s : Sheet) (x : Job) (j : ℕ) → Delivers s x j ⊎ (is-receive (op s j) ≡ true → state-at x j ≡ 3 → ⊥)
 replays s x j = go (is-receive (op s j)) refl (ℕ-discrete (state-at x j) 3)
   where
     go : (b : Bool) → is-receive (op s j) ≡ b → Dec (state-at x j ≡ 3) →
-        Paints s x j ⊎ (is-receive (op s j) ≡ true → state-at x j ≡ 3 → ⊥)
+        Delivers s x j ⊎ (is-receive (op s j) ≡ true → state-at x j ≡ 3 → ⊥)
     go true e (yes f) = inl (e, f)
     go true e (no d) = inr (λ a b. d b)
     go false e t = inr (λ a b. true-not-false a e)
@@ -98,9 +98,9 @@ replayed-enters s {x} {y} {i} {v} n bs E = replayed-same s x y n bs (λ j cs l. 
         ∙ sym (replay-none s x j cs (λ a b. omega (arith, E .fresh, state-name x e)))
 
 -- A JOB whose matching is stable and whose boards are placed
-module _ {s : Sheet} (g : Valid s) (A : Ground s) {came : ℕ → ℕ} {x : Job} (X : Stable s came x) (p : Placed s x)
+module _ {s : Sheet} (g : Valid s) (A : Delivery-laws s) {arrival : ℕ → ℕ} {x : Job} (X : Stable s arrival x) (p : Placed s x)
     (h : Shaped s x) where
-  replays-pair : (j : ℕ) → Paints s x j → Pair s (partner-at x j) j
+  replays-pair : (j : ℕ) → Delivers s x j → Pair s (partner-at x j) j
   replays-pair j d =
       let met = X .receive-met j (d .0) (d .1) in
       record {
@@ -115,7 +115,7 @@ module _ {s : Sheet} (g : Valid s) (A : Ground s) {came : ℕ → ℕ} {x : Job}
   replayed-length zero bs l = refl
   replayed-length (suc n) bs l = go (replays s x n) (replayed-length n bs l)
     where
-      go : Paints s x n ⊎ (is-receive (op s n) ≡ true → state-at x n ≡ 3 → ⊥) → length (replayed s x n bs) ≡ length bs →
+      go : Delivers s x n ⊎ (is-receive (op s n) ≡ true → state-at x n ≡ 3 → ⊥) → length (replayed s x n bs) ≡ length bs →
           length (replay s x n (replayed s x n bs)) ≡ length bs
       go (inl d) e =
           ap (λ (z : List ℕ). length z) (replay-matched s x n (replayed s x n bs) (d .0) (d .1))
@@ -141,9 +141,9 @@ module _ {s : Sheet} (g : Valid s) (A : Ground s) {came : ℕ → ℕ} {x : Job}
     unmatched-half e =
         unmatched-incomplete
         (leb-true 2 (state-at x r) (sym (ap (λ (b : Bool). cond b (complete-if x (waited s r)) (complete x r))
-        (receive-no-wait (op s r) receives)) ∙ e))
+        (receive-not-frees (op s r) receives)) ∙ e))
 
-    unmatched-waited : (w : ℕ) → is-wait (op s w) ≡ true → waited s w ≡ some r → half-complete s x w ≡ true → ⊥
+    unmatched-waited : (w : ℕ) → frees-slot (op s w) ≡ true → waited s w ≡ some r → half-complete s x w ≡ true → ⊥
     unfolding half-complete complete complete-if
     unmatched-waited w e o c =
         unmatched-incomplete
@@ -154,10 +154,10 @@ module _ {s : Sheet} (g : Valid s) (A : Ground s) {came : ℕ → ℕ} {x : Job}
 
   -- the area of a receive that is not matched, and of a later one that is entered
   pending-apart : (r q : ℕ) → r < q → r < N-of s → is-receive (op s r) ≡ true → is-receive (op s q) ≡ true → state-at x r ≢ 3 →
-      Entered x q → Apart s r q
+      Entered x q → Areas-apart s r q
   pending-apart r q l inside receives-r receives-q free entered = go (ℕ-discrete (rank-of s r) (rank-of s q))
     where
-      go : Dec (rank-of s r ≡ rank-of s q) → Apart s r q
+      go : Dec (rank-of s r ≡ rank-of s q) → Areas-apart s r q
       go (no d) = inl d
       go (yes e) =
           let there : Entered x r = prefix s x p r q entered l e in
@@ -166,17 +166,18 @@ module _ {s : Sheet} (g : Valid s) (A : Ground s) {came : ℕ → ℕ} {x : Job}
           λ j c k. omega (arith, only .1, reach-most (rank-of s q), ap (λ (z : ℕ). next-op s x z) (c ∙ e)) in
           inr
           (A .held-apart r q l (only .0) e receives-r receives-q
-          (is-true (is-nonblocking (op s r)) (λ b. unmatched-half r receives-r free there
-          (p .passed-complete r inside (passed r refl l) b)))
+          (receive-no-half-takes (op s r) receives-r
+          (is-true (no-half (op s r)) (λ b. unmatched-half r receives-r free there
+          (p .passed-complete r inside (passed r refl l) b))))
           (λ w a b c f o. waits w a b c f o there (passed w c b) (only .0)))
         where
-          waits : (w : ℕ) → r < w → w < q → rank-of s w ≡ rank-of s r → is-wait (op s w) ≡ true → waited s w ≡ some r →
+          waits : (w : ℕ) → r < w → w < q → rank-of s w ≡ rank-of s r → frees-slot (op s w) ≡ true → waited s w ≡ some r →
               Entered x r →
               w < next-op s x (rank-of s w) → q < N-of s → ⊥
           waits w a b c f o there passed k =
               let inside-w : w < N-of s = omega arith in
               unmatched-waited r receives-r free there w f o
-              (p .passed-complete w inside-w passed (wait-blocking s g w inside-w f))
+              (p .passed-complete w inside-w passed (frees-not-no-half s g w inside-w f))
 
   -- A MATCH replays one delivery more
   module _ {y : Job} {m r i : ℕ} (M : Matches s x y m r i) (inside-m : m < N-of s) (inside-r : r < N-of s) where
@@ -185,7 +186,7 @@ module _ {s : Sheet} (g : Valid s) (A : Ground s) {came : ℕ → ℕ} {x : Job}
     matches-replay j bs d = go (ℕ-discrete j m)
       where
         no-receive : j ≡ m → is-receive (op s j) ≡ true → ⊥
-        no-receive e a = true-not-false (ap (λ (z : ℕ). is-receive (op s z)) (sym e) ∙ a) (send-no-receive (op s m) (M .sends))
+        no-receive e a = true-not-false (ap (λ (z : ℕ). is-receive (op s z)) (sym e) ∙ a) (send-not-receive (op s m) (M .sends))
 
         go : Dec (j ≡ m) → replay s y j bs ≡ replay s x j bs
         go (yes e) = replay-none s y j bs (λ a b. no-receive e a) ∙ sym (replay-none s x j bs (λ a b. no-receive e a))
@@ -195,7 +196,7 @@ module _ {s : Sheet} (g : Valid s) (A : Ground s) {came : ℕ → ℕ} {x : Job}
     matches-replay-here : (bs : List ℕ) → replay s y r bs ≡ delivered s m r (replay s x r bs)
     matches-replay-here bs =
         replay-matched s y r bs (M .receives) (matches-receive-state M)
-        ∙ ap (λ (z : ℕ). delivered s z r bs) (matches-met M .to-message)
+        ∙ ap (λ (z : ℕ). delivered s z r bs) (matches-pair M .to-message)
         ∙ ap (λ (z : List ℕ). delivered s m r z) (sym (replay-none s x r bs (λ a b. M .receive-free b)))
 
     -- a later delivery may come after that of r
@@ -212,7 +213,7 @@ module _ {s : Sheet} (g : Valid s) (A : Ground s) {came : ℕ → ℕ} {x : Job}
               receives = M .receives;
             }
 
-        go : Paints s x j ⊎ (is-receive (op s j) ≡ true → state-at x j ≡ 3 → ⊥) →
+        go : Delivers s x j ⊎ (is-receive (op s j) ≡ true → state-at x j ≡ 3 → ⊥) →
             replay s x j (delivered s m r bs) ≡ delivered s m r (replay s x j bs)
         go (inr c) =
             replay-none s x j (delivered s m r bs) c

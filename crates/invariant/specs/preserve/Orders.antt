@@ -18,7 +18,7 @@ use Rattle.rules.specs.Order.{followed, follow-from, follow}
 use Rattle.rules.specs.Claims.{left-by}
 use Rattle.laws.specs.Tests.{true-not-false}
 use Rattle.invariant.specs.sheet.Valid.{Valid}
-use Rattle.invariant.specs.deliveries.Assumed.{Ground}
+use Rattle.invariant.specs.deliveries.Laws.{Delivery-laws}
 use Rattle.laws.specs.Sums.{sum-zero}
 use Rattle.invariant.specs.Invariant.{Entered, state-at, partner-at, reach, steps-done, steps-of, charge-in, row-of, Reached}
 use Rattle.invariant.specs.preserve.Charges.{charge-none}
@@ -84,14 +84,15 @@ module _ {s : Sheet} (g : Valid s) (lent : List ℕ) where
       ∙ ap (λ (b : Bool). cond b 1 0) (le-ltb j (reach s x₀ (rank-of s j))
       (omega (arith, start-reach (rank-of s j), g .rank-low j l)))
 
+  -- the start has the invariant
   pub start-reached : Reached s lent x₀
   unfolding started job is-none
   start-reached =
       record {
-        came = λ j. 0;
+        arrival = λ j. 0;
         stable =
             record {
-              message-met = λ m p h. none-entered m (omega arith);
+              message-pair = λ m p h. none-entered m (omega arith);
               receive-met = λ r p h. none-entered r (omega arith);
               none-fit = λ m r p q f. none-entered m (p .entered);
               first-sent = λ m r k h p there l f. none-entered k there;
@@ -109,8 +110,8 @@ module _ {s : Sheet} (g : Valid s) (lent : List ℕ) where
               places-long = length-replicate (P-of s) (place 0 false 0 0);
               finished-most = λ r l. omega (arith, start-finished r);
               waiting-unfinished = λ r l w. true-not-false w (start-waiting r);
-              waiting-blocking = λ r l w. true-not-false w (start-waiting r);
-              waiting-no-wait = λ r l w. true-not-false w (start-waiting r);
+              waiting-not-no-half = λ r l w. true-not-false w (start-waiting r);
+              waiting-not-only-half = λ r l w. true-not-false w (start-waiting r);
               entered-if = λ j l h. absurd (omega (arith, start-reach (rank-of s j), g .rank-low j l));
               entered-only = λ j h. none-entered j h;
               passed-complete = λ j l h. absurd (omega (arith, start-next (rank-of s j), g .rank-low j l));
@@ -122,7 +123,7 @@ module _ {s : Sheet} (g : Valid s) (lent : List ℕ) where
                   start-entry j ∙ sym (row-bare s j 0 (partner-at x₀ j) (omega arith))
                   ∙ ap (λ (v : ℕ). row-of s j v (partner-at x₀ j)) (sym (start-state j));
               unmatched = λ j h. none-entered j h;
-              wait-unmatched = λ j w c. omega (arith, start-state j);
+              only-half-unmatched = λ j w c. omega (arith, start-state j);
             };
         messages-held =
             record {
@@ -168,12 +169,14 @@ follow-from-keeps s P keeps k (r ∷ rs) x h =
     go true e rest = rest e
     go false e rest = h
 
+-- what every able step keeps, an order keeps
 pub left-keeps : (s : Sheet) (P : Job → Type 0) → ((x : Job) (r : ℕ) → P x → able s x r ≡ true → P (step s r x)) →
     (rs lent : List ℕ) → P (started s lent) → P (left-by s rs lent)
 unfolding left-by follow
 left-keeps s P keeps rs lent h = follow-from-keeps s P keeps 0 rs (started s lent) h
 
-pub left-reached : {s : Sheet} → Valid s → Ground s → {lent : List ℕ} → inbox-total s ≤ length lent → (rs : List ℕ) →
+-- an order keeps the invariant, up to where it is refused
+pub left-reached : {s : Sheet} → Valid s → Delivery-laws s → {lent : List ℕ} → inbox-total s ≤ length lent → (rs : List ℕ) →
     Reached s lent (left-by s rs lent)
 left-reached {s} g A {lent} room rs =
     left-keeps s (Reached s lent) (λ x r R a. step-sound g A room R r a .reached) rs lent (start-reached g lent)

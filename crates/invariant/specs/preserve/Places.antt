@@ -1,8 +1,10 @@
 -- A step moves its board on by one, and keeps `Placed`.
---   Advances        what becomes entered by a step of operation i
---   Turn            a step that goes on: where its board goes, and why it may
---   placed-step     the places stay right
---   prefix          on one board everything before an entered operation is entered
+--   Advances            what becomes entered by a step of operation i
+--   Ongoing             a step that goes on: where its board goes, and why it may
+--   half-complete-on    complete stays complete
+--   prefix              on one board everything before an entered operation is entered
+--   next-here, reach-here, next-other ..    the operations that are next and reached after the step
+--   placed-step         the places stay right
 -- Assumes nothing.
 use mathlib.Core.Path.{_≡_, refl, sym, ap, subst, _∙_}
 use mathlib.Core.Logic.{_≢_}
@@ -13,7 +15,7 @@ use native.Mathlib.Omega.{arith}
 use native.Mathlib.Decide.{ℕ-discrete}
 use lib.Dec.{leb}
 use borrow.Author.Tests.{leb-true, le-leb}
-use Rattle.rules.specs.Sheet.{Sheet, op, board, P-of, N-of, rank-of, is-wait, is-nonblocking}
+use Rattle.rules.specs.Sheet.{Sheet, op, board, P-of, N-of, rank-of, only-half, no-half, frees-slot}
 use Rattle.rules.specs.Job.{Job, place-at}
 use Rattle.rules.specs.Step.{next-op, half-complete, complete, complete-if, waited}
 use Rattle.laws.specs.Tests.{true-not-false}
@@ -21,6 +23,7 @@ use Rattle.invariant.specs.sheet.Valid.{Valid}
 use Rattle.invariant.specs.Invariant.{Entered, state-at, Placed, reach, steps-of}
 use Rattle.invariant.specs.step.Places.{Next, Moved, moved-finished, moved-waiting, moved-finished-other, moved-waiting-other}
 
+-- what becomes entered by a step of operation i, and what stays
 pub record Advances (x y : Job) (i : ℕ) : Type 0 where
   pub here : Entered y i
   pub on : (j : ℕ) → Entered x j → Entered y j
@@ -28,21 +31,21 @@ pub record Advances (x y : Job) (i : ℕ) : Type 0 where
   pub complete-on : (j : ℕ) → 2 ≤ state-at x j → 2 ≤ state-at y j
 
 -- `last` says that the step finishes its operation
-pub record Turn (s : Sheet) (x y : Job) (r : ℕ) (last : Bool) : Type 0 where
+pub record Ongoing (s : Sheet) (x y : Job) (r : ℕ) (last : Bool) : Type 0 where
   pub next : Next s x r
   pub moved : Moved x y r last
   pub advances : Advances x y (next-op s x r)
   -- an operation that is not finished by this step has a waiting half; one that is had been in it, or has none
-  pub goes-waiting : last ≡ false → (is-nonblocking (op s (next-op s x r)) ≡ false) × (is-wait (op s (next-op s x r)) ≡ false)
+  pub goes-waiting : last ≡ false → (no-half (op s (next-op s x r)) ≡ false) × (only-half (op s (next-op s x r)) ≡ false)
       × (place-at x r .waiting ≡ false)
-  pub finishes : last ≡ true → is-nonblocking (op s (next-op s x r)) ≡ false → half-complete s x (next-op s x r) ≡ true
+  pub finishes : last ≡ true → no-half (op s (next-op s x r)) ≡ false → half-complete s x (next-op s x r) ≡ true
   pub steps-left : last ≡ true → cond (place-at x r .waiting) 1 0 + 1 ≡ steps-of (op s (next-op s x r))
 
 -- complete stays complete
 pub half-complete-on : (s : Sheet) (x y : Job) → ((j : ℕ) → 2 ≤ state-at x j → 2 ≤ state-at y j) → (i : ℕ) →
     half-complete s x i ≡ true → half-complete s y i ≡ true
 unfolding half-complete complete complete-if
-half-complete-on s x y on i = go (is-wait (op s i)) (waited s i)
+half-complete-on s x y on i = go (frees-slot (op s i)) (waited s i)
   where
     one : (j : ℕ) → leb 2 (state-at x j) ≡ true → leb 2 (state-at y j) ≡ true
     one j e = le-leb 2 (state-at y j) (on j (leb-true 2 (state-at x j) e))
@@ -59,7 +62,7 @@ prefix s x p j i h l e =
     let only = p .entered-only i h in
     p .entered-if j (omega (arith, only .0)) (omega (arith, only .1, ap (λ (z : ℕ). reach s x z) e))
 
-module _ {s : Sheet} {x y : Job} {r : ℕ} {last : Bool} (g : Valid s) (p : Placed s x) (T : Turn s x y r last) where
+module _ {s : Sheet} {x y : Job} {r : ℕ} {last : Bool} (g : Valid s) (p : Placed s x) (T : Ongoing s x y r last) where
   abbrev pub here : ℕ
   here = next-op s x r
 
@@ -123,6 +126,7 @@ module _ {s : Sheet} {x y : Job} {r : ℕ} {last : Bool} (g : Valid s) (p : Plac
   pub next-mine-before : (j : ℕ) → rank-of s j ≡ r → next-op s x (rank-of s j) ≡ here
   next-mine-before j e = ap (λ (z : ℕ). next-op s x z) e
 
+  -- a step that goes on keeps the places right
   pub placed-step : Placed s y
   placed-step =
       record {
@@ -130,8 +134,8 @@ module _ {s : Sheet} {x y : Job} {r : ℕ} {last : Bool} (g : Valid s) (p : Plac
         places-long = T .moved .places-long ∙ p .places-long;
         finished-most = λ q l. most q l (ℕ-discrete q r);
         waiting-unfinished = λ q l w. unfinished q l w (ℕ-discrete q r);
-        waiting-blocking = λ q l w. blocking q l w (ℕ-discrete q r);
-        waiting-no-wait = λ q l w. no-wait q l w (ℕ-discrete q r);
+        waiting-not-no-half = λ q l w. blocking q l w (ℕ-discrete q r);
+        waiting-not-only-half = λ q l w. no-wait q l w (ℕ-discrete q r);
         entered-if = λ j l h. entered-if j l h (ℕ-discrete (rank-of s j) r) (ℕ-discrete j here);
         entered-only = λ j h. entered-only j h (ℕ-discrete j here) (ℕ-discrete (rank-of s j) r);
         passed-complete = λ j l h b. passed j l h b (ℕ-discrete (rank-of s j) r) last refl;
@@ -176,22 +180,22 @@ module _ {s : Sheet} {x y : Job} {r : ℕ} {last : Bool} (g : Valid s) (p : Plac
           go true c h = true-not-false refl c
           go false c h = omega (arith, n .unfinished)
 
-      blocking : (q : ℕ) → q < P-of s → place-at y q .waiting ≡ true → Dec (q ≡ r) → is-nonblocking (op s (next-op s y q)) ≡ false
+      blocking : (q : ℕ) → q < P-of s → place-at y q .waiting ≡ true → Dec (q ≡ r) → no-half (op s (next-op s y q)) ≡ false
       blocking q l w (no d) =
-          ap (λ (k : ℕ). is-nonblocking (op s k)) (next-other q d)
-          ∙ p .waiting-blocking q l (sym (moved-waiting-other (T .moved) q d) ∙ w)
+          ap (λ (k : ℕ). no-half (op s k)) (next-other q d)
+          ∙ p .waiting-not-no-half q l (sym (moved-waiting-other (T .moved) q d) ∙ w)
       blocking q l w (yes e) =
-          ap (λ (k : ℕ). is-nonblocking (op s (next-op s y k))) e
-          ∙ ap (λ (k : ℕ). is-nonblocking (op s k)) (stays last (not-last q e w) next-here)
+          ap (λ (k : ℕ). no-half (op s (next-op s y k))) e
+          ∙ ap (λ (k : ℕ). no-half (op s k)) (stays last (not-last q e w) next-here)
           ∙ T .goes-waiting (not-last q e w) .0
 
-      no-wait : (q : ℕ) → q < P-of s → place-at y q .waiting ≡ true → Dec (q ≡ r) → is-wait (op s (next-op s y q)) ≡ false
+      no-wait : (q : ℕ) → q < P-of s → place-at y q .waiting ≡ true → Dec (q ≡ r) → only-half (op s (next-op s y q)) ≡ false
       no-wait q l w (no d) =
-          ap (λ (k : ℕ). is-wait (op s k)) (next-other q d)
-          ∙ p .waiting-no-wait q l (sym (moved-waiting-other (T .moved) q d) ∙ w)
+          ap (λ (k : ℕ). only-half (op s k)) (next-other q d)
+          ∙ p .waiting-not-only-half q l (sym (moved-waiting-other (T .moved) q d) ∙ w)
       no-wait q l w (yes e) =
-          ap (λ (k : ℕ). is-wait (op s (next-op s y k))) e
-          ∙ ap (λ (k : ℕ). is-wait (op s k)) (stays last (not-last q e w) next-here)
+          ap (λ (k : ℕ). only-half (op s (next-op s y k))) e
+          ∙ ap (λ (k : ℕ). only-half (op s k)) (stays last (not-last q e w) next-here)
           ∙ T .goes-waiting (not-last q e w) .1
 
       entered-if : (j : ℕ) → j < N-of s → j < reach s y (rank-of s j) → Dec (rank-of s j ≡ r) → Dec (j ≡ here) → Entered y j
@@ -212,7 +216,7 @@ module _ {s : Sheet} {x y : Job} {r : ℕ} {last : Bool} (g : Valid s) (p : Plac
           let only = p .entered-only j (T .advances .back j d h) in
           (only .0, omega (arith, only .1, reach-other (rank-of s j) c))
 
-      passed : (j : ℕ) → j < N-of s → j < next-op s y (rank-of s j) → is-nonblocking (op s j) ≡ false → Dec (rank-of s j ≡ r) →
+      passed : (j : ℕ) → j < N-of s → j < next-op s y (rank-of s j) → no-half (op s j) ≡ false → Dec (rank-of s j ≡ r) →
           (b : Bool) → last ≡ b →
           half-complete s y j ≡ true
       passed j l h b (no c) _ _ =
@@ -225,7 +229,7 @@ module _ {s : Sheet} {x y : Job} {r : ℕ} {last : Bool} (g : Valid s) (p : Plac
           go (yes a) true q k =
               half-complete-on s x y (T .advances .complete-on) j
               (subst (λ (z : ℕ). half-complete s x z ≡ true) (sym a)
-              (T .finishes q (ap (λ (z : ℕ). is-nonblocking (op s z)) (sym a) ∙ b)))
+              (T .finishes q (ap (λ (z : ℕ). no-half (op s z)) (sym a) ∙ b)))
           go (yes a) false q k = absurd (omega (arith, k, ap (λ (c : Bool). cond c (suc here) here) q))
           go (no a) true q k =
               half-complete-on s x y (T .advances .complete-on) j

@@ -1,4 +1,7 @@
--- A row is determined by its state and partner, after a step as before. Assumes nothing.
+-- A row is determined by its state and partner, after a step as before.
+--   row-bare, row-message, row-receive                the three rows
+--   shaped-same, shaped-enters, shaped-matches        `Shaped` where no row changed, where one entered, after a match
+-- Assumes nothing.
 use mathlib.Core.Path.{_≡_, sym, ap, subst, _∙_}
 use mathlib.Core.Logic.{_≢_}
 use mathlib.Core.Bool.{Bool, true, false, cond}
@@ -9,11 +12,11 @@ use lib.ListN.{getD}
 use mathlib.Core.List.{List}
 use borrow.Author.Tests.{ne-eqb}
 use Rattle.rules.specs.Limits.{absent}
-use Rattle.rules.specs.Sheet.{Sheet, op, rank-of, is-receive, is-wait}
+use Rattle.rules.specs.Sheet.{Sheet, op, rank-of, is-receive, only-half}
 use Rattle.rules.specs.Job.{Job, Entry, entry, bare-entry, entry-at}
 use Rattle.rules.specs.Step.{is-cut}
 use Rattle.laws.specs.Tests.{true-not-false}
-use Rattle.invariant.specs.sheet.Kinds.{send-no-receive, send-no-wait, receive-no-wait}
+use Rattle.invariant.specs.sheet.Kinds.{send-not-receive, send-not-only-half, receive-not-only-half}
 use Rattle.invariant.specs.Invariant.{Entered, state-at, partner-at, row-of, unmatched-state, Shaped}
 use Rattle.invariant.specs.matching.RowChanges.{Enters, Matches, state-same, state-name, enters-state, matches-message-state, matches-receive-state}
 
@@ -55,7 +58,7 @@ shaped-same {s} {x} y h e =
     record {
       row = λ j. row-same s x y j (at j) (h .row j);
       unmatched = λ j l d. state-same (at j) ∙ h .unmatched j (omega (arith, state-same (at j))) (λ c. d (state-same (at j) ∙ c));
-      wait-unmatched = λ j w c. h .wait-unmatched j w (sym (state-same (at j)) ∙ c);
+      only-half-unmatched = λ j w c. h .only-half-unmatched j w (sym (state-same (at j)) ∙ c);
     }
   where
     at : (j : ℕ) → entry-at y j ≡ entry-at x j
@@ -66,7 +69,7 @@ shaped-enters {s} {x} {y} {i} {v} h E answers =
     record {
       row = λ j. row j (ℕ-discrete j i);
       unmatched = λ j l d. unmatched j l d (ℕ-discrete j i);
-      wait-unmatched = λ j w c. waits j w c (ℕ-discrete j i);
+      only-half-unmatched = λ j w c. waits j w c (ℕ-discrete j i);
     }
   where
     row : (j : ℕ) → Dec (j ≡ i) → entry-at y j ≡ row-of s j (state-at y j) (partner-at y j)
@@ -82,8 +85,8 @@ shaped-enters {s} {x} {y} {i} {v} h E answers =
         same ∙ h .unmatched j (omega (arith, same)) (λ k. d (same ∙ k))
     unmatched j l d (yes e) = state-name y e ∙ enters-state E ∙ answers ∙ ap (λ (z : ℕ). unmatched-state (op s z)) (sym e)
 
-    waits : (j : ℕ) → is-wait (op s j) ≡ true → state-at y j ≡ 3 → Dec (j ≡ i) → ⊥
-    waits j w c (no d) = h .wait-unmatched j w (sym (state-same (E .other j d)) ∙ c)
+    waits : (j : ℕ) → only-half (op s j) ≡ true → state-at y j ≡ 3 → Dec (j ≡ i) → ⊥
+    waits j w c (no d) = h .only-half-unmatched j w (sym (state-same (E .other j d)) ∙ c)
     waits j w c (yes e) = E .no-match (sym (enters-state E) ∙ state-name y (sym e) ∙ c)
 
 pub shaped-matches : {s : Sheet} {x y : Job} {m r i : ℕ} → Shaped s x → Matches s x y m r i → Shaped s y
@@ -92,13 +95,13 @@ shaped-matches {s} {x} {y} {m} {r} {i} h M =
     record {
       row = λ j. row j (ℕ-discrete j m) (ℕ-discrete j r);
       unmatched = λ j l d. unmatched j l d;
-      wait-unmatched = λ j w c. waits j w c (ℕ-discrete j m) (ℕ-discrete j r);
+      only-half-unmatched = λ j w c. waits j w c (ℕ-discrete j m) (ℕ-discrete j r);
     }
   where
     row : (j : ℕ) → Dec (j ≡ m) → Dec (j ≡ r) → entry-at y j ≡ row-of s j (state-at y j) (partner-at y j)
     row j (yes e) _ =
         subst (λ (z : ℕ). entry-at y z ≡ row-of s z (state-at y z) (partner-at y z)) (sym e)
-        (M .message-row ∙ sym (row-message s m r (send-no-receive (op s m) (M .sends)))
+        (M .message-row ∙ sym (row-message s m r (send-not-receive (op s m) (M .sends)))
         ∙ ap (λ (z : Entry). row-of s m (z .state) (z .partner)) (sym (M .message-row)))
     row j (no d) (yes e) =
         subst (λ (z : ℕ). entry-at y z ≡ row-of s z (state-at y z) (partner-at y z)) (sym e)
@@ -113,9 +116,9 @@ shaped-matches {s} {x} {y} {m} {r} {i} h M =
         (M .other j (λ e. d (state-name y e ∙ matches-message-state M)) (λ e. d (state-name y e ∙ matches-receive-state M))) in
         same ∙ h .unmatched j (omega (arith, same)) (λ k. d (same ∙ k))
 
-    waits : (j : ℕ) → is-wait (op s j) ≡ true → state-at y j ≡ 3 → Dec (j ≡ m) → Dec (j ≡ r) → ⊥
-    waits j w c (yes e) _ = true-not-false (ap (λ (z : ℕ). is-wait (op s z)) (sym e) ∙ w) (send-no-wait (op s m) (M .sends))
+    waits : (j : ℕ) → only-half (op s j) ≡ true → state-at y j ≡ 3 → Dec (j ≡ m) → Dec (j ≡ r) → ⊥
+    waits j w c (yes e) _ = true-not-false (ap (λ (z : ℕ). only-half (op s z)) (sym e) ∙ w) (send-not-only-half (op s m) (M .sends))
     waits j w c (no d) (yes e) =
-        true-not-false (ap (λ (z : ℕ). is-wait (op s z)) (sym e) ∙ w)
-        (receive-no-wait (op s r) (M .receives))
-    waits j w c (no d) (no a) = h .wait-unmatched j w (sym (state-same (M .other j d a)) ∙ c)
+        true-not-false (ap (λ (z : ℕ). only-half (op s z)) (sym e) ∙ w)
+        (receive-not-only-half (op s r) (M .receives))
+    waits j w c (no d) (no a) = h .only-half-unmatched j w (sym (state-same (M .other j d a)) ∙ c)

@@ -1,4 +1,6 @@
 -- Jobs with the same rows: what the rows alone decide holds of both. Used where a step ends a waiting half or stops the job.
+--   Same-rows, rows-same                                          the relation
+--   stable-same, arrived-same, messages-same, receives-same       the parts of the invariant
 -- Assumes nothing.
 use mathlib.Core.Path.{_≡_, sym, ap, subst, _∙_}
 use mathlib.Core.List.{List}
@@ -8,10 +10,11 @@ use lib.ListN.{getD}
 use Rattle.rules.specs.Sheet.{Sheet}
 use Rattle.rules.specs.Job.{Job, Entry, bare-entry, entry-at}
 use Rattle.laws.specs.WaitingLists.{Holds, holds-same}
-use Rattle.invariant.specs.Invariant.{Entered, Pending-message, Pending-receive, Met, Stable, Arrived, Posted-before, Came-before}
-use Rattle.invariant.specs.matching.RowChanges.{state-same, partner-same, met-same}
+use Rattle.invariant.specs.Invariant.{Entered, Pending-message, Pending-receive, Matched-pair, Stable, Arrived, Posted-before, Arrived-before}
+use Rattle.invariant.specs.matching.RowChanges.{state-same, partner-same, pair-same}
 use Rattle.invariant.specs.preserve.WaitingLists.{pending-message-same, pending-receive-same}
 
+-- no row of x changed in y
 abbrev pub Same-rows : (x y : Job) → Type 0
 Same-rows x y = (j : ℕ) → entry-at y j ≡ entry-at x j
 
@@ -20,20 +23,20 @@ unfolding entry-at
 rows-same x y e j = ap (λ (z : List Entry). getD z j (bare-entry 0)) e
 
 module _ {s : Sheet} {x y : Job} (e : Same-rows x y) where
-  met-on : {m r : ℕ} → Met s x m r → Met s y m r
-  met-on {m} {r} h = met-same (e m) (e r) h
+  met-on : {m r : ℕ} → Matched-pair s x m r → Matched-pair s y m r
+  met-on {m} {r} h = pair-same (e m) (e r) h
 
-  met-back : {m r : ℕ} → Met s y m r → Met s x m r
-  met-back {m} {r} h = met-same (sym (e m)) (sym (e r)) h
+  met-back : {m r : ℕ} → Matched-pair s y m r → Matched-pair s x m r
+  met-back {m} {r} h = pair-same (sym (e m)) (sym (e r)) h
 
-  pub stable-same : {came : ℕ → ℕ} → Stable s came x → Stable s came y
+  pub stable-same : {arrival : ℕ → ℕ} → Stable s arrival x → Stable s arrival y
   stable-same X =
       record {
-        message-met =
-            λ m p h. subst (λ (z : ℕ). Met s y m z) (sym (partner-same (e m)))
-            (met-on (X .message-met m p (sym (state-same (e m)) ∙ h)));
+        message-pair =
+            λ m p h. subst (λ (z : ℕ). Matched-pair s y m z) (sym (partner-same (e m)))
+            (met-on (X .message-pair m p (sym (state-same (e m)) ∙ h)));
         receive-met =
-            λ r p h. subst (λ (z : ℕ). Met s y z r) (sym (partner-same (e r)))
+            λ r p h. subst (λ (z : ℕ). Matched-pair s y z r) (sym (partner-same (e r)))
             (met-on (X .receive-met r p (sym (state-same (e r)) ∙ h)));
         none-fit =
             λ m r p q. X .none-fit m r (pending-message-same x (sym (state-same (e m))) p)
@@ -45,7 +48,7 @@ module _ {s : Sheet} {x y : Job} (e : Same-rows x y) where
         first-posted = λ m r q h p l f. state-same (e q) ∙ X .first-posted m r q (met-back h) p l f;
       }
 
-  pub arrived-same : {came : ℕ → ℕ} → x .steps ≤ y .steps → Arrived s came x → Arrived s came y
+  pub arrived-same : {arrival : ℕ → ℕ} → x .steps ≤ y .steps → Arrived s arrival x → Arrived s arrival y
   arrived-same l A =
       record {
         past = λ m h. omega (arith, A .past m (entered-back m h));
@@ -56,8 +59,8 @@ module _ {s : Sheet} {x y : Job} (e : Same-rows x y) where
       entered-back : (j : ℕ) → Entered y j → Entered x j
       entered-back j h = omega (arith, state-same (e j))
 
-  pub messages-same : {came : ℕ → ℕ} {l : List ℕ} → Holds (Came-before came) (Pending-message s x) l →
-      Holds (Came-before came) (Pending-message s y) l
+  pub messages-same : {arrival : ℕ → ℕ} {l : List ℕ} → Holds (Arrived-before arrival) (Pending-message s x) l →
+      Holds (Arrived-before arrival) (Pending-message s y) l
   messages-same h =
       holds-same h (λ v u p q c. c) (λ v p. pending-message-same y (state-same (e v)) p)
       (λ v p. pending-message-same x (sym (state-same (e v))) p)

@@ -1,6 +1,8 @@
 -- An able step keeps the whole invariant.
---   Parts           what is to be shown of a step that goes on; extended-turn: the rest follows from where the boards stand
---   step-sound      the law
+--   Parts               what is to be shown of a step that goes on
+--   extended-ongoing    the rest follows from where the boards stand
+--   sound-half ..       the parts, case by case of `Outcome`
+--   step-sound          the law
 -- Assumes nothing.
 use mathlib.Core.Path.{_≡_, refl, sym, ap, subst, _∙_}
 use mathlib.Core.Logic.{_⊎_, inl, inr, _≢_}
@@ -13,57 +15,58 @@ use native.Mathlib.Decide.{ℕ-discrete}
 use lib.Dec.{eqb}
 use lib.ListN.{length}
 use borrow.Author.Tests.{eqb-true, leb-true}
-use Rattle.rules.specs.Sheet.{Sheet, op, board, P-of, N-of, rank-of, inbox-total, is-send, is-receive, is-wait, is-buffered, is-nonblocking}
+use Rattle.rules.specs.Sheet.{Sheet, op, board, P-of, N-of, rank-of, inbox-total, is-send, is-receive, only-half, is-buffered, no-half}
 use Rattle.rules.specs.Job.{Job, Stop, place-at}
 use Rattle.rules.specs.Step.{able, step, next-op, first-message, first-receive, fits-with, delivered, is-none, fits-buffer, charge-of}
 use Rattle.laws.specs.Tests.{not-so, true-not-false}
 use Rattle.invariant.specs.sheet.Valid.{Valid}
-use Rattle.invariant.specs.deliveries.Assumed.{Ground}
-use Rattle.invariant.specs.sheet.Kinds.{send-no-wait, receive-no-wait, receive-no-send, send-no-receive}
+use Rattle.invariant.specs.deliveries.Laws.{Delivery-laws}
+use Rattle.invariant.specs.sheet.Kinds.{send-not-only-half, receive-not-only-half, receive-not-send, send-not-receive}
 use Rattle.laws.specs.Sums.{sum-below, sum-same}
 use Rattle.laws.specs.WaitingLists.{Holds, first-by-none, first-by-some}
-use Rattle.invariant.specs.Invariant.{Entered, state-at, unmatched-state, steps-done, charge-in, replayed, Pending-message, Pending-receive, Stable, Arrived, Placed, Shaped, Posted-before, Came-before, Reached, Extended}
+use Rattle.invariant.specs.Invariant.{Entered, state-at, unmatched-state, steps-done, charge-in, replayed, Pending-message, Pending-receive}
+use Rattle.invariant.specs.Invariant.{Stable, Arrived, Placed, Shaped, Posted-before, Arrived-before, Reached, Extended}
 use Rattle.invariant.specs.matching.RowChanges.{Grows, Enters, Matches, state-same, state-name, enters-grows, matches-grows}
 use Rattle.invariant.specs.matching.Stable.{Later, First, enter-stable, match-stable}
 use Rattle.invariant.specs.step.Places.{Next, moved-peak, able-next}
 use Rattle.invariant.specs.step.BufferUse.{Use, use-kept, use-charged, use-released}
-use Rattle.invariant.specs.step.Cases.{Ends-half, Ends-wait, Posts, Pends, Meets, Finds, Outcome, ends-half, ends-wait, posts, pends, meets, stops}
+use Rattle.invariant.specs.step.Cases.{Ends-half, Ends-only-half, Posts, Pends, Match-step, Finds, Outcome, ends-half, ends-only-half, posts, pends, matches, stops}
 use Rattle.invariant.specs.step.CasesHold.{outcome}
-use Rattle.invariant.specs.preserve.Places.{Turn, placed-step}
+use Rattle.invariant.specs.preserve.Places.{Ongoing, placed-step}
 use Rattle.invariant.specs.preserve.StepCount.{steps-step}
-use Rattle.invariant.specs.preserve.ArrivalOrder.{came-with, came-other, arrives-later, arrived-step}
+use Rattle.invariant.specs.preserve.ArrivalOrder.{arrival-with, arrival-other, arrives-later, arrived-step}
 use Rattle.invariant.specs.preserve.Rows.{shaped-same, shaped-enters, shaped-matches}
 use Rattle.invariant.specs.preserve.WaitingLists.{queue-message, queue-message-other, queue-receive, queue-receive-other, queue-message-match, queue-receive-match}
 use Rattle.invariant.specs.preserve.Charges.{charge-same, charging-other, charging-enters, charging-matches}
-use Rattle.invariant.specs.matching.UnmatchedState.{unmatched-receive, unmatched-wait}
+use Rattle.invariant.specs.matching.UnmatchedState.{unmatched-receive, unmatched-only-half}
 use Rattle.invariant.specs.preserve.Memory.{replayed-length, replayed-rows, replayed-enters, replayed-matches}
 use Rattle.invariant.specs.preserve.SameRows.{Same-rows, rows-same, stable-same, arrived-same, messages-same, receives-same}
 use Rattle.invariant.specs.matching.Earliest.{first-for-receive, first-for-message}
 use Rattle.invariant.specs.preserve.Stop.{stops-extended}
-use Rattle.invariant.specs.preserve.NextPart.{turn-initiating, turn-wait, turn-half}
+use Rattle.invariant.specs.preserve.OngoingSteps.{ongoing-initiating, ongoing-only-half, ongoing-half}
 
--- what is to be shown of a step that goes on and takes x to y, where `came` is the order of arrival in y
-record Parts {s : Sheet} {lent : List ℕ} {x : Job} (R : Reached s lent x) (y : Job) (i : ℕ) (came : ℕ → ℕ) : Type 0 where
-  old : (j : ℕ) → Entered x j → came j ≡ R .came j
-  new : Entered y i → (Entered x i → ⊥) → (j : ℕ) → Entered x j → came j < came i
-  stable : Stable s came y
-  arrived : Arrived s came y
+-- what is to be shown of a step that goes on and takes x to y, where `arrival` is the order of arrival in y
+record Parts {s : Sheet} {lent : List ℕ} {x : Job} (R : Reached s lent x) (y : Job) (i : ℕ) (arrival : ℕ → ℕ) : Type 0 where
+  old : (j : ℕ) → Entered x j → arrival j ≡ R .arrival j
+  new : Entered y i → (Entered x i → ⊥) → (j : ℕ) → Entered x j → arrival j < arrival i
+  stable : Stable s arrival y
+  arrived : Arrived s arrival y
   shaped : Shaped s y
-  messages : Holds (Came-before came) (Pending-message s y) (y .messages)
+  messages : Holds (Arrived-before arrival) (Pending-message s y) (y .messages)
   receives : Holds (Posted-before s) (Pending-receive s y) (y .receives)
   in-use-sum : (q : ℕ) → q < P-of s → place-at y q .in-use ≡ sum-below (N-of s) (charge-in s y q)
   attached : (q : ℕ) → q < P-of s → place-at y q .in-use ≤ board s q .attached
   memory : y .memory ≡ replayed s y (N-of s) lent
 
-module _ {s : Sheet} (g : Valid s) (A : Ground s) {lent : List ℕ} (room : inbox-total s ≤ length lent) {x : Job}
+module _ {s : Sheet} (g : Valid s) (A : Delivery-laws s) {lent : List ℕ} (room : inbox-total s ≤ length lent) {x : Job}
     (R : Reached s lent x) where
-  extended-turn : {y : Job} {r : ℕ} {last : Bool} {came : ℕ → ℕ} → Turn s x y r last → Parts R y (next-op s x r) came →
+  extended-ongoing : {y : Job} {r : ℕ} {last : Bool} {arrival : ℕ → ℕ} → Ongoing s x y r last → Parts R y (next-op s x r) arrival →
       Extended R y (next-op s x r)
-  extended-turn {y} {r} {last} {came} T parts =
+  extended-ongoing {y} {r} {last} {arrival} T parts =
       record {
         reached =
             record {
-              came = came;
+              arrival = arrival;
               stable = parts .stable;
               arrived = parts .arrived;
               placed = placed;
@@ -105,14 +108,14 @@ module _ {s : Sheet} (g : Valid s) (A : Ground s) {lent : List ℕ} (room : inbo
     i = next-op s x r
 
     abbrev now : ℕ → ℕ
-    now = came-with (R .came) i (x .steps)
+    now = arrival-with (R .arrival) i (x .steps)
 
-    came-old : Grows x y i → (j : ℕ) → Entered x j → now j ≡ R .came j
-    came-old G j h = came-other (R .came) i (x .steps) j (λ e. omega (arith, G .fresh, state-name x e))
+    arrival-old : Grows x y i → (j : ℕ) → Entered x j → now j ≡ R .arrival j
+    arrival-old G j h = arrival-other (R .arrival) i (x .steps) j (λ e. omega (arith, G .fresh, state-name x e))
 
-    messages-are : {came : ℕ → ℕ} {l : List ℕ} → y .messages ≡ l → Holds (Came-before came) (Pending-message s y) l →
-        Holds (Came-before came) (Pending-message s y) (y .messages)
-    messages-are {came} e h = subst (λ (l : List ℕ). Holds (Came-before came) (Pending-message s y) l) (sym e) h
+    messages-are : {arrival : ℕ → ℕ} {l : List ℕ} → y .messages ≡ l → Holds (Arrived-before arrival) (Pending-message s y) l →
+        Holds (Arrived-before arrival) (Pending-message s y) (y .messages)
+    messages-are {arrival} e h = subst (λ (l : List ℕ). Holds (Arrived-before arrival) (Pending-message s y) l) (sym e) h
 
     receives-are : {l : List ℕ} → y .receives ≡ l → Holds (Posted-before s) (Pending-receive s y) l →
         Holds (Posted-before s) (Pending-receive s y) (y .receives)
@@ -121,7 +124,7 @@ module _ {s : Sheet} (g : Valid s) (A : Ground s) {lent : List ℕ} (room : inbo
     -- A WAITING HALF ended: nothing entered
     sound-half : Ends-half s x y r i → Extended R y i
     sound-half h =
-        extended-turn T
+        extended-ongoing T
         (record {
           old = λ j e. refl;
           new = λ now-in out j e. absurd (out (omega (arith, state-same (same i))));
@@ -141,25 +144,25 @@ module _ {s : Sheet} (g : Valid s) (A : Ground s) {lent : List ℕ} (room : inbo
         same : Same-rows x y
         same = rows-same x y (h .entries)
 
-        T : Turn s x y r true
-        T = turn-half (R .placed) n (h .moved) same (h .waiting)
+        T : Ongoing s x y r true
+        T = ongoing-half (R .placed) n (h .moved) same (h .waiting)
 
     -- AN OPERATION ENTERED unmatched: what kind of operation it is decides the waiting lists and the charge
-    module _ {v : ℕ} {last : Bool} (T : Turn s x y r last) (E : Enters x y i v) (memory : y .memory ≡ x .memory) where
-      later : Later (R .came) now x i
+    module _ {v : ℕ} {last : Bool} (T : Ongoing s x y r last) (E : Enters x y i v) (memory : y .memory ≡ x .memory) where
+      later : Later (R .arrival) now x i
       later = arrives-later (R .arrived) (enters-grows E)
 
       sound-enters : v ≡ unmatched-state (op s i) →
           (is-send (op s i) ≡ true → (q : ℕ) → Pending-receive s x q → fits-with s i q ≡ true → ⊥) →
           (is-receive (op s i) ≡ true → (m : ℕ) → Pending-message s x m → fits-with s m i ≡ true → ⊥) →
-          Holds (Came-before now) (Pending-message s y) (y .messages) →
+          Holds (Arrived-before now) (Pending-message s y) (y .messages) →
           Holds (Posted-before s) (Pending-receive s y) (y .receives) →
           ((q : ℕ) → q < P-of s → place-at y q .in-use ≡ sum-below (N-of s) (charge-in s y q)) →
           ((q : ℕ) → q < P-of s → place-at y q .in-use ≤ board s q .attached) → Extended R y i
       sound-enters state no-receive no-message messages receives uses attached =
-          extended-turn T
+          extended-ongoing T
           (record {
-            old = came-old (enters-grows E);
+            old = arrival-old (enters-grows E);
             new = λ now-in out. later .new;
             stable = enter-stable (R .stable) later E no-receive no-message;
             arrived = arrived-step (R .arrived) (enters-grows E) (R .placed) (T .moved .steps-more);
@@ -175,9 +178,9 @@ module _ {s : Sheet} (g : Valid s) (A : Ground s) {lent : List ℕ} (room : inbo
       uses-other : v ≢ 2 → Use x y use-kept → (q : ℕ) → q < P-of s → place-at y q .in-use ≡ sum-below (N-of s) (charge-in s y q)
       uses-other d uses q l = uses q ∙ R .in-use-sum q l ∙ charging-other s E d q
 
-    sound-wait : Ends-wait s x y r i → Extended R y i
-    sound-wait h =
-        sound-enters T E (h .memory) (sym (unmatched-wait s i (h .waits))) (λ a. true-not-false a no-send)
+    sound-only-half : Ends-only-half s x y r i → Extended R y i
+    sound-only-half h =
+        sound-enters T E (h .memory) (sym (unmatched-only-half s i (h .waits))) (λ a. true-not-false a no-send)
         (λ a. true-not-false a no-receive)
         (messages-are (h .messages) (queue-message-other E (later T E (h .memory)) no-send (R .messages-held)))
         (receives-are (h .receives) (queue-receive-other E no-receive (R .receives-held)))
@@ -186,14 +189,14 @@ module _ {s : Sheet} (g : Valid s) (A : Ground s) {lent : List ℕ} (room : inbo
         E : Enters x y i 5
         E = h .enters
 
-        T : Turn s x y r true
-        T = turn-wait n (h .moved) (enters-grows E) (h .not-waiting) (h .waits)
+        T : Ongoing s x y r true
+        T = ongoing-only-half n (h .moved) (enters-grows E) (h .not-waiting) (h .waits)
 
         no-send : is-send (op s i) ≡ false
-        no-send = not-so (is-send (op s i)) (λ a. true-not-false (h .waits) (send-no-wait (op s i) a))
+        no-send = not-so (is-send (op s i)) (λ a. true-not-false (h .waits) (send-not-only-half (op s i) a))
 
         no-receive : is-receive (op s i) ≡ false
-        no-receive = not-so (is-receive (op s i)) (λ a. true-not-false (h .waits) (receive-no-wait (op s i) a))
+        no-receive = not-so (is-receive (op s i)) (λ a. true-not-false (h .waits) (receive-not-only-half (op s i) a))
 
     sound-posts : Posts s x y r i → Extended R y i
     unfolding first-message
@@ -208,11 +211,11 @@ module _ {s : Sheet} (g : Valid s) (A : Ground s) {lent : List ℕ} (room : inbo
         E : Enters x y i 1
         E = h .enters
 
-        T : Turn s x y r (is-nonblocking (op s i))
-        T = turn-initiating n (h .moved) (enters-grows E) (h .not-waiting) (receive-no-wait (op s i) (h .is-one))
+        T : Ongoing s x y r (no-half (op s i))
+        T = ongoing-initiating n (h .moved) (enters-grows E) (h .not-waiting) (receive-not-only-half (op s i) (h .is-one))
 
         no-send : is-send (op s i) ≡ false
-        no-send = receive-no-send (op s i) (h .is-one)
+        no-send = receive-not-send (op s i) (h .is-one)
 
     sound-pends : Pends s x y r i → Extended R y i
     unfolding first-receive use-charged fits-buffer
@@ -233,11 +236,11 @@ module _ {s : Sheet} (g : Valid s) (A : Ground s) {lent : List ℕ} (room : inbo
         E : Enters x y i (unmatched-state (op s i))
         E = h .enters
 
-        T : Turn s x y r (is-nonblocking (op s i))
-        T = turn-initiating n (h .moved) (enters-grows E) (h .not-waiting) (send-no-wait (op s i) (h .is-one))
+        T : Ongoing s x y r (no-half (op s i))
+        T = ongoing-initiating n (h .moved) (enters-grows E) (h .not-waiting) (send-not-only-half (op s i) (h .is-one))
 
         no-receive : is-receive (op s i) ≡ false
-        no-receive = send-no-receive (op s i) (h .is-one)
+        no-receive = send-not-receive (op s i) (h .is-one)
 
         -- the charge of this send had room
         attached : (q : ℕ) → q < P-of s → (a : Bool) → eqb q r ≡ a → (b : Bool) → is-buffered (op s i) ≡ b →
@@ -249,12 +252,12 @@ module _ {s : Sheet} (g : Valid s) (A : Ground s) {lent : List ℕ} (room : inbo
         attached q l false p b o = omega (arith, R .in-use-peak q, R .peak-attached q l)
 
     -- A MESSAGE AND A RECEIVE were matched
-    sound-meets : (m q : ℕ) → Meets s x y r i m q → Extended R y i
+    sound-matches : (m q : ℕ) → Match-step s x y r i m q → Extended R y i
     unfolding first-message first-receive use-released
-    sound-meets m q h =
-        extended-turn (turn-initiating n (h .moved) G (h .not-waiting) (not-wait (M .one)))
+    sound-matches m q h =
+        extended-ongoing (ongoing-initiating n (h .moved) G (h .not-waiting) (not-wait (M .one)))
         (record {
-          old = came-old G;
+          old = arrival-old G;
           new = λ now-in out. L .new;
           stable = match-stable (R .stable) L M (first (h .finds));
           arrived = arrived-step (R .arrived) G (R .placed) (h .moved .steps-more);
@@ -278,16 +281,16 @@ module _ {s : Sheet} (g : Valid s) (A : Ground s) {lent : List ℕ} (room : inbo
         G : Grows x y i
         G = matches-grows M
 
-        L : Later (R .came) now x i
+        L : Later (R .arrival) now x i
         L = arrives-later (R .arrived) G
 
         released-less : {k : ℕ} (b : Bool) (n c : ℕ) → k ≡ cond b (n - c) n → k ≤ n
         released-less true n c e = omega (arith, e)
         released-less false n c e = omega (arith, e)
 
-        not-wait : (i ≡ m) ⊎ (i ≡ q) → is-wait (op s i) ≡ false
-        not-wait (inl e) = ap (λ (z : ℕ). is-wait (op s z)) e ∙ send-no-wait (op s m) (M .sends)
-        not-wait (inr e) = ap (λ (z : ℕ). is-wait (op s z)) e ∙ receive-no-wait (op s q) (M .receives)
+        not-wait : (i ≡ m) ⊎ (i ≡ q) → only-half (op s i) ≡ false
+        not-wait (inl e) = ap (λ (z : ℕ). only-half (op s z)) e ∙ send-not-only-half (op s m) (M .sends)
+        not-wait (inr e) = ap (λ (z : ℕ). only-half (op s z)) e ∙ receive-not-only-half (op s q) (M .receives)
 
         inside : (j : ℕ) → (j ≢ i → Entered x j) → Dec (j ≡ i) → j < N-of s
         inside j there (yes e) = omega (arith, n .inside)
@@ -310,12 +313,13 @@ module _ {s : Sheet} (g : Valid s) (A : Ground s) {lent : List ℕ} (room : inbo
   -- AN ABLE STEP keeps the invariant
   sound : (y : Job) (r : ℕ) → Next s x r → Outcome s x y r (next-op s x r) → Extended R y (next-op s x r)
   sound y r n (ends-half h) = sound-half y r n h
-  sound y r n (ends-wait h) = sound-wait y r n h
+  sound y r n (ends-only-half h) = sound-only-half y r n h
   sound y r n (posts h) = sound-posts y r n h
   sound y r n (pends h) = sound-pends y r n h
-  sound y r n (meets m q h) = sound-meets y r n m q h
+  sound y r n (matches m q h) = sound-matches y r n m q h
   sound y r n (stops v h) =
-      subst (λ (z : Job). Extended R z (next-op s x r)) (sym (h .is-told)) (stops-extended R v r n (h .reason) (h .not-waiting))
+      subst (λ (z : Job). Extended R z (next-op s x r)) (sym (h .job-is)) (stops-extended R v r n (h .reason) (h .not-waiting))
 
+  -- an able step keeps the invariant
   pub step-sound : (r : ℕ) → able s x r ≡ true → Extended R (step s r x) (next-op s x r)
   step-sound r a = let n = able-next s g x r a in sound (step s r x) r n (outcome s g lent x R r n)

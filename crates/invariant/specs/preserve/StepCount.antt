@@ -13,14 +13,14 @@ use native.Mathlib.Omega.{arith}
 use native.Mathlib.Decide.{ℕ-discrete, decLt}
 use lib.Dec.{ltb}
 use borrow.Author.Tests.{lt-ltb, le-ltb}
-use Rattle.rules.specs.Sheet.{Sheet, Op, op, N-of, rank-of, is-wait, is-nonblocking}
+use Rattle.rules.specs.Sheet.{Sheet, Op, op, N-of, rank-of, only-half, no-half}
 use Rattle.rules.specs.Job.{Job, Stop, place-at}
 use Rattle.rules.specs.Step.{able, next-op, is-none}
 use Rattle.invariant.specs.sheet.Valid.{Valid}
 use Rattle.laws.specs.Sums.{sum-below, sum-change, sum-gap, sum-most}
 use Rattle.invariant.specs.Invariant.{state-at, Placed, Reached, reach, steps-of, steps-done}
 use Rattle.invariant.specs.step.Places.{Next, able-next}
-use Rattle.invariant.specs.preserve.Places.{Turn, waits, waits-most, next-other, reach-other, reach-mine, reach-mine-before, next-mine, next-mine-before}
+use Rattle.invariant.specs.preserve.Places.{Ongoing, waits, waits-most, next-other, reach-other, reach-mine, reach-mine-before, next-mine, next-mine-before}
 
 -- the steps of operation j, where its board has finished those below a and entered those below b
 unfoldable answers : (j a b all : ℕ) → ℕ
@@ -50,7 +50,7 @@ steps-told s x j = refl
 -- AT MOST TWO
 steps-of-most : (o : Op) → steps-of o ≤ 2
 unfolding steps-of
-steps-of-most o = go (is-nonblocking o || is-wait o)
+steps-of-most o = go (no-half o || only-half o)
   where
     go : (b : Bool) → cond b 1 2 ≤ 2
     go true = omega arith
@@ -69,7 +69,7 @@ pub steps-most : (s : Sheet) (x : Job) → sum-below (N-of s) (steps-done s x) �
 steps-most s x = sum-most (N-of s) 2 (steps-done s x) (λ j l. steps-done-most s x j)
 
 -- ONE MORE
-module _ {s : Sheet} {x y : Job} {r : ℕ} {last : Bool} (g : Valid s) (p : Placed s x) (T : Turn s x y r last) where
+module _ {s : Sheet} {x y : Job} {r : ℕ} {last : Bool} (g : Valid s) (p : Placed s x) (T : Ongoing s x y r last) where
   abbrev mine : ℕ
   mine = next-op s x r
 
@@ -138,6 +138,7 @@ module _ {s : Sheet} {x y : Job} {r : ℕ} {last : Bool} (g : Valid s) (p : Plac
           (omega (arith, reach-mine g p T mine (T .next .ranked)))
           ∙ omega (arith, ap {B = ℕ} (λ (c : Bool). cond c 1 0) (T .goes-waiting q .2))
 
+  -- a step that goes on adds one
   pub steps-step : sum-below (N-of s) (steps-done s y) ≡ suc (sum-below (N-of s) (steps-done s x))
   steps-step =
       omega (
@@ -176,6 +177,7 @@ module _ {s : Sheet} {lent : List ℕ} {x : Job} (R : Reached s lent x) where
       go true = omega arith
       go false = omega arith
 
+  -- a job with an able board has taken fewer than 2N steps
   pub able-room : Valid s → (r : ℕ) → able s x r ≡ true → x .steps < 2 * N-of s
   unfolding is-none
   able-room g r a =

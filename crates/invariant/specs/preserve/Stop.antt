@@ -1,4 +1,5 @@
 -- A stopping step keeps the invariant: it changes nothing but the stop and the count of steps, and its operation isn't entered.
+--   stops-extended    the law
 -- Assumes nothing.
 use mathlib.Core.Path.{_≡_, refl, sym, ap, subst, _∙_}
 use mathlib.Core.Logic.{_⊎_}
@@ -18,6 +19,7 @@ use Rattle.invariant.specs.preserve.Rows.{shaped-same}
 use Rattle.invariant.specs.preserve.Memory.{replayed-rows}
 use Rattle.invariant.specs.preserve.SameRows.{Same-rows, stable-same, arrived-same, messages-same, receives-same}
 
+-- a stopping step keeps the invariant
 pub stops-extended : {s : Sheet} {lent : List ℕ} {x : Job} (R : Reached s lent x) (v r : ℕ) → Next s x r → (v ≡ 3) ⊎ (v ≡ 4) →
     place-at x r .waiting ≡ false →
     Extended R (with-steps (suc (x .steps)) (stopped v r (next-op s x r) x)) (next-op s x r)
@@ -27,7 +29,7 @@ stops-extended {s} {lent} {x} R v r n reason w =
     record {
       reached =
           record {
-            came = R .came;
+            arrival = R .arrival;
             stable = stable-same same (R .stable);
             arrived = arrived-same same (omega arith) (R .arrived);
             placed =
@@ -36,8 +38,8 @@ stops-extended {s} {lent} {x} R v r n reason w =
                   places-long = R .placed .places-long;
                   finished-most = R .placed .finished-most;
                   waiting-unfinished = R .placed .waiting-unfinished;
-                  waiting-blocking = R .placed .waiting-blocking;
-                  waiting-no-wait = R .placed .waiting-no-wait;
+                  waiting-not-no-half = R .placed .waiting-not-no-half;
+                  waiting-not-only-half = R .placed .waiting-not-only-half;
                   entered-if = R .placed .entered-if;
                   entered-only = R .placed .entered-only;
                   passed-complete = λ j l h b. half-complete-on s x y (λ k c. c) j (R .placed .passed-complete j l h b);

@@ -16,8 +16,9 @@ use Rattle.rules.specs.Step.{without}
 use Rattle.laws.specs.Tests.{true-not-false}
 use Rattle.invariant.specs.sheet.Kinds.{send-receive-differ}
 use Rattle.laws.specs.WaitingLists.{Holds, holds-more, holds-less, holds-same}
-use Rattle.invariant.specs.Invariant.{Entered, state-at, Pending-message, Pending-receive, Placed, Posted-before, Came-before}
-use Rattle.invariant.specs.matching.RowChanges.{Grows, Enters, Matches, state-same, state-name, enters-state, enters-grows, enters-differ, matches-grows, matches-message-state, matches-receive-state, grows-message, grows-receive}
+use Rattle.invariant.specs.Invariant.{Entered, state-at, Pending-message, Pending-receive, Placed, Posted-before, Arrived-before}
+use Rattle.invariant.specs.matching.RowChanges.{Grows, Enters, Matches, state-same, state-name, enters-state, enters-grows, enters-differ}
+use Rattle.invariant.specs.matching.RowChanges.{matches-grows, matches-message-state, matches-receive-state, grows-message, grows-receive}
 use Rattle.invariant.specs.matching.Stable.{Later}
 use Rattle.invariant.specs.preserve.Places.{prefix}
 
@@ -41,9 +42,9 @@ pending-receive-same y e h =
     }
 
 -- the order of arrival among what was pending is the order that it was
-later-order : {s : Sheet} {x y : Job} {i : ℕ} {came now : ℕ → ℕ} {l : List ℕ} → Later came now x i → Grows x y i →
-    Holds (Came-before came) (Pending-message s x) l → Holds (Came-before now) (Pending-message s x) l
-later-order {s} {x} {y} {i} {came} {now} L G h =
+later-order : {s : Sheet} {x y : Job} {i : ℕ} {arrival now : ℕ → ℕ} {l : List ℕ} → Later arrival now x i → Grows x y i →
+    Holds (Arrived-before arrival) (Pending-message s x) l → Holds (Arrived-before now) (Pending-message s x) l
+later-order {s} {x} {y} {i} {arrival} {now} L G h =
     holds-same h (λ v u p q c. omega (arith, c, L .old v (differ v (p .entered)), L .old u (differ u (q .entered)))) (λ v p. p)
     (λ v p. p)
   where
@@ -66,9 +67,9 @@ module _ {s : Sheet} {x y : Job} {i v : ℕ} (E : Enters x y i v) where
   receive-back q p (yes e) = inr e
   receive-back q p (no d) = inl (grows-receive (enters-grows E) q d p)
 
-  pub queue-message : {came now : ℕ → ℕ} {l : List ℕ} → Later came now x i → is-send (op s i) ≡ true →
-      Holds (Came-before came) (Pending-message s x) l → Holds (Came-before now) (Pending-message s y) (l ++ (i ∷ []))
-  queue-message {came} {now} {l} L e h =
+  pub queue-message : {arrival now : ℕ → ℕ} {l : List ℕ} → Later arrival now x i → is-send (op s i) ≡ true →
+      Holds (Arrived-before arrival) (Pending-message s x) l → Holds (Arrived-before now) (Pending-message s y) (l ++ (i ∷ []))
+  queue-message {arrival} {now} {l} L e h =
       holds-more i (later-order L (enters-grows E) h) (λ k p. L .new k (p .entered)) message-on
       (record {
         sends = e;
@@ -77,9 +78,9 @@ module _ {s : Sheet} {x y : Job} {i v : ℕ} (E : Enters x y i v) where
       })
       (λ k p. message-back k p (ℕ-discrete k i))
 
-  pub queue-message-other : {came now : ℕ → ℕ} {l : List ℕ} → Later came now x i → is-send (op s i) ≡ false →
-      Holds (Came-before came) (Pending-message s x) l → Holds (Came-before now) (Pending-message s y) l
-  queue-message-other {came} {now} {l} L e h =
+  pub queue-message-other : {arrival now : ℕ → ℕ} {l : List ℕ} → Later arrival now x i → is-send (op s i) ≡ false →
+      Holds (Arrived-before arrival) (Pending-message s x) l → Holds (Arrived-before now) (Pending-message s y) l
+  queue-message-other {arrival} {now} {l} L e h =
       holds-same (later-order L (enters-grows E) h) (λ a b p q c. c) message-on
       (λ k p. only k p (message-back k p (ℕ-discrete k i)))
     where
@@ -119,9 +120,9 @@ module _ {s : Sheet} {x y : Job} {m r i : ℕ} (M : Matches s x y m r i) where
   not-new j d (inl e) c = d (state-name y (c ∙ e) ∙ matches-message-state M)
   not-new j d (inr e) c = d (state-name y (c ∙ e) ∙ matches-receive-state M)
 
-  pub queue-message-match : {came now : ℕ → ℕ} {l : List ℕ} → Later came now x i →
-      Holds (Came-before came) (Pending-message s x) l → Holds (Came-before now) (Pending-message s y) (without m l)
-  queue-message-match {came} {now} {l} L h =
+  pub queue-message-match : {arrival now : ℕ → ℕ} {l : List ℕ} → Later arrival now x i →
+      Holds (Arrived-before arrival) (Pending-message s x) l → Holds (Arrived-before now) (Pending-message s y) (without m l)
+  queue-message-match {arrival} {now} {l} L h =
       holds-less m (later-order L (matches-grows M) h) (λ k c. omega arith)
       (λ k p d. pending-message-same y (state-same (M .other k d (send-receive-differ s k r (p .sends) (M .receives)))) p)
       (λ k p. grows-message (matches-grows M) k (not-new k (p .unmatched) (M .one)) p)

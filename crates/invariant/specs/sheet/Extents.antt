@@ -18,7 +18,7 @@ use Rattle.rules.specs.Step.{area-start}
 use Rattle.laws.specs.Tests.{and-both, cond-true, cond-false, true-not-false}
 use Rattle.laws.specs.Fields.{fields-end}
 use Rattle.invariant.specs.sheet.Valid.{Valid}
-use Rattle.invariant.specs.sheet.Kinds.{send-no-receive, send-kind, receive-kind}
+use Rattle.invariant.specs.sheet.Kinds.{send-not-receive, send-kind, receive-kind}
 use Rattle.laws.specs.SpliceOrder.{Disjoint}
 
 -- INSIDE THE SHEET: past the table stands an operation of kind 0
@@ -49,7 +49,7 @@ pub send-extent : (s : Sheet) → Valid s → (m : ℕ) → is-send (op s m) ≡
 unfolding room-for
 send-extent s g m h =
     subst (λ (k : ℕ). op s m .offset + op s m .long ≤ k)
-    (cond-false (is-receive (op s m)) (board s (rank-of s m) .inbox) (length (s .payload)) (send-no-receive (op s m) h))
+    (cond-false (is-receive (op s m)) (board s (rank-of s m) .inbox) (length (s .payload)) (send-not-receive (op s m) h))
     (op-extent s g m (send-inside s m h))
 
 pub receive-extent : (s : Sheet) → Valid s → (r : ℕ) → is-receive (op s r) ≡ true →

@@ -1,6 +1,6 @@
--- Bytes that pass check decode to a good sheet: each number of the refusal table settles its part of `Valid`.
+-- Bytes that pass check decode to a valid sheet: each number of the refusal table settles its part of `Valid`.
 --   Accepted          the tests that bytes with no refusal have passed
---   good-from-bytes   passes bs gives Valid (sheet-in bs)
+--   valid-from-bytes  passes bs gives Valid (sheet-in bs)
 -- Assumes nothing.
 use mathlib.Core.Path.{_≡_, refl, sym, subst}
 use mathlib.Core.Bool.{Bool, true, false, _&&_, not, cond}
@@ -12,7 +12,8 @@ use lib.ListN.{length}
 use borrow.Author.Tests.{leb-true, eqb-true, not-false}
 use Rattle.rules.specs.Limits.{most-boards, most-comms, most-ops, most-payload, most-inbox, header-size}
 use Rattle.rules.specs.Sheet.{Sheet, board, P-of, N-of, rank-of, inbox-start, inbox-total, P-in, C-in, N-in, L-in, sheet-in}
-use Rattle.rules.specs.Refusal.{Refusal, refusal, or-else, first-broken, sizes-good, layout-good, crc-good, board-good, boards-refusal, op-good, ops-refusal, request-good, requests-refusal, tables-refusal, sheet-refusal}
+use Rattle.rules.specs.Refusal.{Refusal, refusal, or-else, first-broken, sizes-good, layout-good, crc-good, board-good, boards-refusal, op-good}
+use Rattle.rules.specs.Refusal.{ops-refusal, request-good, requests-refusal, tables-refusal, sheet-refusal}
 use Rattle.rules.specs.Claims.{all-bytes, passes}
 use Rattle.laws.specs.Tests.{and-left, and-right}
 use Rattle.laws.specs.Broken.{broken-passed}
@@ -162,5 +163,5 @@ good-from-accepted bs A =
     L : Laid bs
     L = accepted-laid bs A
 
-pub good-from-bytes : (bs : List ℕ) → passes bs ≡ true → Valid (sheet-in bs)
-good-from-bytes bs h = good-from-accepted bs (passed-accepted bs h)
+pub valid-from-bytes : (bs : List ℕ) → passes bs ≡ true → Valid (sheet-in bs)
+valid-from-bytes bs h = good-from-accepted bs (passed-accepted bs h)

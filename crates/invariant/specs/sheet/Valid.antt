@@ -1,5 +1,8 @@
 -- What a sheet that passes check is known to be. Everything proved about jobs starts from this record and from nothing else
--- about the sheet's bytes. Assumes nothing.
+-- about the sheet's bytes.
+--   Valid         the parts
+--   good-first    a board's first operation is the sum of the counts before it
+-- Assumes nothing.
 use mathlib.Core.Path.{_≡_}
 use mathlib.Core.Bool.{true, _&&_}
 use Prim.Native.Nat.{ℕ, suc, _+_, _≤_, _<_}
@@ -11,6 +14,7 @@ use Rattle.rules.specs.Sheet.{Sheet, board, P-of, N-of, rank-of, counts-before,
 use Rattle.rules.specs.Refusal.{board-good, op-good, request-good}
 use Rattle.laws.specs.Tests.{and-left}
 
+-- a valid sheet: each part of the refusal table, settled
 pub record Valid (s : Sheet) : Type 0 where
   -- P, C, N and L in their ranges (number 2)
   pub some-board : 1 ≤ P-of s

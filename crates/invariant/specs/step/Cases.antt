@@ -1,8 +1,8 @@
--- What a step of an able board does, in the six ways that it can go, each a record: a waiting half ends, a wait ends, a receive
--- is posted, a send is pending, a message and a receive are matched, the job stops. Effects.antt reads `step` once to find one
--- of them; all other proofs go by `Outcome`.
---   Ends-half, Ends-wait, Posts, Pends, Meets, Stops     the six
---   Outcome                                              one of them
+-- What a step of an able board does, in the six ways that it can go, each a record: a waiting half ends, the only half of an
+-- operation ends, a receive is posted, a send is pending, a message and a receive are matched, the job stops. CasesHold reads
+-- `step` once to find one of them; all other proofs go by `Outcome`.
+--   Ends-half, Ends-only-half, Posts, Pends, Match-step, Stops    the six
+--   Outcome                                                       one of them
 -- Assumes nothing: these are definitions.
 use mathlib.Core.Path.{_≡_}
 use mathlib.Core.Logic.{_⊎_}
@@ -10,7 +10,7 @@ use mathlib.Core.Bool.{true, false}
 use mathlib.Core.List.{[], _∷_, _++_}
 use mathlib.Core.Option.{none, some}
 use Prim.Native.Nat.{ℕ, suc}
-use Rattle.rules.specs.Sheet.{Sheet, op, is-send, is-receive, is-wait, is-buffered, is-nonblocking}
+use Rattle.rules.specs.Sheet.{Sheet, op, is-send, is-receive, only-half, is-buffered, no-half}
 use Rattle.rules.specs.Job.{Job, place-at, with-steps}
 use Rattle.rules.specs.Step.{first-message, first-receive, without, delivered, stopped, fits-buffer}
 use Rattle.invariant.specs.Invariant.{unmatched-state}
@@ -30,10 +30,10 @@ pub record Ends-half (s : Sheet) (x y : Job) (r i : ℕ) : Type 0 where
   pub receives : y .receives ≡ x .receives
   pub memory : y .memory ≡ x .memory
 
--- a wait ends: its row says so
-pub record Ends-wait (s : Sheet) (x y : Job) (r i : ℕ) : Type 0 where
+-- the only half of an operation ends: its row says so
+pub record Ends-only-half (s : Sheet) (x y : Job) (r i : ℕ) : Type 0 where
   pub not-waiting : place-at x r .waiting ≡ false
-  pub waits : is-wait (op s i) ≡ true
+  pub waits : only-half (op s i) ≡ true
   pub moved : Moved x y r true
   pub uses : Use x y use-kept
   pub enters : Enters x y i 5
@@ -46,7 +46,7 @@ pub record Posts (s : Sheet) (x y : Job) (r i : ℕ) : Type 0 where
   pub not-waiting : place-at x r .waiting ≡ false
   pub is-one : is-receive (op s i) ≡ true
   pub none-fits : first-message s i (x .messages) ≡ none
-  pub moved : Moved x y r (is-nonblocking (op s i))
+  pub moved : Moved x y r (no-half (op s i))
   pub uses : Use x y use-kept
   pub enters : Enters x y i 1
   pub messages : y .messages ≡ x .messages
@@ -59,7 +59,7 @@ pub record Pends (s : Sheet) (x y : Job) (r i : ℕ) : Type 0 where
   pub is-one : is-send (op s i) ≡ true
   pub none-fits : first-receive s i (x .receives) ≡ none
   pub room : is-buffered (op s i) ≡ true → fits-buffer s r i x ≡ true
-  pub moved : Moved x y r (is-nonblocking (op s i))
+  pub moved : Moved x y r (no-half (op s i))
   pub uses : Use x y (use-charged s r i)
   pub enters : Enters x y i (unmatched-state (op s i))
   pub messages : y .messages ≡ x .messages ++ (i ∷ [])
@@ -72,10 +72,10 @@ Finds s x i m q =
     ((q ≡ i) × (first-message s i (x .messages) ≡ some m)) ⊎ ((m ≡ i) × (first-receive s i (x .receives) ≡ some q))
 
 -- message m and receive q are matched
-pub record Meets (s : Sheet) (x y : Job) (r i : ℕ) (m q : ℕ) : Type 0 where
+pub record Match-step (s : Sheet) (x y : Job) (r i : ℕ) (m q : ℕ) : Type 0 where
   pub not-waiting : place-at x r .waiting ≡ false
   pub finds : Finds s x i m q
-  pub moved : Moved x y r (is-nonblocking (op s i))
+  pub moved : Moved x y r (no-half (op s i))
   pub uses : Use x y (use-released s x m)
   pub rows : Matches s x y m q i
   pub messages : y .messages ≡ without m (x .messages)
@@ -86,12 +86,13 @@ pub record Meets (s : Sheet) (x y : Job) (r i : ℕ) (m q : ℕ) : Type 0 where
 pub record Stops (s : Sheet) (x y : Job) (r i : ℕ) (v : ℕ) : Type 0 where
   pub reason : (v ≡ 3) ⊎ (v ≡ 4)
   pub not-waiting : place-at x r .waiting ≡ false
-  pub is-told : y ≡ with-steps (suc (x .steps)) (stopped v r i x)
+  pub job-is : y ≡ with-steps (suc (x .steps)) (stopped v r i x)
 
+-- what a step does: one of the six
 pub data Outcome (s : Sheet) (x y : Job) (r i : ℕ) : Type 0 where
   ends-half : Ends-half s x y r i → Outcome s x y r i
-  ends-wait : Ends-wait s x y r i → Outcome s x y r i
+  ends-only-half : Ends-only-half s x y r i → Outcome s x y r i
   posts : Posts s x y r i → Outcome s x y r i
   pends : Pends s x y r i → Outcome s x y r i
-  meets : (m q : ℕ) → Meets s x y r i m q → Outcome s x y r i
+  matches : (m q : ℕ) → Match-step s x y r i m q → Outcome s x y r i
   stops : (v : ℕ) → Stops s x y r i v → Outcome s x y r i

@@ -1,4 +1,7 @@
--- A step of an able board has one of the outcomes of Outcome.antt: each rule of `step`, read once. Assumes nothing.
+-- A step of an able board goes one of the ways of Cases: each rule of `step`, read once.
+--   outcome-half, outcome-only-half, outcome-posts, outcome-pends, outcome-matches    the ways, and what the job is after each
+--   outcome                                                                           the law
+-- Assumes nothing.
 use mathlib.Core.Path.{_≡_, refl, sym, subst, _∙_}
 use mathlib.Core.Logic.{_⊎_, inl, inr, _≢_}
 use mathlib.Core.Bool.{Bool, true, false, _||_, cond}
@@ -9,19 +12,22 @@ use native.Mathlib.Omega.{arith}
 use lib.ListN.{length, set, length-set}
 use lib.Seq.{getD-set-same, getD-set-other}
 use Rattle.rules.specs.Limits.{absent}
-use Rattle.rules.specs.Sheet.{Sheet, op, N-of, rank-of, is-send, is-receive, is-wait, is-ready, is-buffered, is-nonblocking}
+use Rattle.rules.specs.Sheet.{Sheet, op, N-of, rank-of, is-send, is-receive, only-half, is-ready, is-buffered, no-half}
 use Rattle.rules.specs.Job.{Job, Entry, job, entry, bare-entry, entry-at, place-at, with-entries, with-places, with-messages, with-receives, with-steps}
-use Rattle.rules.specs.Step.{step, next-op, in-waiting-half, one-finished, first-message, first-receive, fits-with, is-cut, without, delivered, with-place, charge, matched, with-state, pend-message, pend-receive, stopped, initiated, fits-buffer, unmatched, sent, received, initiating, ended}
+use Rattle.rules.specs.Step.{step, next-op, in-waiting-half, one-finished, first-message, first-receive, fits-with, is-cut, without, delivered}
+use Rattle.rules.specs.Step.{with-place, charge, matched, with-state, pend-message, pend-receive, stopped, initiated, fits-buffer, unmatched, sent}
+use Rattle.rules.specs.Step.{received, initiating, ended}
 use Rattle.laws.specs.Tests.{true-not-false}
 use Rattle.invariant.specs.sheet.Valid.{Valid}
 use Rattle.invariant.specs.sheet.Kinds.{kind-send, send-receive-differ}
 use Rattle.laws.specs.WaitingLists.{Found, first-by-some}
-use Rattle.invariant.specs.Invariant.{Entered, state-at, Posted-before, Came-before, Reached}
+use Rattle.invariant.specs.Invariant.{Entered, state-at, Posted-before, Arrived-before, Reached}
 use Rattle.invariant.specs.matching.UnmatchedState.{unmatched-send}
 use Rattle.invariant.specs.matching.RowChanges.{Enters, Matches}
 use Rattle.invariant.specs.step.Places.{Next, next-fresh, Moved}
-use Rattle.invariant.specs.step.BufferUse.{Use, use-kept, use-charged, use-released, used-kept, used-released, used-charged, used-uncharged, released-places, matched-is, stepped-places, stepped-moved, set-enters}
-use Rattle.invariant.specs.step.Cases.{Finds, Outcome, ends-half, ends-wait, posts, pends, meets, stops}
+use Rattle.invariant.specs.step.BufferUse.{Use, use-kept, use-charged, use-released, used-kept, used-released, used-charged, used-uncharged}
+use Rattle.invariant.specs.step.BufferUse.{released-places, matched-is, stepped-places, stepped-moved, set-enters}
+use Rattle.invariant.specs.step.Cases.{Finds, Outcome, ends-half, ends-only-half, posts, pends, matches, stops}
 
 -- OUTCOMES of a step of board r, which is able, of a job that keeps the invariant
 module _ (s : Sheet) (g : Valid s) (lent : List ℕ) (x : Job) (R : Reached s lent x) (r : ℕ) (n : Next s x r) where
@@ -41,7 +47,7 @@ module _ (s : Sheet) (g : Valid s) (lent : List ℕ) (x : Job) (R : Reached s le
   -- a waiting half ends
   outcome-half : place-at x r .waiting ≡ true → Outcome s x (counted (ended s r here x)) r here
   unfolding ended with-place with-places with-steps job place-at
-  outcome-half w = go (is-wait (op s here)) (R .placed .waiting-no-wait r (n .rank-small) w)
+  outcome-half w = go (only-half (op s here)) (R .placed .waiting-not-only-half r (n .rank-small) w)
     where
       y : Job
       y = counted (with-place r (one-finished (place-at x r)) x)
@@ -64,10 +70,10 @@ module _ (s : Sheet) (g : Valid s) (lent : List ℕ) (x : Job) (R : Reached s le
             memory = refl;
           })
 
-  -- a wait ends
-  outcome-wait : place-at x r .waiting ≡ false → is-wait (op s here) ≡ true → Outcome s x (counted (ended s r here x)) r here
+  -- the only half of an operation ends
+  outcome-only-half : place-at x r .waiting ≡ false → only-half (op s here) ≡ true → Outcome s x (counted (ended s r here x)) r here
   unfolding ended with-place with-places with-steps with-state with-entries job place-at
-  outcome-wait w e = go (is-wait (op s here)) e
+  outcome-only-half w e = go (only-half (op s here)) e
     where
       y : Job
       y = counted (with-place r (one-finished (place-at x r)) (with-state here 5 x))
@@ -81,7 +87,7 @@ module _ (s : Sheet) (g : Valid s) (lent : List ℕ) (x : Job) (R : Reached s le
           Outcome s x (counted (with-place r (one-finished (place-at x r)) (cond b (with-state here 5 x) x))) r here
       go false c = true-not-false c refl
       go true c =
-          ends-wait
+          ends-only-half
           (record {
             not-waiting = w;
             waits = e;
@@ -114,15 +120,15 @@ module _ (s : Sheet) (g : Valid s) (lent : List ℕ) (x : Job) (R : Reached s le
       y : Job
       y = counted (initiated s r here (pend-receive here x))
 
-      m : Moved x y r (is-nonblocking (op s here)) × Use x y use-kept
+      m : Moved x y r (no-half (op s here)) × Use x y use-kept
       m =
-          stepped-moved y (used-kept s x (R .in-use-peak)) r (is-nonblocking (op s here)) places-inside refl
+          stepped-moved y (used-kept s x (R .in-use-peak)) r (no-half (op s here)) places-inside refl
           (length-set (x .entries) here (bare-entry 1)) refl refl
 
   -- a send is pending, in its state, after its charge if it is buffered
   outcome-pends : (y : Job) → place-at x r .waiting ≡ false → is-send (op s here) ≡ true →
       first-receive s here (x .receives) ≡ none → (is-buffered (op s here) ≡ true → fits-buffer s r here x ≡ true) →
-      Moved x y r (is-nonblocking (op s here)) × Use x y (use-charged s r here) →
+      Moved x y r (no-half (op s here)) × Use x y (use-charged s r here) →
       Enters x y here (cond (is-buffered (op s here)) 2 1) →
       y .messages ≡ x .messages ++ (here ∷ []) → y .receives ≡ x .receives → y .memory ≡ x .memory → Outcome s x y r here
   outcome-pends y w e none-fits room m enters messages receives memory =
@@ -145,7 +151,7 @@ module _ (s : Sheet) (g : Valid s) (lent : List ℕ) (x : Job) (R : Reached s le
   unfolding initiated pend-message with-messages with-place with-places with-steps with-state with-entries job place-at
   outcome-standard w e b none-fits =
       outcome-pends y w e none-fits (λ c. true-not-false c b)
-      (stepped-moved y (used-uncharged s x (R .in-use-peak) r here b) r (is-nonblocking (op s here)) places-inside refl
+      (stepped-moved y (used-uncharged s x (R .in-use-peak) r here b) r (no-half (op s here)) places-inside refl
       (length-set (x .entries) here (bare-entry 1)) refl refl)
       (subst (λ (c : Bool). Enters x y here (cond c 2 1)) (sym b)
       (set-enters x y here 1 (next-fresh s x r (R .placed) n w) entries-inside (omega arith) (omega arith) refl))
@@ -160,7 +166,7 @@ module _ (s : Sheet) (g : Valid s) (lent : List ℕ) (x : Job) (R : Reached s le
   unfolding initiated charge pend-message with-messages with-place with-places with-steps with-state with-entries job place-at
   outcome-buffered w e b none-fits room =
       outcome-pends y w e none-fits (λ c. room)
-      (stepped-moved y (used-charged s x (R .in-use-peak) r here places-inside b) r (is-nonblocking (op s here)) places-inside
+      (stepped-moved y (used-charged s x (R .in-use-peak) r here places-inside b) r (no-half (op s here)) places-inside
       refl (length-set (x .entries) here (bare-entry 2)) refl refl)
       (subst (λ (c : Bool). Enters x y here (cond c 2 1)) (sym b)
       (set-enters x y here 2 (next-fresh s x r (R .placed) n w) entries-inside (omega arith) (omega arith) refl))
@@ -170,14 +176,14 @@ module _ (s : Sheet) (g : Valid s) (lent : List ℕ) (x : Job) (R : Reached s le
       y = counted (initiated s r here (charge s r here (pend-message here 2 x)))
 
   -- a message and a receive are matched
-  outcome-meets : (m q : ℕ) → place-at x r .waiting ≡ false → is-send (op s m) ≡ true → is-receive (op s q) ≡ true →
+  outcome-matches : (m q : ℕ) → place-at x r .waiting ≡ false → is-send (op s m) ≡ true → is-receive (op s q) ≡ true →
       fits-with s m q ≡ true → m < N-of s → q < N-of s → state-at x m ≢ 3 → state-at x q ≢ 3 →
       (m ≢ here → Entered x m) → (q ≢ here → Entered x q) → Finds s x here m q →
       Outcome s x (counted (initiated s r here (matched s m q x))) r here
   unfolding initiated with-place with-places with-steps job place-at entry-at
-  outcome-meets m q w sm rq fit lm lq free-m free-q there-m there-q found =
+  outcome-matches m q w sm rq fit lm lq free-m free-q there-m there-q found =
       subst (λ (z : Job). Outcome s x (counted (initiated s r here z)) r here) (sym (matched-is s m q x))
-      (meets m q
+      (matches m q
       (record {
         not-waiting = w;
         finds = found;
@@ -190,7 +196,7 @@ module _ (s : Sheet) (g : Valid s) (lent : List ℕ) (x : Job) (R : Reached s le
       }))
     where
       nb : Bool
-      nb = is-nonblocking (op s here)
+      nb = no-half (op s here)
 
       A : Entry
       A = entry 3 0 q absent absent 0
@@ -242,7 +248,7 @@ module _ (s : Sheet) (g : Valid s) (lent : List ℕ) (x : Job) (R : Reached s le
 
   -- what the searches find is pending, and fits
   found-message : (m : ℕ) → first-message s here (x .messages) ≡ some m →
-      Found (Came-before (R .came)) (λ k. fits-with s k here) (x .messages) m
+      Found (Arrived-before (R .arrival)) (λ k. fits-with s k here) (x .messages) m
   unfolding first-message
   found-message m e = first-by-some (λ k. fits-with s k here) (x .messages) (R .messages-held .sorted) m e
 
@@ -260,7 +266,7 @@ module _ (s : Sheet) (g : Valid s) (lent : List ℕ) (x : Job) (R : Reached s le
   outcome-received (some m) e w k =
       let f = found-message m e in
       let p = R .messages-held .sound m (f .member) in
-      outcome-meets m here w (p .sends) k (f .passes) (R .placed .entered-only m (p .entered) .0) (n .inside) (p .unmatched)
+      outcome-matches m here w (p .sends) k (f .passes) (R .placed .entered-only m (p .entered) .0) (n .inside) (p .unmatched)
       (λ c. omega (arith, next-fresh s x r (R .placed) n w)) (λ d. p .entered) (λ d. absurd (d refl)) (inl (refl, e))
 
   outcome-unmatched : place-at x r .waiting ≡ false → is-send (op s here) ≡ true → first-receive s here (x .receives) ≡ none →
@@ -268,13 +274,13 @@ module _ (s : Sheet) (g : Valid s) (lent : List ℕ) (x : Job) (R : Reached s le
   unfolding unmatched
   outcome-unmatched w k e = go (is-ready (op s here)) (is-buffered (op s here)) refl (fits-buffer s r here x) refl
     where
-      halts : (v : ℕ) → (v ≡ 3) ⊎ (v ≡ 4) → Outcome s x (counted (stopped v r here x)) r here
-      halts v reason =
+      stopping : (v : ℕ) → (v ≡ 3) ⊎ (v ≡ 4) → Outcome s x (counted (stopped v r here x)) r here
+      stopping v reason =
           stops v
           (record {
             reason = reason;
             not-waiting = w;
-            is-told = refl;
+            job-is = refl;
           })
 
       go : (a b : Bool) → is-buffered (op s here) ≡ b → (c : Bool) → fits-buffer s r here x ≡ c →
@@ -284,9 +290,9 @@ module _ (s : Sheet) (g : Valid s) (lent : List ℕ) (x : Job) (R : Reached s le
           (cond b (cond c (initiated s r here (charge s r here (pend-message here 2 x))) (stopped 3 r here x))
           (initiated s r here (pend-message here 1 x)))))
           r here
-      go true b h c f = halts 4 (inr refl)
+      go true b h c f = stopping 4 (inr refl)
       go false true h true f = outcome-buffered w k h e f
-      go false true h false f = halts 3 (inl refl)
+      go false true h false f = stopping 3 (inl refl)
       go false false h c f = outcome-standard w k h e
 
   outcome-sent : (o : Option ℕ) → first-receive s here (x .receives) ≡ o → place-at x r .waiting ≡ false →
@@ -297,15 +303,16 @@ module _ (s : Sheet) (g : Valid s) (lent : List ℕ) (x : Job) (R : Reached s le
   outcome-sent (some q) e w k =
       let f = found-receive q e in
       let p = R .receives-held .sound q (f .member) in
-      outcome-meets here q w k (p .receives) (f .passes) (n .inside) (R .placed .entered-only q (p .entered) .0)
+      outcome-matches here q w k (p .receives) (f .passes) (n .inside) (R .placed .entered-only q (p .entered) .0)
       (λ c. omega (arith, next-fresh s x r (R .placed) n w)) (p .unmatched) (λ d. absurd (d refl)) (λ d. p .entered)
       (inr (refl, e))
 
+  -- a step of an able board goes one of the six ways
   pub outcome : Outcome s x (step s r x) r here
   unfolding step in-waiting-half initiating
-  outcome = go (place-at x r .waiting) refl (is-wait (op s here)) refl (is-receive (op s here)) refl
+  outcome = go (place-at x r .waiting) refl (only-half (op s here)) refl (is-receive (op s here)) refl
     where
-      go : (w : Bool) → place-at x r .waiting ≡ w → (a : Bool) → is-wait (op s here) ≡ a → (b : Bool) →
+      go : (w : Bool) → place-at x r .waiting ≡ w → (a : Bool) → only-half (op s here) ≡ a → (b : Bool) →
           is-receive (op s here) ≡ b →
           Outcome s x
           (counted
@@ -314,6 +321,6 @@ module _ (s : Sheet) (g : Valid s) (lent : List ℕ) (x : Job) (R : Reached s le
           (sent s r here (first-receive s here (x .receives)) x))))
           r here
       go true e a f b h = outcome-half e
-      go false e true f b h = outcome-wait e f
+      go false e true f b h = outcome-only-half e f
       go false e false f true h = outcome-received (first-message s here (x .messages)) refl e h
       go false e false f false h = outcome-sent (first-receive s here (x .receives)) refl e (kind-send s g here (n .inside) f h)

@@ -29,6 +29,7 @@ unfolding is-none
 none-is none e = refl
 none-is (some a) e = true-not-false e refl
 
+-- board r is able in x: what that says of it and of its next operation
 pub record Next (s : Sheet) (x : Job) (r : ℕ) : Type 0 where
   pub going : x .stop ≡ none
   pub rank-small : r < P-of s
@@ -126,6 +127,7 @@ after-peak true true p = refl
 after-peak true false p = refl
 after-peak false l p = refl
 
+-- the places in y are those in x after a step of board r, which finished its operation or not (`last`)
 pub record Moved (x y : Job) (r : ℕ) (last : Bool) : Type 0 where
   -- the places after the charge or release of this step
   pub used : ℕ → Place
@@ -139,12 +141,18 @@ pub record Moved (x y : Job) (r : ℕ) (last : Bool) : Type 0 where
   pub steps-more : y .steps ≡ suc (x .steps)
 
 module _ {x y : Job} {r : ℕ} {last : Bool} (M : Moved x y r last) where
+  -- the place of the board that stepped, and of another
+  moved-here : place-at y r ≡ cond last (one-finished (M .used r)) (now-waiting (M .used r))
+  unfolding after
+  moved-here = M .place-is r ∙ ap (λ (b : Bool). after b last (M .used r)) (eq-eqb r r refl)
+
+  moved-other : (q : ℕ) → q ≢ r → place-at y q ≡ M .used q
+  unfolding after
+  moved-other q d = M .place-is q ∙ ap (λ (b : Bool). after b last (M .used q)) (ne-eqb q r d)
+
   pub moved-finished : place-at y r .finished ≡ cond last (suc (place-at x r .finished)) (place-at x r .finished)
-  unfolding after one-finished now-waiting place
-  moved-finished =
-      ap (λ (p : Place). p .finished) (M .place-is r)
-      ∙ ap (λ (b : Bool). after b last (M .used r) .finished) (eq-eqb r r refl)
-      ∙ go last
+  unfolding one-finished now-waiting place
+  moved-finished = ap (λ (p : Place). p .finished) moved-here ∙ go last
     where
       go : (b : Bool) → cond b (one-finished (M .used r)) (now-waiting (M .used r)) .finished ≡ cond b
           (suc (place-at x r .finished)) (place-at x r .finished)
@@ -152,29 +160,18 @@ module _ {x y : Job} {r : ℕ} {last : Bool} (M : Moved x y r last) where
       go false = M .used-finished r
 
   pub moved-waiting : place-at y r .waiting ≡ not last
-  unfolding after one-finished now-waiting place
-  moved-waiting =
-      ap (λ (p : Place). p .waiting) (M .place-is r)
-      ∙ ap (λ (b : Bool). after b last (M .used r) .waiting) (eq-eqb r r refl)
-      ∙ go last
+  unfolding one-finished now-waiting place
+  moved-waiting = ap (λ (p : Place). p .waiting) moved-here ∙ go last
     where
       go : (b : Bool) → cond b (one-finished (M .used r)) (now-waiting (M .used r)) .waiting ≡ not b
       go true = refl
       go false = refl
 
   pub moved-finished-other : (q : ℕ) → q ≢ r → place-at y q .finished ≡ place-at x q .finished
-  unfolding after
-  moved-finished-other q d =
-      ap (λ (p : Place). p .finished) (M .place-is q)
-      ∙ ap (λ (b : Bool). after b last (M .used q) .finished) (ne-eqb q r d)
-      ∙ M .used-finished q
+  moved-finished-other q d = ap (λ (p : Place). p .finished) (moved-other q d) ∙ M .used-finished q
 
   pub moved-waiting-other : (q : ℕ) → q ≢ r → place-at y q .waiting ≡ place-at x q .waiting
-  unfolding after
-  moved-waiting-other q d =
-      ap (λ (p : Place). p .waiting) (M .place-is q)
-      ∙ ap (λ (b : Bool). after b last (M .used q) .waiting) (ne-eqb q r d)
-      ∙ M .used-waiting q
+  moved-waiting-other q d = ap (λ (p : Place). p .waiting) (moved-other q d) ∙ M .used-waiting q
 
   pub moved-in-use : (q : ℕ) → place-at y q .in-use ≡ M .used q .in-use
   moved-in-use q = ap (λ (p : Place). p .in-use) (M .place-is q) ∙ after-in-use (eqb q r) last (M .used q)

@@ -16,11 +16,11 @@ use Rattle.rules.specs.Step.{able, step}
 use Rattle.rules.specs.Order.{follow-from, followed}
 use Rattle.promises.specs.Statements.{pending-charges, most-in-use}
 use Rattle.invariant.specs.sheet.Valid.{Valid}
-use Rattle.invariant.specs.deliveries.Assumed.{Ground}
+use Rattle.invariant.specs.deliveries.Laws.{Delivery-laws}
 use Rattle.laws.specs.Sums.{sum-below}
 use Rattle.invariant.specs.Invariant.{charge-in, Reached}
 use Rattle.invariant.specs.step.Places.{moved-peak}
-use Rattle.promises.specs.compare.AfterStep.{After, goes-on, halts, step-after}
+use Rattle.promises.specs.compare.AfterStep.{After, continues, stops-job, step-after}
 use Rattle.invariant.specs.preserve.Step.{step-sound}
 
 -- IN USE
@@ -40,8 +40,8 @@ unfolding place-at
 step-peak {s} g {i} {x} R q a r = go (step-after g R q a)
   where
     go : After s x (step s q x) q → place-at (step s q x) r .peak ≡ max (place-at x r .peak) (place-at (step s q x) r .in-use)
-    go (goes-on e m) = moved-peak m r
-    go (halts t e same k) =
+    go (continues e m) = moved-peak m r
+    go (stops-job t e same k) =
         subst (λ (ps : List Place). peak-in ps ≡ max (place-at x r .peak) (use-in ps)) (sym same)
         (omega (arith, R .in-use-peak r))
       where
@@ -51,7 +51,7 @@ step-peak {s} g {i} {x} R q a r = go (step-after g R q a)
         use-in : List Place → ℕ
         use-in ps = getD ps r (place 0 false 0 0) .in-use
 
-pub follow-peak : {s : Sheet} (g : Valid s) → Ground s → {i : List ℕ} → inbox-total s ≤ length i →
+pub follow-peak : {s : Sheet} (g : Valid s) → Delivery-laws s → {i : List ℕ} → inbox-total s ≤ length i →
     (r k : ℕ) (rs : List ℕ) {x : Job} → Reached s i x →
     place-at (follow-from k s rs x .left) r .peak ≡ max (place-at x r .peak) (most-in-use s rs x r)
 unfolding follow-from followed most-in-use

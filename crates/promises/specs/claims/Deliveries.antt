@@ -1,4 +1,4 @@
--- Memory, byte by byte: what the deliveries in script order have replayed is what `byte-due` tells.
+-- Memory, byte by byte: what the deliveries in script order have replayed is what `expected-byte` tells.
 --   deliveries-reached    the statement Deliveries, of one job that keeps the invariant
 -- Assumes nothing.
 use mathlib.Core.Path.{_≡_, refl, ap, _∙_}
@@ -13,7 +13,7 @@ use Rattle.rules.specs.Sheet.{Sheet, op, N-of, inbox-total, is-receive}
 use Rattle.rules.specs.Job.{Job}
 use Rattle.rules.specs.Step.{area-start, copied, delivered}
 use Rattle.laws.specs.Tests.{and-left, and-right}
-use Rattle.promises.specs.Statements.{covers, byte-due}
+use Rattle.promises.specs.Statements.{covers, expected-byte}
 use Rattle.invariant.specs.sheet.Valid.{Valid}
 use Rattle.laws.specs.SpliceOrder.{within}
 use Rattle.invariant.specs.deliveries.Commute.{delivered-at, ground}
@@ -39,8 +39,8 @@ module _ (s : Sheet) (g : Valid s) (lent : List ℕ) (x : Job) (R : Reached s le
           delivered-at s g (partner-at x j) j receives bs l (R .stable .receive-met j receives matched .sends) at
       go false e = refl
 
-  replayed-is-byte-at : (n at : ℕ) → getD (replayed s x n lent) at 0 ≡ byte-due n s x lent at
-  unfolding replayed byte-due
+  replayed-is-byte-at : (n at : ℕ) → getD (replayed s x n lent) at 0 ≡ expected-byte n s x lent at
+  unfolding replayed expected-byte
   replayed-is-byte-at zero at = refl
   replayed-is-byte-at (suc n) at =
       replay-is-byte-at n at (replayed s x n lent) (omega
@@ -48,6 +48,6 @@ module _ (s : Sheet) (g : Valid s) (lent : List ℕ) (x : Job) (R : Reached s le
       ∙ ap (λ (z : ℕ). cond (covers s x n at) (message-byte n at) z) (replayed-is-byte-at n at)
 
   pub deliveries-reached : (length (x .memory) ≡ length lent)
-      × ((at : ℕ) → getD (x .memory) at 0 ≡ byte-due (N-of s) s x lent at)
+      × ((at : ℕ) → getD (x .memory) at 0 ≡ expected-byte (N-of s) s x lent at)
   deliveries-reached =
       (R .memory-long, λ at. ap (λ (bs : List ℕ). getD bs at 0) (R .memory-replayed) ∙ replayed-is-byte-at (N-of s) at)

@@ -13,15 +13,15 @@ use Rattle.promises.specs.Statements.{Lent, Run-ends, Ends-alike, Follow
 use Rattle.invariant.specs.deliveries.Commute.{ground}
 use Rattle.invariant.specs.preserve.Orders.{left-reached}
 use Rattle.invariant.specs.step.LowestAble.{next-none}
-use Rattle.promises.specs.compare.EveryEnd.{ends-like}
+use Rattle.promises.specs.compare.EveryEnd.{ends-same-positions}
 use Rattle.promises.specs.claims.RunEnds.{run-ended}
-use Rattle.promises.specs.compare.SamePositionsAlike.{like-alike}
+use Rattle.promises.specs.compare.SamePositionsAlike.{positions-alike}
 use Rattle.promises.specs.claims.Services.{follows-alike, run-alike}
-use Rattle.promises.specs.claims.OneJob.{lent-good}
+use Rattle.promises.specs.claims.OneJob.{lent-valid}
 
 pub run-ends : Run-ends
 unfolding Run-ends
-run-ends bs i h = run-ended (lent-good h) (ground (sheet-in bs) (lent-good h)) i (h .room)
+run-ends bs i h = run-ended (lent-valid h) (ground (sheet-in bs) (lent-valid h)) i (h .room)
 
 module _ {bs i : List ℕ} (h : Given bs i) where
   abbrev s : Sheet
@@ -38,10 +38,10 @@ module _ {bs i : List ℕ} (h : Given bs i) where
   full-alike : (a b : List ℕ) → none-able s (left-by s a i) ≡ true → none-able s (left-by s b i) ≡ true →
       Alike s (left-by s a i) (left-by s b i)
   full-alike a b full-a full-b =
-      let g = lent-good lent in
+      let g = lent-valid lent in
       let A = ground s g in
-      like-alike g
-      (ends-like g A (h .calm-sheet) a b i (h .room) (next-none s g (left-by s a i) full-a) (next-none s g (left-by s b i) full-b)
+      positions-alike g
+      (ends-same-positions g A (h .calm-sheet) a b i (h .room) (next-none s g (left-by s a i) full-a) (next-none s g (left-by s b i) full-b)
       (left-reached g A (h .room) a) (left-reached g A (h .room) b))
 
 pub ends-alike : Ends-alike

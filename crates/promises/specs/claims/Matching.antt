@@ -12,8 +12,8 @@ use Rattle.rules.specs.Job.{Job}
 use Rattle.rules.specs.Step.{fits-with}
 use Rattle.laws.specs.Tests.{not-so}
 use Rattle.promises.specs.Statements.{None-fit, No-overtaking, No-overtaking-receives, Status, Statuses}
-use Rattle.invariant.specs.sheet.Kinds.{send-no-receive}
-use Rattle.invariant.specs.Invariant.{Entered, state-at, partner-at, row-of, Met, Reached}
+use Rattle.invariant.specs.sheet.Kinds.{send-not-receive}
+use Rattle.invariant.specs.Invariant.{Entered, state-at, partner-at, row-of, Matched-pair, Reached}
 use Rattle.invariant.specs.preserve.Places.{prefix}
 use Rattle.invariant.specs.preserve.Rows.{row-message, row-receive}
 use Rattle.promises.specs.claims.OneJob.{lent-reached}
@@ -42,7 +42,7 @@ module _ {s : Sheet} {lent : List ℕ} {x : Job} (R : Reached s lent x) where
       state-at x m ≡ 3 → partner-at x m ≡ r →
       fits-with s k r ≡ true → (state-at x k ≡ 3) × (partner-at x k < r)
   overtaking m k r sm sk l same e to f =
-      let met = subst (λ (z : ℕ). Met s x m z) to (R .stable .message-met m sm e) in
+      let met = subst (λ (z : ℕ). Matched-pair s x m z) to (R .stable .message-pair m sm e) in
       let m-there : Entered x m = omega arith in
       let k-there = prefix s x (R .placed) k m m-there l same in
       R .stable .first-sent m r k met sk k-there (R .arrived .in-script k m sk sm k-there m-there same l) f
@@ -51,7 +51,7 @@ module _ {s : Sheet} {lent : List ℕ} {x : Job} (R : Reached s lent x) where
       partner-at x r ≡ m →
       fits-with s m q ≡ true → state-at x q ≡ 3
   overtaking-receives m q r rr rq l e to f =
-      R .stable .first-posted m r q (subst (λ (z : ℕ). Met s x z r) to (R .stable .receive-met r rr e)) rq l f
+      R .stable .first-posted m r q (subst (λ (z : ℕ). Matched-pair s x z r) to (R .stable .receive-met r rr e)) rq l f
 
   -- a row by its state and partner
   status : (r : ℕ) → is-receive (op s r) ≡ true → state-at x r ≡ 3 → Status s x (partner-at x r) r
@@ -64,7 +64,7 @@ module _ {s : Sheet} {lent : List ℕ} {x : Job} (R : Reached s lent x) where
         message-row =
             R .shaped .row m ∙ ap (λ (v : ℕ). row-of s m v (partner-at x m)) (met .message-matched)
             ∙ ap (λ (z : ℕ). row-of s m 3 z) (met .to-receive)
-            ∙ row-message s m r (send-no-receive (op s m) (met .sends));
+            ∙ row-message s m r (send-not-receive (op s m) (met .sends));
         receive-row = R .shaped .row r ∙ ap (λ (v : ℕ). row-of s r v m) e ∙ row-receive s r m receives;
       }
 

@@ -1,6 +1,6 @@
--- What every order keeps, said of a sheet's bytes and the lent inboxes: bytes that pass give a good sheet, an order keeps
+-- What every order keeps, said of a sheet's bytes and the lent inboxes: bytes that pass give a valid sheet, an order keeps
 -- the invariant, and so the statements about one job hold of whatever an order leaves.
---   lent-good, lent-reached     a good sheet; the invariant of the job that an order leaves
+--   lent-valid, lent-reached     a valid sheet; the invariant of the job that an order leaves
 --   deliveries, verdicts, in-use, peaks
 -- Assumes nothing.
 use mathlib.Core.List.{List}
@@ -11,7 +11,7 @@ use Rattle.rules.specs.Order.{follow}
 use Rattle.rules.specs.Claims.{left-by}
 use Rattle.promises.specs.Statements.{Lent, Deliveries, Verdicts, In-use, Peaks}
 use Rattle.invariant.specs.sheet.Valid.{Valid}
-use Rattle.invariant.specs.sheet.FromBytes.{good-from-bytes}
+use Rattle.invariant.specs.sheet.FromBytes.{valid-from-bytes}
 use Rattle.invariant.specs.Invariant.{Reached}
 use Rattle.invariant.specs.deliveries.Commute.{ground}
 use Rattle.invariant.specs.preserve.Orders.{start-peak, start-reached, left-reached}
@@ -19,19 +19,19 @@ use Rattle.promises.specs.claims.Deliveries.{deliveries-reached}
 use Rattle.promises.specs.claims.Verdicts.{verdict-reached}
 use Rattle.promises.specs.claims.BufferUse.{in-use-reached, follow-peak}
 
-pub lent-good : {bs i : List ℕ} → Lent bs i → Valid (sheet-in bs)
-lent-good {bs} h = good-from-bytes bs (h .passing)
+pub lent-valid : {bs i : List ℕ} → Lent bs i → Valid (sheet-in bs)
+lent-valid {bs} h = valid-from-bytes bs (h .passing)
 
 pub lent-reached : {bs i : List ℕ} (h : Lent bs i) (rs : List ℕ) → Reached (sheet-in bs) i (left-by (sheet-in bs) rs i)
-lent-reached {bs} h rs = left-reached (lent-good h) (ground (sheet-in bs) (lent-good h)) (h .room) rs
+lent-reached {bs} h rs = left-reached (lent-valid h) (ground (sheet-in bs) (lent-valid h)) (h .room) rs
 
 pub deliveries : Deliveries
 unfolding Deliveries
-deliveries bs i rs h = deliveries-reached (sheet-in bs) (lent-good h) i (left-by (sheet-in bs) rs i) (lent-reached h rs) (h .room)
+deliveries bs i rs h = deliveries-reached (sheet-in bs) (lent-valid h) i (left-by (sheet-in bs) rs i) (lent-reached h rs) (h .room)
 
 pub verdicts : Verdicts
 unfolding Verdicts
-verdicts bs i rs h = verdict-reached (sheet-in bs) (lent-good h) (left-by (sheet-in bs) rs i) (lent-reached h rs .stop-at)
+verdicts bs i rs h = verdict-reached (sheet-in bs) (lent-valid h) (left-by (sheet-in bs) rs i) (lent-reached h rs .stop-at)
 
 pub in-use : In-use
 unfolding In-use
@@ -42,7 +42,7 @@ unfolding Peaks left-by follow
 peaks bs i rs r h =
     omega (
       arith,
-      follow-peak (lent-good h) (ground (sheet-in bs) (lent-good h)) (h .room) r 0 rs
-          (start-reached (lent-good h) i),
-      start-peak (lent-good h) i r,
+      follow-peak (lent-valid h) (ground (sheet-in bs) (lent-valid h)) (h .room) r 0 rs
+          (start-reached (lent-valid h) i),
+      start-peak (lent-valid h) i r,
     )

@@ -1,4 +1,5 @@
 -- A run's order is accepted by follow and leads to the same job, within two steps an operation, where no board is able.
+--   run-ended    the statement Run-ends, of one valid sheet
 -- Assumes nothing.
 use mathlib.Core.Path.{_≡_, refl, sym, ap, _∙_}
 use mathlib.Core.Bool.{Bool, true, cond}
@@ -15,7 +16,7 @@ use Rattle.rules.specs.Order.{Followed, followed, follow-from, follow, next-ran
 use Rattle.rules.specs.Claims.{accepts, left-by}
 use Rattle.promises.specs.Statements.{Ends}
 use Rattle.invariant.specs.sheet.Valid.{Valid}
-use Rattle.invariant.specs.deliveries.Assumed.{Ground}
+use Rattle.invariant.specs.deliveries.Laws.{Delivery-laws}
 use Rattle.invariant.specs.Invariant.{Reached}
 use Rattle.invariant.specs.preserve.StepCount.{able-room}
 use Rattle.invariant.specs.step.LowestAble.{next-some}
@@ -57,7 +58,7 @@ run-goes s fuel o x r e a h =
       ended = h .ended;
     }
 
-run-runs : {s : Sheet} → Valid s → Ground s → {lent : List ℕ} → inbox-total s ≤ length lent → (fuel : ℕ) (o : List ℕ) {x : Job} →
+run-runs : {s : Sheet} → Valid s → Delivery-laws s → {lent : List ℕ} → inbox-total s ≤ length lent → (fuel : ℕ) (o : List ℕ) {x : Job} →
     Reached s lent x →
     2 * N-of s ≤ fuel + x .steps → Runs s fuel o x (run-from fuel s o x)
 unfolding run-from run-next
@@ -77,7 +78,8 @@ run-runs {s} g A room (suc fuel) o {x} R l =
     go (some r) e rest = let a = next-some s x r e in run-goes s fuel o x r (run-from fuel s (o ++ (r ∷ [])) (step s r x)) a
         (rest r a)
 
-pub run-ended : {s : Sheet} → Valid s → Ground s → (lent : List ℕ) → inbox-total s ≤ length lent → Ends s lent
+-- a run ends where no board is able, within two steps an operation
+pub run-ended : {s : Sheet} → Valid s → Delivery-laws s → (lent : List ℕ) → inbox-total s ≤ length lent → Ends s lent
 unfolding run accepts left-by follow followed is-none started job
 run-ended {s} g A lent room =
     record {

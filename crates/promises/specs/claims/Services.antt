@@ -16,17 +16,18 @@ use Rattle.rules.specs.Order.{follow, run, none-able}
 use Rattle.rules.specs.Report.{report}
 use Rattle.rules.specs.Service.{in-front, order-refusal}
 use Rattle.rules.specs.Claims.{passes, calm, accepts, left-by, without-peaks, Alike, Given}
-use Rattle.promises.specs.Statements.{Lent, Ends, Run-ends, Ends-alike, Swap-same, Follow-call, Run-call, Same-start, Left-alike, Follows-alike, Run-alike, Follow-swaps}
+use Rattle.promises.specs.Statements.{Lent, Ends, Run-ends, Ends-alike, Swap-same, Follow-call, Run-call, Same-start, Left-alike, Follows-alike}
+use Rattle.promises.specs.Statements.{Run-alike, Follow-swaps}
 use Rattle.laws.specs.SpliceOrder.{Near}
 use Rattle.promises.specs.compare.ReportBytes.{report-length}
-use Rattle.promises.specs.compare.PeaksAside.{level-report, level-none-able}
+use Rattle.promises.specs.compare.PeaksAside.{equal-report, equal-none-able}
 use Rattle.invariant.specs.sheet.Valid.{Valid}
 use Rattle.invariant.specs.Invariant.{Reached}
 use Rattle.invariant.specs.deliveries.Commute.{ground}
-use Rattle.promises.specs.compare.SamePositions.{Like, like-level}
-use Rattle.promises.specs.compare.WholeOrders.{Left-like}
-use Rattle.promises.specs.compare.TwoRooms.{rooms-like, like-near}
-use Rattle.promises.specs.claims.OneJob.{lent-good, lent-reached}
+use Rattle.promises.specs.compare.SamePositions.{Same-positions, positions-equal}
+use Rattle.promises.specs.compare.WholeOrders.{Left-same-positions}
+use Rattle.promises.specs.compare.TwoRooms.{rooms-same-positions, positions-near}
+use Rattle.promises.specs.claims.OneJob.{lent-valid, lent-reached}
 use Rattle.promises.specs.claims.Calls.{follow-answer, follow-accepted, follow-inbox, follow-report, front-report, run-answer}
 
 -- ALIKE AS FAR AS THE SHEET'S OWN ROOM GOES
@@ -42,13 +43,13 @@ front-alike {s} h =
       reports = h .1;
     }
 
--- like jobs on rooms that start with the same bytes
-front-like : {s : Sheet} → Valid s → {i j : List ℕ} {x y : Job} {X : Reached s i x} {Y : Reached s j y} → Like X Y →
+-- jobs at the same places, on rooms that start with the same bytes
+front-same-positions : {s : Sheet} → Valid s → {i j : List ℕ} {x y : Job} {X : Reached s i x} {Y : Reached s j y} → Same-positions X Y →
     Near (inbox-total s) i j → Alike-front s x y
-front-like {s} g {i} {j} {x} {y} K h =
+front-same-positions {s} g {i} {j} {x} {y} K h =
     record {
-      memory = like-near g K h .same;
-      reports = level-report s x y (like-level g K);
+      memory = positions-near g K h .same;
+      reports = equal-report s x y (positions-equal g K);
     }
 
 front-next : {s : Sheet} {x y z : Job} → Alike-front s x y → Alike-front s y z → Alike-front s x z
@@ -138,12 +139,12 @@ module _ {bs i j : List ℕ} (a : Lent bs i) (b : Lent bs j) (same : Same-start 
   abbrev s : Sheet
   s = sheet-in bs
 
-  two-rooms : Left-like s i j (follow s rs i) (follow s rs j)
-  two-rooms = rooms-like (lent-good a) (ground s (lent-good a)) (a .room) (b .room) rs
+  two-rooms : Left-same-positions s i j (follow s rs i) (follow s rs j)
+  two-rooms = rooms-same-positions (lent-valid a) (ground s (lent-valid a)) (a .room) (b .room) rs
 
   two-alike : Alike-front s (left-by s rs i) (left-by s rs j)
   unfolding left-by
-  two-alike = front-like (lent-good a) (two-rooms .like) (near-start bs (a .room) (b .room) same)
+  two-alike = front-same-positions (lent-valid a) (two-rooms .same-positions) (near-start bs (a .room) (b .room) same)
 
   two-refused : follow s rs i .refused-at ≡ follow s rs j .refused-at
   two-refused = two-rooms .refused
@@ -155,7 +156,7 @@ module _ {bs i j : List ℕ} (a : Lent bs i) (b : Lent bs j) (same : Same-start 
   two-none-able : none-able s (left-by s rs i) ≡ true → none-able s (left-by s rs j) ≡ true
   unfolding left-by
   two-none-able e =
-      sym (level-none-able s (follow s rs i .left) (follow s rs j .left) (like-level (lent-good a) (two-rooms .like))) ∙ e
+      sym (equal-none-able s (follow s rs i .left) (follow s rs j .left) (positions-equal (lent-valid a) (two-rooms .same-positions))) ∙ e
 
 same-back : (bs i j : List ℕ) → Same-start bs i j → Same-start bs j i
 unfolding Same-start

@@ -17,15 +17,15 @@ use Rattle.rules.specs.Claims.{accepts, left-by, calm, Alike}
 use Rattle.laws.specs.Tests.{true-not-false}
 use Rattle.promises.specs.Statements.{Lent, Harmless, Swap-general, Swap-same, Follow-swaps}
 use Rattle.invariant.specs.sheet.Valid.{Valid}
-use Rattle.invariant.specs.deliveries.Assumed.{Ground}
+use Rattle.invariant.specs.deliveries.Laws.{Delivery-laws}
 use Rattle.invariant.specs.Invariant.{Reached}
 use Rattle.invariant.specs.deliveries.Commute.{ground}
-use Rattle.promises.specs.compare.WholeOrders.{Left-like, like-follow, follow-join, follow-two}
-use Rattle.promises.specs.compare.Exchange.{E, swap-able, able-p, able-q, swap-like}
-use Rattle.promises.specs.compare.CalmSheets.{calm-going, calm-tame-all}
-use Rattle.promises.specs.compare.SamePositionsAlike.{like-alike}
+use Rattle.promises.specs.compare.WholeOrders.{Left-same-positions, positions-follow, follow-join, follow-two}
+use Rattle.promises.specs.compare.Exchange.{E, swap-able, able-p, able-q, swap-same-positions}
+use Rattle.promises.specs.compare.CalmSheets.{calm-going, calm-not-any-source}
+use Rattle.promises.specs.compare.SamePositionsAlike.{positions-alike}
 use Rattle.promises.specs.claims.Services.{follow-swaps}
-use Rattle.promises.specs.claims.OneJob.{lent-good, lent-reached}
+use Rattle.promises.specs.claims.OneJob.{lent-valid, lent-reached}
 
 module _ {bs i : List ℕ} (h : Lent bs i) (before : List ℕ) (p q : ℕ) (d : p ≢ q) where
   abbrev s : Sheet
@@ -35,9 +35,9 @@ module _ {bs i : List ℕ} (h : Lent bs i) (before : List ℕ) (p q : ℕ) (d : 
   x = left-by s before i
 
   g : Valid s
-  g = lent-good h
+  g = lent-valid h
 
-  A : Ground s
+  A : Delivery-laws s
   A = ground s g
 
   X : Reached s i x
@@ -57,7 +57,7 @@ module _ {bs i : List ℕ} (h : Lent bs i) (before : List ℕ) (p q : ℕ) (d : 
     ap (λ (f : Followed). f .refused-at) one ∙ L .refused ∙ sym (ap (λ (f : Followed). f .refused-at) other),
     subst (λ (f : Followed). Alike s (f .left) (follow s (before ++ (q ∷ p ∷ after)) i .left)) (sym one)
         (subst (λ (f : Followed). Alike s (follow-from n s after (step s q (step s p x)) .left) (f .left)) (sym other)
-        (like-alike g (L .like))),
+        (positions-alike g (L .same-positions))),
   )
     where
       n : ℕ
@@ -69,8 +69,8 @@ module _ {bs i : List ℕ} (h : Lent bs i) (before : List ℕ) (p q : ℕ) (d : 
       other : follow s (before ++ (q ∷ p ∷ after)) i ≡ follow-from n s after (step s p (step s q x))
       other = two-more accepted q p after b (able-p g A (h .room) X p q d a b H)
 
-      L : Left-like s i i (follow-from n s after (step s q (step s p x))) (follow-from n s after (step s p (step s q x)))
-      L = like-follow g A (h .room) (h .room) n after (swap-like g A (h .room) X p q d a b H)
+      L : Left-same-positions s i i (follow-from n s after (step s q (step s p x))) (follow-from n s after (step s p (step s q x)))
+      L = positions-follow g A (h .room) (h .room) n after (swap-same-positions g A (h .room) X p q d a b H)
 
   -- on a calm sheet no step stops the job, and no receive takes from any source
   calm-on : calm s ≡ true → (j k : ℕ) → j ≢ k → able s x j ≡ true → able s x k ≡ true → step s k (step s j x) .stop ≡ none
@@ -83,7 +83,7 @@ module _ {bs i : List ℕ} (h : Lent bs i) (before : List ℕ) (p q : ℕ) (d : 
       record {
         goes-on = calm-on c p q d a b;
         goes-on-swapped = calm-on c q p (λ e. d (sym e)) b a;
-        no-race = λ r half other sends receives wild fits too. true-not-false wild (calm-tame-all s c r);
+        no-race = λ r half other sends receives wild fits too. true-not-false wild (calm-not-any-source s c r);
       }
 
 pub swap-general : Swap-general

@@ -1,6 +1,9 @@
--- What a step does to the stop and to where the boards position, by what was known before it.
---   stop-after, step-stop    whether and how a step stops the job
---   After, step-after        the boards' places after a step that goes on, and after one that stops
+-- What a step does to the stop and to where the boards stand, by what was known before it.
+--   stop-after, step-stop      whether and how a step stops the job; stop-stays: a stopped job stays stopped
+--   finishing                  whether a step that goes on finishes its operation
+--   After, step-after          the boards' places after a step that goes on (`continues`), and after one that stops (`stops-job`)
+--   step-counted               every step is counted
+--   moved-position ..          where the board stands then; position-next, position-half, position-moved: what its place decides
 -- Assumes nothing.
 use mathlib.Core.Path.{_≡_, refl, sym, ap, subst, _∙_}
 use mathlib.Core.Logic.{_⊎_, inl, inr, _≢_}
@@ -10,15 +13,16 @@ use mathlib.Core.Option.{Option, none, some}
 use Prim.Native.Nat.{ℕ, suc, _+_, _*_, _<_}
 use lib.ListN.{getD}
 use native.Mathlib.Omega.{arith}
-use Rattle.rules.specs.Sheet.{Sheet, op, board, is-receive, is-wait, is-ready, is-buffered, is-nonblocking}
+use Rattle.rules.specs.Sheet.{Sheet, op, board, is-receive, only-half, is-ready, is-buffered, no-half}
 use Rattle.rules.specs.Job.{Job, Stop, Place, place, job, place-at, with-entries, with-places, with-messages, with-receives, with-stop, with-steps}
-use Rattle.rules.specs.Step.{able, step, next-op, in-waiting-half, is-none, first-message, first-receive, matched, with-place, with-state, charge, pend-message, pend-receive, stopped, initiated, fits-buffer, unmatched, sent, received, initiating, ended}
+use Rattle.rules.specs.Step.{able, step, next-op, in-waiting-half, is-none, first-message, first-receive, matched, with-place, with-state, charge}
+use Rattle.rules.specs.Step.{pend-message, pend-receive, stopped, initiated, fits-buffer, unmatched, sent, received, initiating, ended}
 use Rattle.invariant.specs.sheet.Valid.{Valid}
-use Rattle.invariant.specs.sheet.Kinds.{send-no-wait, receive-no-wait}
+use Rattle.invariant.specs.sheet.Kinds.{send-not-only-half, receive-not-only-half}
 use Rattle.invariant.specs.Invariant.{Reached}
 use Rattle.invariant.specs.step.Places.{Next, Moved, able-next, moved-finished, moved-waiting, moved-finished-other, moved-waiting-other}
 use Rattle.invariant.specs.step.BufferUse.{matched-is}
-use Rattle.invariant.specs.step.Cases.{Outcome, ends-half, ends-wait, posts, pends, meets, stops}
+use Rattle.invariant.specs.step.Cases.{Outcome, ends-half, ends-only-half, posts, pends, matches, stops}
 use Rattle.invariant.specs.step.CasesHold.{outcome}
 use Rattle.invariant.specs.step.Position.{position, position-finished, position-waiting}
 
@@ -45,7 +49,7 @@ module _ (s : Sheet) (r i : ℕ) (x : Job) where
 
   ended-stop : ended s r i x .stop ≡ x .stop
   unfolding ended with-place with-places with-state with-entries job
-  ended-stop = go (is-wait (op s i))
+  ended-stop = go (only-half (op s i))
     where
       go : (b : Bool) → cond b (with-state i 5 x) x .stop ≡ x .stop
       go true = refl
@@ -102,58 +106,60 @@ step-stop s r x = go (in-waiting-half s x r) (is-receive (op s i))
 -- PLACES
 -- whether a step that goes on finishes its operation
 abbrev pub finishing : Sheet → Job → (r : ℕ) → Bool
-finishing s x r = in-waiting-half s x r || is-nonblocking (op s (next-op s x r))
+finishing s x r = in-waiting-half s x r || no-half (op s (next-op s x r))
 
 -- an initiating step is of a board that is in no waiting half
-initiates : (s : Sheet) (x : Job) (r : ℕ) → place-at x r .waiting ≡ false → is-wait (op s (next-op s x r)) ≡ false →
-    is-nonblocking (op s (next-op s x r)) ≡ finishing s x r
+initiates : (s : Sheet) (x : Job) (r : ℕ) → place-at x r .waiting ≡ false → only-half (op s (next-op s x r)) ≡ false →
+    no-half (op s (next-op s x r)) ≡ finishing s x r
 unfolding in-waiting-half
 initiates s x r w e =
     sym
-    (ap (λ (b : Bool). (b || is-wait (op s (next-op s x r))) || is-nonblocking (op s (next-op s x r))) w
-    ∙ ap (λ (b : Bool). b || is-nonblocking (op s (next-op s x r))) e)
+    (ap (λ (b : Bool). (b || only-half (op s (next-op s x r))) || no-half (op s (next-op s x r))) w
+    ∙ ap (λ (b : Bool). b || no-half (op s (next-op s x r))) e)
 
+-- what a step of board r did: the job goes on, or it stopped
 pub data After (s : Sheet) (x y : Job) (r : ℕ) : Type 0 where
-  goes-on : y .stop ≡ none → Moved x y r (finishing s x r) → After s x y r
-  halts : (t : Stop) → y .stop ≡ some t → y .places ≡ x .places → y .steps ≡ suc (x .steps) → After s x y r
+  continues : y .stop ≡ none → Moved x y r (finishing s x r) → After s x y r
+  stops-job : (t : Stop) → y .stop ≡ some t → y .places ≡ x .places → y .steps ≡ suc (x .steps) → After s x y r
 
 module _ {s : Sheet} {x y : Job} {r : ℕ} (n : Next s x r) where
   turned : (last : Bool) → Moved x y r last → last ≡ finishing s x r → After s x y r
-  turned last m e = goes-on (m .stop-same ∙ n .going) (subst (λ (b : Bool). Moved x y r b) e m)
+  turned last m e = continues (m .stop-same ∙ n .going) (subst (λ (b : Bool). Moved x y r b) e m)
 
   after : Outcome s x y r (next-op s x r) → After s x y r
   unfolding in-waiting-half stopped with-stop with-steps job
   after (ends-half h) =
       turned true (h .moved)
-      (sym (ap (λ (b : Bool). (b || is-wait (op s (next-op s x r))) || is-nonblocking (op s (next-op s x r))) (h .waiting)))
-  after (ends-wait h) =
+      (sym (ap (λ (b : Bool). (b || only-half (op s (next-op s x r))) || no-half (op s (next-op s x r))) (h .waiting)))
+  after (ends-only-half h) =
       turned true (h .moved)
       (sym
-      (ap (λ (b : Bool). (b || is-wait (op s (next-op s x r))) || is-nonblocking (op s (next-op s x r))) (h .not-waiting)
-      ∙ ap (λ (b : Bool). b || is-nonblocking (op s (next-op s x r))) (h .waits)))
+      (ap (λ (b : Bool). (b || only-half (op s (next-op s x r))) || no-half (op s (next-op s x r))) (h .not-waiting)
+      ∙ ap (λ (b : Bool). b || no-half (op s (next-op s x r))) (h .waits)))
   after (posts h) =
-      turned (is-nonblocking (op s (next-op s x r))) (h .moved)
-      (initiates s x r (h .not-waiting) (receive-no-wait (op s (next-op s x r)) (h .is-one)))
+      turned (no-half (op s (next-op s x r))) (h .moved)
+      (initiates s x r (h .not-waiting) (receive-not-only-half (op s (next-op s x r)) (h .is-one)))
   after (pends h) =
-      turned (is-nonblocking (op s (next-op s x r))) (h .moved)
-      (initiates s x r (h .not-waiting) (send-no-wait (op s (next-op s x r)) (h .is-one)))
-  after (meets m q h) =
-      turned (is-nonblocking (op s (next-op s x r))) (h .moved)
+      turned (no-half (op s (next-op s x r))) (h .moved)
+      (initiates s x r (h .not-waiting) (send-not-only-half (op s (next-op s x r)) (h .is-one)))
+  after (matches m q h) =
+      turned (no-half (op s (next-op s x r))) (h .moved)
       (initiates s x r (h .not-waiting) (not-wait (h .rows .one)))
     where
-      not-wait : (next-op s x r ≡ m) ⊎ (next-op s x r ≡ q) → is-wait (op s (next-op s x r)) ≡ false
-      not-wait (inl e) = ap (λ (z : ℕ). is-wait (op s z)) e ∙ send-no-wait (op s m) (h .rows .sends)
-      not-wait (inr e) = ap (λ (z : ℕ). is-wait (op s z)) e ∙ receive-no-wait (op s q) (h .rows .receives)
+      not-wait : (next-op s x r ≡ m) ⊎ (next-op s x r ≡ q) → only-half (op s (next-op s x r)) ≡ false
+      not-wait (inl e) = ap (λ (z : ℕ). only-half (op s z)) e ∙ send-not-only-half (op s m) (h .rows .sends)
+      not-wait (inr e) = ap (λ (z : ℕ). only-half (op s z)) e ∙ receive-not-only-half (op s q) (h .rows .receives)
   after (stops v h) =
-      halts
+      stops-job
       (record {
         verdict = v;
         rank = r;
         at-op = next-op s x r;
       })
-      (ap (λ (z : Job). z .stop) (h .is-told)) (ap (λ (z : Job). z .places) (h .is-told))
-      (ap (λ (z : Job). z .steps) (h .is-told))
+      (ap (λ (z : Job). z .stop) (h .job-is)) (ap (λ (z : Job). z .places) (h .job-is))
+      (ap (λ (z : Job). z .steps) (h .job-is))
 
+-- a step of an able board did one or the other
 pub step-after : {s : Sheet} (g : Valid s) {lent : List ℕ} {x : Job} → Reached s lent x → (r : ℕ) → able s x r ≡ true →
     After s x (step s r x) r
 step-after {s} g {lent} {x} R r a = let n = able-next s g x r a in after n (outcome s g lent x R r n)
@@ -164,8 +170,8 @@ pub step-counted : {s : Sheet} (g : Valid s) {lent : List ℕ} {x : Job} → Rea
 step-counted {s} g {lent} {x} R r a = go (step-after g R r a)
   where
     go : After s x (step s r x) r → step s r x .steps ≡ suc (x .steps)
-    go (goes-on e m) = m .steps-more
-    go (halts t e p k) = k
+    go (continues e m) = m .steps-more
+    go (stops-job t e p k) = k
 
 -- where the board stands after a step that goes on
 unfoldable pub position-on : (last : Bool) → (finished : ℕ) → ℕ
@@ -183,12 +189,12 @@ moved-position-other {x} {y} m q d =
     ap (λ (k : ℕ). 2 * k + cond (place-at y q .waiting) 1 0) (moved-finished-other m q d)
     ∙ ap (λ (b : Bool). 2 * place-at x q .finished + cond b 1 0) (moved-waiting-other m q d)
 
-pub places-stand : (x y : Job) → y .places ≡ x .places → (q : ℕ) → position y q ≡ position x q
+pub places-position : (x y : Job) → y .places ≡ x .places → (q : ℕ) → position y q ≡ position x q
 unfolding position place-at
-places-stand x y e q = ap (λ (l : List Place). stand-in l q) e
+places-position x y e q = ap (λ (l : List Place). position-in l q) e
   where
-    stand-in : List Place → ℕ → ℕ
-    stand-in l q = 2 * getD l q (place 0 false 0 0) .finished + cond (getD l q (place 0 false 0 0) .waiting) 1 0
+    position-in : List Place → ℕ → ℕ
+    position-in l q = 2 * getD l q (place 0 false 0 0) .finished + cond (getD l q (place 0 false 0 0) .waiting) 1 0
 
 -- WHAT THE PLACE OF A BOARD DECIDES
 module _ (s : Sheet) (x y : Job) (r : ℕ) (e : position x r ≡ position y r) where
@@ -196,30 +202,30 @@ module _ (s : Sheet) (x y : Job) (r : ℕ) (e : position x r ≡ position y r) w
   unfolding next-op
   position-next = ap (λ (k : ℕ). board s r .first + k) (position-finished x y r e)
 
-  pub stand-half : in-waiting-half s x r ≡ in-waiting-half s y r
+  pub position-half : in-waiting-half s x r ≡ in-waiting-half s y r
   unfolding in-waiting-half
-  stand-half =
-      ap (λ (b : Bool). b || is-wait (op s (next-op s x r))) (position-waiting x y r e)
-      ∙ ap (λ (k : ℕ). place-at y r .waiting || is-wait (op s k)) position-next
+  position-half =
+      ap (λ (b : Bool). b || only-half (op s (next-op s x r))) (position-waiting x y r e)
+      ∙ ap (λ (k : ℕ). place-at y r .waiting || only-half (op s k)) position-next
 
-  stand-finishing : finishing s x r ≡ finishing s y r
-  stand-finishing =
-      ap (λ (b : Bool). b || is-nonblocking (op s (next-op s x r))) stand-half
-      ∙ ap (λ (k : ℕ). in-waiting-half s y r || is-nonblocking (op s k)) position-next
+  position-finishing : finishing s x r ≡ finishing s y r
+  position-finishing =
+      ap (λ (b : Bool). b || no-half (op s (next-op s x r))) position-half
+      ∙ ap (λ (k : ℕ). in-waiting-half s y r || no-half (op s k)) position-next
 
   -- a step that goes on takes it to the same place
   pub position-moved : {x-now y-now : Job} → Moved x x-now r (finishing s x r) → Moved y y-now r (finishing s y r) →
       position x-now r ≡ position y-now r
   position-moved m n =
       moved-position m ∙ ap (λ (k : ℕ). position-on (finishing s x r) k) (position-finished x y r e)
-      ∙ ap (λ (c : Bool). position-on c (place-at y r .finished)) stand-finishing ∙ sym (moved-position n)
+      ∙ ap (λ (c : Bool). position-on c (place-at y r .finished)) position-finishing ∙ sym (moved-position n)
 
 -- and further on
 pub position-further : (s : Sheet) {x y : Job} {r : ℕ} → Moved x y r (finishing s x r) → position x r < position y r
 unfolding position position-on in-waiting-half
 position-further s {x} {y} {r} m =
-    go (place-at x r .waiting) (is-wait (op s (next-op s x r)))
-    (is-nonblocking (op s (next-op s x r))) (moved-position m)
+    go (place-at x r .waiting) (only-half (op s (next-op s x r)))
+    (no-half (op s (next-op s x r))) (moved-position m)
   where
     f : ℕ
     f = place-at x r .finished

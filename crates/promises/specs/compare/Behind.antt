@@ -2,9 +2,10 @@
 -- that one receive could take have come in the same order: then what is matched in x is matched alike in y, what is complete
 -- in x is complete in y, and a board that stands where it stood and was able is able still. Behind both ways, the rows are
 -- the same.
---   Behind           x is behind y
---   behind-met, behind-complete, still-able
---   level-rows       behind both ways: the same rows
+--   Behind                                                           x is behind y
+--   behind-entered, behind-pair, behind-matched, behind-complete     what then holds of y
+--   still-able                                                       a board that stands where it stood
+--   both-behind-rows                                                 behind both ways: the same rows
 -- Assumes nothing.
 use mathlib.Core.Path.{_≡_, refl, sym, ap, _∙_}
 use mathlib.Core.Logic.{_≢_}
@@ -15,14 +16,14 @@ use Prim.Native.Nat.{ℕ, _+_, _*_, _≤_, _<_}
 use native.Mathlib.Omega.{arith}
 use native.Mathlib.Decide.{ℕ-discrete}
 use lib.Dec.{ltb, leb}
-use Rattle.rules.specs.Sheet.{Sheet, op, board, P-of, rank-of, is-receive, is-wait}
+use Rattle.rules.specs.Sheet.{Sheet, op, board, P-of, rank-of, is-receive, only-half}
 use Rattle.rules.specs.Job.{Job, bare-entry, entry-at, place-at}
 use Rattle.rules.specs.Step.{able, next-op, is-finished, in-waiting-half, half-complete, is-none}
 use Rattle.laws.specs.Tests.{and-both, and-left, and-right}
 use Rattle.invariant.specs.sheet.Valid.{Valid}
 use Rattle.invariant.specs.sheet.Kinds.{kind-send}
-use Rattle.invariant.specs.Invariant.{Entered, state-at, partner-at, reach, row-of, Met, Placed, Reached}
-use Rattle.invariant.specs.matching.Monotone.{Same-order, keep}
+use Rattle.invariant.specs.Invariant.{Entered, state-at, partner-at, reach, row-of, Matched-pair, Placed, Reached}
+use Rattle.invariant.specs.matching.Monotone.{Same-order, matched-stays}
 use Rattle.invariant.specs.preserve.Rows.{row-bare}
 use Rattle.invariant.specs.step.Position.{position, position-finished, position-waiting}
 use Rattle.invariant.specs.preserve.Places.{prefix, half-complete-on}
@@ -38,9 +39,10 @@ position-reach s x y r = go (place-at x r .waiting) (place-at y r .waiting)
     go false true l = omega arith
     go false false l = omega arith
 
+-- no board of x is further in its script than in y, and messages that one receive could take came in the same order
 pub record Behind {s : Sheet} {i j : List ℕ} {x y : Job} (X : Reached s i x) (Y : Reached s j y) : Type 0 where
   pub places : (r : ℕ) → r < P-of s → position x r ≤ position y r
-  pub order : Same-order s (X .came) x (Y .came) y
+  pub order : Same-order s (X .arrival) x (Y .arrival) y
 
 -- what is entered goes by the places
 pub places-entered : {s : Sheet} → Valid s → {x y : Job} → Placed s x → Placed s y →
@@ -59,9 +61,9 @@ module _ {s : Sheet} (g : Valid s) {i j : List ℕ} {x y : Job} (X : Reached s i
   pub behind-entered : (k : ℕ) → Entered x k → Entered y k
   behind-entered = places-entered g (X .placed) (Y .placed) (B .places)
 
-  pub behind-met : (m r : ℕ) → Met s x m r → Met s y m r
-  behind-met =
-      keep s (X .came) x (Y .came) y (X .stable) (Y .stable) (Y .arrived) (prefix s x (X .placed))
+  pub behind-pair : (m r : ℕ) → Matched-pair s x m r → Matched-pair s y m r
+  behind-pair =
+      matched-stays s (X .arrival) x (Y .arrival) y (X .stable) (Y .stable) (Y .arrived) (prefix s x (X .placed))
       (record {
         entered = behind-entered;
         order = B .order;
@@ -69,17 +71,17 @@ module _ {s : Sheet} (g : Valid s) {i j : List ℕ} {x y : Job} (X : Reached s i
 
   -- what is matched in x is matched alike in y
   pub behind-matched : (k : ℕ) → state-at x k ≡ 3 → (state-at y k ≡ 3) × (partner-at y k ≡ partner-at x k)
-  behind-matched k e = go (is-wait (op s k)) refl (is-receive (op s k)) refl
+  behind-matched k e = go (only-half (op s k)) refl (is-receive (op s k)) refl
     where
-      go : (a : Bool) → is-wait (op s k) ≡ a → (b : Bool) → is-receive (op s k) ≡ b → (state-at y k ≡ 3)
+      go : (a : Bool) → only-half (op s k) ≡ a → (b : Bool) → is-receive (op s k) ≡ b → (state-at y k ≡ 3)
           × (partner-at y k ≡ partner-at x k)
-      go true w b r = absurd (X .shaped .wait-unmatched k w e)
+      go true w b r = absurd (X .shaped .only-half-unmatched k w e)
       go false w true r =
-          let met = behind-met (partner-at x k) k (X .stable .receive-met k r e) in
+          let met = behind-pair (partner-at x k) k (X .stable .receive-met k r e) in
           (met .receive-matched, met .to-message)
       go false w false r =
           let sends = kind-send s g k (X .placed .entered-only k (omega arith) .0) w r in
-          let met = behind-met k (partner-at x k) (X .stable .message-met k sends e) in
+          let met = behind-pair k (partner-at x k) (X .stable .message-pair k sends e) in
           (met .message-matched, met .to-receive)
 
   -- what is complete in x is complete in y
@@ -101,7 +103,7 @@ module _ {s : Sheet} (g : Valid s) {i j : List ℕ} {x y : Job} (X : Reached s i
   unfolding able is-finished in-waiting-half next-op is-none
   still-able r e a going =
       and-both (and-both (ap is-none going) unfinished)
-      (last-part (place-at x r .waiting || is-wait (op s k)) refl (and-right first-part second-part a))
+      (last-part (place-at x r .waiting || only-half (op s k)) refl (and-right first-part second-part a))
     where
       same-finished : place-at y r .finished ≡ place-at x r .finished
       same-finished = sym (position-finished x y r e)
@@ -119,7 +121,7 @@ module _ {s : Sheet} (g : Valid s) {i j : List ℕ} {x y : Job} (X : Reached s i
       first-part = is-none (x .stop) && (ltb r (P-of s) && not (leb (board s r .count) (place-at x r .finished)))
 
       second-part : Bool
-      second-part = not (place-at x r .waiting || is-wait (op s k)) || half-complete s x k
+      second-part = not (place-at x r .waiting || only-half (op s k)) || half-complete s x k
 
       unfinished : ltb r (P-of s) && not (leb (board s r .count) (place-at y r .finished)) ≡ true
       unfinished =
@@ -128,13 +130,13 @@ module _ {s : Sheet} (g : Valid s) {i j : List ℕ} {x y : Job} (X : Reached s i
           (and-left first-part second-part a)
 
       -- in its waiting half alike, and what it waits for complete
-      last-part : (b : Bool) → place-at x r .waiting || is-wait (op s k) ≡ b → not b || half-complete s x k ≡ true →
-          not (place-at y r .waiting || is-wait (op s (board s r .first + place-at y r .finished))) || half-complete s y
+      last-part : (b : Bool) → place-at x r .waiting || only-half (op s k) ≡ b → not b || half-complete s x k ≡ true →
+          not (place-at y r .waiting || only-half (op s (board s r .first + place-at y r .finished))) || half-complete s y
           (board s r .first + place-at y r .finished) ≡ true
       last-part b answers h =
-          ap (λ (w : Bool). not (w || is-wait (op s (board s r .first + place-at y r .finished))) || half-complete s y
+          ap (λ (w : Bool). not (w || only-half (op s (board s r .first + place-at y r .finished))) || half-complete s y
           (board s r .first + place-at y r .finished)) same-waiting
-          ∙ ap (λ (n : ℕ). not (place-at x r .waiting || is-wait (op s n)) || half-complete s y n) same-next
+          ∙ ap (λ (n : ℕ). not (place-at x r .waiting || only-half (op s n)) || half-complete s y n) same-next
           ∙ ap (λ (w : Bool). not w || half-complete s y k) answers ∙ go b h
         where
           go : (b : Bool) → not b || half-complete s x k ≡ true → not b || half-complete s y k ≡ true
@@ -144,9 +146,9 @@ module _ {s : Sheet} (g : Valid s) {i j : List ℕ} {x y : Job} (X : Reached s i
 -- BEHIND BOTH WAYS
 module _ {s : Sheet} (g : Valid s) {i j : List ℕ} {x y : Job} (X : Reached s i x) (Y : Reached s j y) (B : Behind X Y)
     (C : Behind Y X) where
-  level-row : (k : ℕ) → (state-at y k ≡ state-at x k)
+  both-behind-row : (k : ℕ) → (state-at y k ≡ state-at x k)
       × (row-of s k (state-at y k) (partner-at y k) ≡ row-of s k (state-at x k) (partner-at x k))
-  level-row k = go (ℕ-discrete (state-at x k) 3) (ℕ-discrete (state-at y k) 3) (ℕ-discrete (state-at x k) 0)
+  both-behind-row k = go (ℕ-discrete (state-at x k) 3) (ℕ-discrete (state-at y k) 3) (ℕ-discrete (state-at x k) 0)
     where
       bare : state-at y k ≡ state-at x k → state-at x k ≢ 3 →
           (state-at y k ≡ state-at x k) × (row-of s k (state-at y k) (partner-at y k) ≡ row-of s k (state-at x k)
@@ -174,5 +176,6 @@ module _ {s : Sheet} (g : Valid s) {i j : List ℕ} {x y : Job} (X : Reached s i
           let there : Entered x k = omega arith in
           bare (Y .shaped .unmatched k (behind-entered g X Y B k there) c ∙ sym (X .shaped .unmatched k there d)) d
 
-  pub level-rows : (k : ℕ) → entry-at y k ≡ entry-at x k
-  level-rows k = Y .shaped .row k ∙ level-row k .1 ∙ sym (X .shaped .row k)
+  -- jobs that are behind each other have the same rows
+  pub both-behind-rows : (k : ℕ) → entry-at y k ≡ entry-at x k
+  both-behind-rows k = Y .shaped .row k ∙ both-behind-row k .1 ∙ sym (X .shaped .row k)

@@ -1,7 +1,7 @@
 -- Calm sheets never stop, and messages that one receive could take come in script order. The charges in use on a board are
 -- of its buffered sends that are entered, so together with the one that enters they come to at most the charges of all of
 -- them, which the attached buffer covers.
---   calm-tame        no any-source receive, no ready send
+--   calm-op          no any-source receive, no ready send
 --   calm-covered     the attached buffer covers the charges of a board's script
 --   calm-going       an able step goes on
 --   calm-order       one order of arrival
@@ -19,7 +19,7 @@ use lib.ListN.{length, getD, take, drop, length-drop, List·getD-eq-default}
 use lib.Seq.{take-suc, getD-drop}
 use borrow.Author.Tests.{leb-true, le-leb, eq-eqb, ne-eqb, eqb-true, not-true}
 use Rattle.rules.specs.Limits.{any}
-use Rattle.rules.specs.Sheet.{Sheet, Op, Board, op, board, no-op, no-board, P-of, N-of, rank-of, is-receive, is-wait, is-ready, is-buffered}
+use Rattle.rules.specs.Sheet.{Sheet, Op, Board, op, board, no-op, no-board, P-of, N-of, rank-of, is-receive, only-half, is-ready, is-buffered}
 use Rattle.rules.specs.Job.{Job, place-at}
 use Rattle.rules.specs.Step.{able, step, next-op, in-waiting-half, is-none, first-receive, fits-buffer, fits-with, charge-of}
 use Rattle.rules.specs.Claims.{calm, none-wild, is-any-source, all-charges, script, all-covered}
@@ -61,17 +61,17 @@ covered-all (b ∷ bs) os h (suc r) l =
     (and-right (leb (all-charges (script b os)) (b .attached)) (all-covered bs os) h) r (omega arith)
 
 module _ (s : Sheet) (c : calm s ≡ true) where
-  pub calm-tame : (k : ℕ) → k < N-of s → (is-any-source (op s k) ≡ false) × (is-ready (op s k) ≡ false)
+  pub calm-op : (k : ℕ) → k < N-of s → (is-any-source (op s k) ≡ false) × (is-ready (op s k) ≡ false)
   unfolding calm op N-of
-  calm-tame k l = wild-none (s .ops) (and-left (none-wild (s .ops)) (all-covered (s .boards) (s .ops)) c) k l
+  calm-op k l = wild-none (s .ops) (and-left (none-wild (s .ops)) (all-covered (s .boards) (s .ops)) c) k l
 
   -- past the operations there is no receive
-  pub calm-tame-all : (k : ℕ) → is-any-source (op s k) ≡ false
+  pub calm-not-any-source : (k : ℕ) → is-any-source (op s k) ≡ false
   unfolding is-any-source is-receive op N-of no-op
-  calm-tame-all k = go (decLt k (N-of s))
+  calm-not-any-source k = go (decLt k (N-of s))
     where
       go : Dec (k < N-of s) → is-any-source (op s k) ≡ false
-      go (yes l) = calm-tame k l .0
+      go (yes l) = calm-op k l .0
       go (no d) = ap is-any-source (List·getD-eq-default (s .ops) no-op {n = k} (omega arith))
 
   pub calm-covered : (r : ℕ) → r < P-of s → all-charges (script (board s r) (s .ops)) ≤ board s r .attached
@@ -179,7 +179,7 @@ module _ {s : Sheet} (g : Valid s) (c : calm s ≡ true) {lent : List ℕ} {x : 
       go true false e d f = omega arith
       go true true e true f = omega arith
       go true true e false f =
-          absurd (unbuffered (is-wait (op s j))
+          absurd (unbuffered (only-half (op s j))
           (R .shaped .unmatched j (omega (arith, two)) (λ h. omega (arith, two))))
         where
           two : state-at x j ≡ 2
@@ -210,13 +210,14 @@ module _ {s : Sheet} (g : Valid s) (c : calm s ≡ true) {lent : List ℕ} {x : 
       ))
     where
       fresh : state-at x i ≡ 0
-      fresh = next-fresh s x r (R .placed) n (or-false-left (place-at x r .waiting) (is-wait (op s i)) half)
+      fresh = next-fresh s x r (R .placed) n (or-false-left (place-at x r .waiting) (only-half (op s i)) half)
 
+  -- an able step on a calm sheet does not stop the job
   pub calm-going : step s r x .stop ≡ none
   unfolding stop-after
   calm-going =
       step-stop s r x ∙ go (in-waiting-half s x r) refl (is-receive (op s i)) (is-none (first-receive s i (x .receives)))
-      (is-ready (op s i)) (calm-tame s c i (n .inside) .1) (is-buffered (op s i)) refl ∙ n .going
+      (is-ready (op s i)) (calm-op s c i (n .inside) .1) (is-buffered (op s i)) refl ∙ n .going
     where
       go : (h : Bool) → in-waiting-half s x r ≡ h → (b d e : Bool) → e ≡ false → (k : Bool) → is-buffered (op s i) ≡ k →
           stop-after r i h b d e k (fits-buffer s r i x) (x .stop) ≡ x .stop
@@ -233,21 +234,21 @@ module _ {s : Sheet} (g : Valid s) (c : calm s ≡ true) {lent : List ℕ} {x : 
 
 -- ONE ORDER OF ARRIVAL
 pub calm-order : {s : Sheet} → calm s ≡ true → {i j : List ℕ} {x y : Job} (X : Reached s i x) (Y : Reached s j y) →
-    Same-order s (X .came) x (Y .came) y
+    Same-order s (X .arrival) x (Y .arrival) y
 unfolding is-any-source
-calm-order {s} c {i} {j} {x} {y} X Y k m r sk sm rr fk fm hm hk l = go (decLt k m) (decLt m k)
+calm-order {s} c {i} {j} {x} {y} X Y k m q sk sm rr fk fm hm hk l = go (decLt k m) (decLt m k)
   where
-    source : (q : ℕ) → fits-with s q r ≡ true → op s r .peer ≡ rank-of s q
-    source q f = answers (fit-source s q r f)
+    source : (z : ℕ) → fits-with s z q ≡ true → op s q .peer ≡ rank-of s z
+    source z f = answers (fit-source s z q f)
       where
-        answers : (op s r .peer ≡ any) ⊎ (op s r .peer ≡ rank-of s q) → op s r .peer ≡ rank-of s q
-        answers (inl e) = true-not-false (and-both rr (eq-eqb (op s r .peer) any e)) (calm-tame-all s c r)
+        answers : (op s q .peer ≡ any) ⊎ (op s q .peer ≡ rank-of s z) → op s q .peer ≡ rank-of s z
+        answers (inl e) = true-not-false (and-both rr (eq-eqb (op s q .peer) any e)) (calm-not-any-source s c q)
         answers (inr e) = e
 
     same : rank-of s k ≡ rank-of s m
     same = sym (source k fk) ∙ source m fm
 
-    go : Dec (k < m) → Dec (m < k) → Entered x k × (X .came k < X .came m)
+    go : Dec (k < m) → Dec (m < k) → Entered x k × (X .arrival k < X .arrival m)
     go (yes h) _ =
         let there = prefix s x (X .placed) k m hm h same in
         (there, X .arrived .in-script k m sk sm there hm same h)
@@ -257,4 +258,4 @@ calm-order {s} c {i} {j} {x} {y} X Y k m r sk sm rr fk fm hm hk l = go (decLt k 
       Y .arrived .in-script m k sm sk (prefix s y (Y .placed) m k hk o (sym same)) hk
           (sym same) o,
     ))
-    go (no h) (no o) = absurd (omega (arith, l, ap (Y .came) (let e : k ≡ m = omega arith in e)))
+    go (no h) (no o) = absurd (omega (arith, l, ap (Y .arrival) (let e : k ≡ m = omega arith in e)))

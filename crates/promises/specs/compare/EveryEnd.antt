@@ -1,7 +1,8 @@
 -- On a calm sheet every order stays behind every end: let no board of y be able; a board that is able in x, which is behind
 -- y, stands before its place in y, so that x stepped is behind y still. Two ends are therefore behind each other, and alike.
---   step-behind       one step; left-behind: a whole order
---   ends-like         two ends
+--   step-behind            one step; left-behind: a whole order
+--   calm-left              an order on a calm sheet never stops
+--   ends-same-positions    two ends
 -- Assumes nothing.
 use mathlib.Core.Path.{_≡_, refl, sym, ap, subst, _∙_}
 use mathlib.Core.Bool.{Bool, true, false, _||_, cond}
@@ -11,13 +12,13 @@ use Prim.Native.Nat.{ℕ, _+_, _*_, _≤_, _<_}
 use native.Mathlib.Omega.{arith}
 use native.Mathlib.Decide.{ℕ-discrete}
 use lib.ListN.{length}
-use Rattle.rules.specs.Sheet.{Sheet, op, board, P-of, N-of, rank-of, inbox-total, is-wait, is-nonblocking}
+use Rattle.rules.specs.Sheet.{Sheet, op, board, P-of, N-of, rank-of, inbox-total, only-half, no-half}
 use Rattle.rules.specs.Job.{Job, Stop, place-at, started, job}
 use Rattle.rules.specs.Step.{able, step, next-op, in-waiting-half, is-none}
 use Rattle.rules.specs.Claims.{calm, left-by}
 use Rattle.laws.specs.Tests.{true-not-false}
 use Rattle.invariant.specs.sheet.Valid.{Valid}
-use Rattle.invariant.specs.deliveries.Assumed.{Ground}
+use Rattle.invariant.specs.deliveries.Laws.{Delivery-laws}
 use Rattle.laws.specs.Sums.{sum-below, sum-same}
 use Rattle.invariant.specs.Invariant.{reach, steps-done, Reached}
 use Rattle.invariant.specs.step.Places.{Next, Moved, able-next}
@@ -27,18 +28,18 @@ use Rattle.invariant.specs.step.Position.{position, position-finished, position
 use Rattle.promises.specs.compare.Behind.{Behind, still-able}
 use Rattle.promises.specs.compare.AfterStep.{finishing, position-on, moved-position, moved-position-other}
 use Rattle.promises.specs.compare.Exchange.{step-moved}
-use Rattle.promises.specs.compare.SamePositions.{Like}
+use Rattle.promises.specs.compare.SamePositions.{Same-positions}
 use Rattle.promises.specs.compare.CalmSheets.{calm-going, calm-order}
 
 -- x is reached, and behind y
-record Catching (s : Sheet) (i : List ℕ) (y x : Job) : Type 0 where
+record Reached-behind (s : Sheet) (i : List ℕ) (y x : Job) : Type 0 where
   reached : Reached s i x
   places : (r : ℕ) → r < P-of s → position x r ≤ position y r
 
 -- ONE STEP, of a calm sheet
-module _ {s : Sheet} (g : Valid s) (A : Ground s) (c : calm s ≡ true) (i : List ℕ) {j : List ℕ} (room : inbox-total s ≤ length i)
+module _ {s : Sheet} (g : Valid s) (A : Delivery-laws s) (c : calm s ≡ true) (i : List ℕ) {j : List ℕ} (room : inbox-total s ≤ length i)
     {y : Job} (Y : Reached s j y) (going : y .stop ≡ none) (end : (r : ℕ) → able s y r ≡ false) where
-  module _ {x : Job} (C : Catching s i y x) (r : ℕ) (a : able s x r ≡ true) where
+  module _ {x : Job} (C : Reached-behind s i y x) (r : ℕ) (a : able s x r ≡ true) where
     X : Reached s i x
     X = C .reached
 
@@ -62,13 +63,13 @@ module _ {s : Sheet} (g : Valid s) (A : Ground s) (c : calm s ≡ true) (i : Lis
     moved : Moved x (step s r x) r (finishing s x r)
     moved = step-moved g A room X r a (calm-going g c X r a)
 
-    -- a nonblocking operation and a wait have no waiting half in which y could position
-    not-between : in-waiting-half s x r || is-nonblocking (op s (next-op s x r)) ≡ true → place-at x r .waiting ≡ false →
+    -- an operation that is finished in one step has no waiting half in which y could stand
+    not-between : in-waiting-half s x r || no-half (op s (next-op s x r)) ≡ true → place-at x r .waiting ≡ false →
         place-at y r .finished ≡ place-at x r .finished → place-at y r .waiting ≡ true → ⊥
     unfolding in-waiting-half next-op
     not-between h w e v =
-        go (is-wait (op s k)) refl (is-nonblocking (op s k)) refl
-        (sym (ap (λ (b : Bool). (b || is-wait (op s k)) || is-nonblocking (op s k)) w) ∙ h)
+        go (only-half (op s k)) refl (no-half (op s k)) refl
+        (sym (ap (λ (b : Bool). (b || only-half (op s k)) || no-half (op s k)) w) ∙ h)
       where
         k : ℕ
         k = board s r .first + place-at x r .finished
@@ -76,13 +77,13 @@ module _ {s : Sheet} (g : Valid s) (A : Ground s) (c : calm s ≡ true) (i : Lis
         same : board s r .first + place-at y r .finished ≡ k
         same = ap (λ (z : ℕ). board s r .first + z) e
 
-        go : (a : Bool) → is-wait (op s k) ≡ a → (b : Bool) → is-nonblocking (op s k) ≡ b → a || b ≡ true → ⊥
+        go : (a : Bool) → only-half (op s k) ≡ a → (b : Bool) → no-half (op s k) ≡ b → a || b ≡ true → ⊥
         go true p b q o =
-            true-not-false p (ap (λ (z : ℕ). is-wait (op s z)) (sym same)
-            ∙ Y .placed .waiting-no-wait r (n .rank-small) v)
+            true-not-false p (ap (λ (z : ℕ). only-half (op s z)) (sym same)
+            ∙ Y .placed .waiting-not-only-half r (n .rank-small) v)
         go false p true q o =
             true-not-false q
-            (ap (λ (z : ℕ). is-nonblocking (op s z)) (sym same) ∙ Y .placed .waiting-blocking r (n .rank-small) v)
+            (ap (λ (z : ℕ). no-half (op s z)) (sym same) ∙ Y .placed .waiting-not-no-half r (n .rank-small) v)
         go false p false q o = true-not-false o refl
 
     stepped-before : position (step s r x) r ≤ position y r
@@ -109,7 +110,7 @@ module _ {s : Sheet} (g : Valid s) (A : Ground s) (c : calm s ≡ true) (i : Lis
             less (yes d) = absurd (not-between p q d o)
             less (no d) = omega (arith, e)
 
-    step-behind : Catching s i y (step s r x)
+    step-behind : Reached-behind s i y (step s r x)
     step-behind =
         record {
           reached = step-sound g A room X r a .reached;
@@ -122,9 +123,9 @@ module _ {s : Sheet} (g : Valid s) (A : Ground s) (c : calm s ≡ true) (i : Lis
 
   -- A WHOLE ORDER stays behind y
   pub left-behind : (rs : List ℕ) → (r : ℕ) → r < P-of s → position (left-by s rs i) r ≤ position y r
-  left-behind rs = left-keeps s (Catching s i y) (λ x r C a. step-behind C r a) rs i start .places
+  left-behind rs = left-keeps s (Reached-behind s i y) (λ x r C a. step-behind C r a) rs i start .places
     where
-      start : Catching s i y (started s i)
+      start : Reached-behind s i y (started s i)
       start =
           record {
             reached = start-reached g i;
@@ -132,14 +133,14 @@ module _ {s : Sheet} (g : Valid s) (A : Ground s) (c : calm s ≡ true) (i : Lis
           }
 
 -- on a calm sheet nothing stops
-pub calm-left : {s : Sheet} → Valid s → Ground s → calm s ≡ true → (rs lent : List ℕ) → inbox-total s ≤ length lent →
+pub calm-left : {s : Sheet} → Valid s → Delivery-laws s → calm s ≡ true → (rs lent : List ℕ) → inbox-total s ≤ length lent →
     Reached s lent (left-by s rs lent) × (left-by s rs lent .stop ≡ none)
 unfolding started job
 calm-left {s} g A c rs lent room =
     left-keeps s (λ x. Reached s lent x × (x .stop ≡ none))
     (λ x r h a. (step-sound g A room (h .0) r a .reached, calm-going g c (h .0) r a)) rs lent (start-reached g lent, refl)
 
--- STEPS by where the boards position
+-- STEPS by where the boards stand
 steps-same : {s : Sheet} → Valid s → (x y : Job) → ((r : ℕ) → r < P-of s → position x r ≡ position y r) →
     sum-below (N-of s) (steps-done s x) ≡ sum-below (N-of s) (steps-done s y)
 unfolding steps-done reach next-op
@@ -152,11 +153,11 @@ steps-same {s} g x y same = sum-same (N-of s) (steps-done s x) (steps-done s y) 
         cc (position-finished x y r e, position-waiting x y r e)
 
 -- TWO ENDS
-pub ends-like : {s : Sheet} (g : Valid s) (A : Ground s) (c : calm s ≡ true) (a b lent : List ℕ) → inbox-total s ≤ length lent →
+pub ends-same-positions : {s : Sheet} (g : Valid s) (A : Delivery-laws s) (c : calm s ≡ true) (a b lent : List ℕ) → inbox-total s ≤ length lent →
     ((r : ℕ) → able s (left-by s a lent) r ≡ false) → ((r : ℕ) → able s (left-by s b lent) r ≡ false) →
-    (X : Reached s lent (left-by s a lent)) (Y : Reached s lent (left-by s b lent)) → Like X Y
+    (X : Reached s lent (left-by s a lent)) (Y : Reached s lent (left-by s b lent)) → Same-positions X Y
 unfolding is-none
-ends-like {s} g A c a b lent room end-a end-b X Y =
+ends-same-positions {s} g A c a b lent room end-a end-b X Y =
     record {
       stop = going-x ∙ sym going-y;
       steps =

@@ -1,8 +1,9 @@
 -- Two neighbouring able steps of different boards may be exchanged, on any sheet: where neither stops the job in either
--- order, and they do not enter two messages that one any-source receive fits. After both orders the boards position alike and
+-- order, and they do not enter two messages that one any-source receive fits. After both orders the boards stand alike and
 -- the messages that one receive could take came in the same order, so the jobs are alike.
---   swap-able        the second step is able after the first
---   swap-like        the law
+--   step-moved             where the boards stand after a step that goes on
+--   swap-able              the second step is able after the first
+--   swap-same-positions    the law
 -- Assumes nothing.
 use mathlib.Core.Path.{_≡_, refl, sym, ap, subst, _∙_}
 use mathlib.Core.Logic.{_⊎_, inl, inr, _≢_}
@@ -15,27 +16,28 @@ use native.Mathlib.Decide.{ℕ-discrete}
 use lib.ListN.{length}
 use borrow.Author.Tests.{eq-eqb}
 use Rattle.rules.specs.Limits.{any}
-use Rattle.rules.specs.Sheet.{Sheet, op, rank-of, inbox-total, is-send, is-receive, is-wait}
+use Rattle.rules.specs.Sheet.{Sheet, op, rank-of, inbox-total, is-send, is-receive, only-half}
 use Rattle.rules.specs.Job.{Job, place-at}
 use Rattle.rules.specs.Step.{able, step, next-op, in-waiting-half, fits-with}
 use Rattle.rules.specs.Claims.{is-any-source}
 use Rattle.laws.specs.Tests.{and-both}
 use Rattle.promises.specs.Statements.{Harmless}
 use Rattle.invariant.specs.sheet.Valid.{Valid}
-use Rattle.invariant.specs.deliveries.Assumed.{Ground}
-use Rattle.invariant.specs.sheet.Kinds.{send-no-wait, fit-source}
+use Rattle.invariant.specs.deliveries.Laws.{Delivery-laws}
+use Rattle.invariant.specs.sheet.Kinds.{send-not-only-half, fit-source}
 use Rattle.invariant.specs.Invariant.{Entered, reach, Reached, Extended}
 use Rattle.invariant.specs.matching.Monotone.{Same-order}
 use Rattle.invariant.specs.step.Places.{Next, Moved, able-next}
 use Rattle.invariant.specs.preserve.Step.{step-sound}
-use Rattle.promises.specs.compare.ArrivalGrowth.{Grew, grew-step, grew-both, grew-same, grew-order}
+use Rattle.promises.specs.compare.ArrivalGrowth.{Arrivals-grew, arrivals-step, arrivals-trans, arrivals-same-order, arrivals-order}
 use Rattle.invariant.specs.step.Position.{position}
 use Rattle.promises.specs.compare.Behind.{Behind, still-able, places-entered}
-use Rattle.promises.specs.compare.AfterStep.{After, goes-on, halts, step-after, step-counted, finishing, moved-position-other, position-next, position-moved, position-further, stop-stays}
-use Rattle.promises.specs.compare.SamePositions.{Like}
+use Rattle.promises.specs.compare.AfterStep.{After, continues, stops-job, step-after, step-counted, finishing, moved-position-other}
+use Rattle.promises.specs.compare.AfterStep.{position-next, position-moved, position-further, stop-stays}
+use Rattle.promises.specs.compare.SamePositions.{Same-positions}
 
 -- A STEP of p, after which the job goes on
-module _ {s : Sheet} (g : Valid s) (A : Ground s) {lent : List ℕ} (room : inbox-total s ≤ length lent) {x : Job}
+module _ {s : Sheet} (g : Valid s) (A : Delivery-laws s) {lent : List ℕ} (room : inbox-total s ≤ length lent) {x : Job}
     (X : Reached s lent x)
     (p : ℕ) (a : able s x p ≡ true) (going : step s p x .stop ≡ none) where
   abbrev pub E : Extended X (step s p x) (next-op s x p)
@@ -45,15 +47,15 @@ module _ {s : Sheet} (g : Valid s) (A : Ground s) {lent : List ℕ} (room : inbo
   step-moved = go (step-after g X p a)
     where
       go : After s x (step s p x) p → Moved x (step s p x) p (finishing s x p)
-      go (goes-on e m) = m
-      go (halts t e q k) = absurd (let z : _≡_ {A = ℕ} 0 1 = cc in omega arith)
+      go (continues e m) = m
+      go (stops-job t e q k) = absurd (let z : _≡_ {A = ℕ} 0 1 = cc in omega arith)
 
   -- the job is behind itself after the step
   step-ahead : Behind X (E .reached)
   step-ahead =
       record {
         places = λ r l. ahead r (ℕ-discrete r p);
-        order = grew-same (grew-step E);
+        order = arrivals-same-order (arrivals-step E);
       }
     where
       ahead : (r : ℕ) → Dec (r ≡ p) → position x r ≤ position (step s p x) r
@@ -65,7 +67,7 @@ module _ {s : Sheet} (g : Valid s) (A : Ground s) {lent : List ℕ} (room : inbo
   swap-able q d b = still-able g X (E .reached) step-ahead q (sym (moved-position-other step-moved q d)) b going
 
 -- BOTH STEPS, in both orders
-module _ {s : Sheet} (g : Valid s) (A : Ground s) {lent : List ℕ} (room : inbox-total s ≤ length lent) {x : Job}
+module _ {s : Sheet} (g : Valid s) (A : Delivery-laws s) {lent : List ℕ} (room : inbox-total s ≤ length lent) {x : Job}
     (X : Reached s lent x)
     (p q : ℕ) (d : p ≢ q) (a : able s x p ≡ true) (b : able s x q ≡ true) (H : Harmless s x p q) where
   -- a step after which the next one does not stop the job did not stop it
@@ -73,8 +75,8 @@ module _ {s : Sheet} (g : Valid s) (A : Ground s) {lent : List ℕ} (room : inbo
   went-on r k c e = go (step-after g X r c)
     where
       go : After s x (step s r x) r → step s r x .stop ≡ none
-      go (goes-on h m) = h
-      go (halts t h m n) = absurd (stop-stays s k (step s r x) t h e)
+      go (continues h m) = h
+      go (stops-job t h m n) = absurd (stop-stays s k (step s r x) t h e)
 
   going-p : step s p x .stop ≡ none
   going-p = went-on p q a (H .goes-on)
@@ -151,8 +153,8 @@ module _ {s : Sheet} (g : Valid s) (A : Ground s) {lent : List ℕ} (room : inbo
       n : Next s x r
       n = able-next s g x r c
 
-      go : (w : Bool) → place-at x r .waiting ≡ w → w || is-wait (op s (next-op s x r)) ≡ false
-      go false h = ap (λ (z : ℕ). is-wait (op s z)) (sym e) ∙ send-no-wait (op s k) sends
+      go : (w : Bool) → place-at x r .waiting ≡ w → w || only-half (op s (next-op s x r)) ≡ false
+      go false h = ap (λ (z : ℕ). only-half (op s z)) (sym e) ∙ send-not-only-half (op s k) sends
       go true h =
           absurd
           (out
@@ -160,12 +162,12 @@ module _ {s : Sheet} (g : Valid s) (A : Ground s) {lent : List ℕ} (room : inbo
           (X .placed .entered-if (next-op s x r) (n .inside)
           (omega (arith, ap (λ (z : ℕ). reach s x z) (n .ranked), ap (λ (w : Bool). next-op s x r + cond w 1 0) h)))))
 
-  -- the two messages do not meet in one receive
-  no-meeting : (k m r : ℕ) → k ≡ next-op s x p → m ≡ next-op s x q → is-send (op s k) ≡ true → is-send (op s m) ≡ true →
-      is-receive (op s r) ≡ true →
-      fits-with s k r ≡ true → fits-with s m r ≡ true → (Entered x k → ⊥) → (Entered x m → ⊥) → ⊥
+  -- the two messages do not both fit one receive w
+  no-race-in : (k m w : ℕ) → k ≡ next-op s x p → m ≡ next-op s x q → is-send (op s k) ≡ true → is-send (op s m) ≡ true →
+      is-receive (op s w) ≡ true →
+      fits-with s k w ≡ true → fits-with s m w ≡ true → (Entered x k → ⊥) → (Entered x m → ⊥) → ⊥
   unfolding is-any-source
-  no-meeting k m r ek em sk sm rr fk fm out gone = go (fit-source s k r fk) (fit-source s m r fm)
+  no-race-in k m w ek em sk sm rr fk fm out gone = go (fit-source s k w fk) (fit-source s m w fm)
     where
       rank-k : rank-of s k ≡ p
       rank-k = ap (λ (z : ℕ). rank-of s z) ek ∙ able-next s g x p a .ranked
@@ -173,30 +175,31 @@ module _ {s : Sheet} (g : Valid s) (A : Ground s) {lent : List ℕ} (room : inbo
       rank-m : rank-of s m ≡ q
       rank-m = ap (λ (z : ℕ). rank-of s z) em ∙ able-next s g x q b .ranked
 
-      race : op s r .peer ≡ any → ⊥
+      race : op s w .peer ≡ any → ⊥
       race e =
-          H .no-race r (in-no-half p k a ek sk out) (in-no-half q m b em sm gone) (ap (λ (z : ℕ). is-send (op s z)) (sym ek) ∙ sk)
-          (ap (λ (z : ℕ). is-send (op s z)) (sym em) ∙ sm) (and-both rr (eq-eqb (op s r .peer) any e))
-          (ap (λ (z : ℕ). fits-with s z r) (sym ek) ∙ fk) (ap (λ (z : ℕ). fits-with s z r) (sym em) ∙ fm)
+          H .no-race w (in-no-half p k a ek sk out) (in-no-half q m b em sm gone) (ap (λ (z : ℕ). is-send (op s z)) (sym ek) ∙ sk)
+          (ap (λ (z : ℕ). is-send (op s z)) (sym em) ∙ sm) (and-both rr (eq-eqb (op s w .peer) any e))
+          (ap (λ (z : ℕ). fits-with s z w) (sym ek) ∙ fk) (ap (λ (z : ℕ). fits-with s z w) (sym em) ∙ fm)
 
-      go : (op s r .peer ≡ any) ⊎ (op s r .peer ≡ rank-of s k) → (op s r .peer ≡ any) ⊎ (op s r .peer ≡ rank-of s m) → ⊥
+      go : (op s w .peer ≡ any) ⊎ (op s w .peer ≡ rank-of s k) → (op s w .peer ≡ any) ⊎ (op s w .peer ≡ rank-of s m) → ⊥
       go (inl e) _ = race e
       go (inr e) (inl f) = race f
       go (inr e) (inr f) = d (sym rank-k ∙ sym e ∙ f ∙ rank-m)
 
-  no-meetings : (k m r : ℕ) → is-send (op s k) ≡ true → is-send (op s m) ≡ true → is-receive (op s r) ≡ true →
-      fits-with s k r ≡ true → fits-with s m r ≡ true →
+  no-races : (k m w : ℕ) → is-send (op s k) ≡ true → is-send (op s m) ≡ true → is-receive (op s w) ≡ true →
+      fits-with s k w ≡ true → fits-with s m w ≡ true →
       Entered (step s q (step s p x)) k → Entered (step s q (step s p x)) m → (Entered x k → ⊥) → (Entered x m → ⊥) → k ≢ m → ⊥
-  no-meetings k m r sk sm rr fk fm hk hm out gone c = go (entered-since k hk out) (entered-since m hm gone)
+  no-races k m w sk sm rr fk fm hk hm out gone c = go (entered-since k hk out) (entered-since m hm gone)
     where
       go : (k ≡ next-op s x p) ⊎ (k ≡ next-op s x q) → (m ≡ next-op s x p) ⊎ (m ≡ next-op s x q) → ⊥
       go (inl e) (inl f) = c (e ∙ sym f)
-      go (inl e) (inr f) = no-meeting k m r e f sk sm rr fk fm out gone
-      go (inr e) (inl f) = no-meeting m k r f e sm sk rr fm fk gone out
+      go (inl e) (inr f) = no-race-in k m w e f sk sm rr fk fm out gone
+      go (inr e) (inl f) = no-race-in m k w f e sm sk rr fm fk gone out
       go (inr e) (inr f) = c (e ∙ sym f)
 
-  pub swap-like : Like (EPQ .reached) (EQP .reached)
-  swap-like =
+  -- after both orders the boards stand at the same places
+  pub swap-same-positions : Same-positions (EPQ .reached) (EQP .reached)
+  swap-same-positions =
       record {
         stop = H .goes-on ∙ sym (H .goes-on-swapped);
         steps =
@@ -204,21 +207,21 @@ module _ {s : Sheet} (g : Valid s) (A : Ground s) {lent : List ℕ} (room : inbo
             ∙ sym (step-counted g (EQ .reached) p able-p ∙ ap suc (step-counted g X q b));
         places = λ r l. swap-places r;
         order =
-            grew-order grew-pq grew-qp (λ k h. h) (λ k h. h) back same
-            (λ k m r sk sm rr fk fm hk hm. no-meetings k m r sk sm rr fk fm (back k hk) hm);
+            arrivals-order grown-pq grown-qp (λ k h. h) (λ k h. h) back same
+            (λ k m w sk sm rr fk fm hk hm. no-races k m w sk sm rr fk fm (back k hk) hm);
         order-back =
-            grew-order grew-qp grew-pq (λ k h. h) (λ k h. h) on same
-            (λ k m r sk sm rr fk fm hk hm. no-meetings k m r sk sm rr fk fm hk (back m hm));
+            arrivals-order grown-qp grown-pq (λ k h. h) (λ k h. h) on same
+            (λ k m w sk sm rr fk fm hk hm. no-races k m w sk sm rr fk fm hk (back m hm));
       }
     where
-      grew-pq : Grew X (EPQ .reached)
-      grew-pq = grew-both (grew-step EP) (grew-step EPQ)
+      grown-pq : Arrivals-grew X (EPQ .reached)
+      grown-pq = arrivals-trans (arrivals-step EP) (arrivals-step EPQ)
 
-      grew-qp : Grew X (EQP .reached)
-      grew-qp = grew-both (grew-step EQ) (grew-step EQP)
+      grown-qp : Arrivals-grew X (EQP .reached)
+      grown-qp = arrivals-trans (arrivals-step EQ) (arrivals-step EQP)
 
-      same : Same-order s (X .came) x (X .came) x
-      same k m r sk sm rr fk fm hm hk l = (hk, l)
+      same : Same-order s (X .arrival) x (X .arrival) x
+      same k m w sk sm rr fk fm hm hk l = (hk, l)
 
       on : (k : ℕ) → Entered (step s q (step s p x)) k → Entered (step s p (step s q x)) k
       on = places-entered g (EPQ .reached .placed) (EQP .reached .placed) (λ r l. omega (arith, swap-places r))

@@ -1,10 +1,9 @@
 -- Two jobs that differ in peaks, waiting lists and memory at most: the same boards are able, and the reports without peaks
 -- are equal.
---   Level             the same rows, stop, steps and places, peaks aside
---   level-able        the same boards are able
---   level-none-able   and none is in both
---   level-report      the reports without peaks are equal
---   level-alike       with equal memory the jobs are alike
+--   Equal-but-peaks    the same rows, stop, steps and places, peaks aside
+--   equal-able         the same boards are able; equal-none-able: and none is in both
+--   equal-report       the reports without peaks are equal
+--   equal-alike        with equal memory the jobs are alike
 -- Assumes nothing.
 use mathlib.Core.Path.{_≡_, refl, sym, ap, _∙_}
 use mathlib.Core.Bool.{Bool, true, false, _&&_, _||_, not, cond}
@@ -16,15 +15,17 @@ use native.Mathlib.Decide.{decLt}
 use lib.Dec.{ltb, leb, eqb}
 use lib.ListN.{getD}
 use borrow.Author.Tests.{le-ltb}
-use Rattle.rules.specs.Sheet.{Sheet, op, board, P-of, N-of, is-wait, is-send, is-receive}
+use Rattle.rules.specs.Sheet.{Sheet, op, board, P-of, N-of, frees-slot, is-send, is-receive}
 use Rattle.rules.specs.Job.{Job, Entry, Stop, bare-entry, entry-at, place-at}
 use Rattle.rules.specs.Step.{able, is-finished, next-op, in-waiting-half, half-complete, complete, complete-if, waited, is-none}
 use Rattle.rules.specs.Order.{lowest-able, next-rank, none-able}
-use Rattle.rules.specs.Report.{count-from, is-pending-message, is-pending-receive, pending-messages, pending-receives, cut-messages, all-finished, verdict-of, header-bytes, board-state, report}
+use Rattle.rules.specs.Report.{count-from, is-pending-message, is-pending-receive, pending-messages, pending-receives, cut-messages, all-finished}
+use Rattle.rules.specs.Report.{verdict-of, header-bytes, board-state, report}
 use Rattle.rules.specs.Claims.{without-peaks, Alike}
 use Rattle.promises.specs.compare.ReportBytes.{bare-row, bare-rows, bare-report, report-bare}
 
-pub record Level (s : Sheet) (x y : Job) : Type 0 where
+-- the same rows, stop, steps and places, peaks aside
+pub record Equal-but-peaks (s : Sheet) (x y : Job) : Type 0 where
   pub entries : x .entries ≡ y .entries
   pub stop : x .stop ≡ y .stop
   pub steps : x .steps ≡ y .steps
@@ -38,36 +39,36 @@ unfolding count-from
 count-same zero i f g h = refl
 count-same (suc k) i f g h = cc (h i, count-same k (suc i) f g h)
 
-module _ (s : Sheet) (x y : Job) (e : Level s x y) where
-  level-entry : (i : ℕ) → entry-at x i ≡ entry-at y i
+module _ (s : Sheet) (x y : Job) (e : Equal-but-peaks s x y) where
+  equal-entry : (i : ℕ) → entry-at x i ≡ entry-at y i
   unfolding entry-at
-  level-entry i = ap (λ (es : List Entry). getD es i (bare-entry 0)) (e .entries)
+  equal-entry i = ap (λ (es : List Entry). getD es i (bare-entry 0)) (e .entries)
 
   -- ABLE
-  level-complete : (i : ℕ) → complete x i ≡ complete y i
+  equal-complete : (i : ℕ) → complete x i ≡ complete y i
   unfolding complete
-  level-complete i = ap (λ (z : Entry). leb 2 (z .state)) (level-entry i)
+  equal-complete i = ap (λ (z : Entry). leb 2 (z .state)) (equal-entry i)
 
-  level-half : (i : ℕ) → half-complete s x i ≡ half-complete s y i
+  equal-half : (i : ℕ) → half-complete s x i ≡ half-complete s y i
   unfolding half-complete complete-if
-  level-half i = go (waited s i)
+  equal-half i = go (waited s i)
     where
-      go : (o : Option ℕ) → cond (is-wait (op s i)) (complete-if x o) (complete x i) ≡ cond (is-wait (op s i)) (complete-if y o)
+      go : (o : Option ℕ) → cond (frees-slot (op s i)) (complete-if x o) (complete x i) ≡ cond (frees-slot (op s i)) (complete-if y o)
           (complete y i)
-      go none = ap (λ (b : Bool). cond (is-wait (op s i)) false b) (level-complete i)
-      go (some j) = cc (level-complete i, level-complete j)
+      go none = ap (λ (b : Bool). cond (frees-slot (op s i)) false b) (equal-complete i)
+      go (some j) = cc (equal-complete i, equal-complete j)
 
-  pub level-finished : (r : ℕ) → r < P-of s → is-finished s x r ≡ is-finished s y r
+  pub equal-finished : (r : ℕ) → r < P-of s → is-finished s x r ≡ is-finished s y r
   unfolding is-finished
-  level-finished r l = ap (λ (n : ℕ). leb (board s r .count) n) (e .finished r l)
+  equal-finished r l = ap (λ (n : ℕ). leb (board s r .count) n) (e .finished r l)
 
-  level-next : (r : ℕ) → r < P-of s → next-op s x r ≡ next-op s y r
+  equal-next : (r : ℕ) → r < P-of s → next-op s x r ≡ next-op s y r
   unfolding next-op
-  level-next r l = ap (λ (n : ℕ). board s r .first + n) (e .finished r l)
+  equal-next r l = ap (λ (n : ℕ). board s r .first + n) (e .finished r l)
 
-  level-able-small : (r : ℕ) → r < P-of s → able s x r ≡ able s y r
+  equal-able-small : (r : ℕ) → r < P-of s → able s x r ≡ able s y r
   unfolding able in-waiting-half
-  level-able-small r l = cc (e .stop, level-finished r l, e .waiting r l, level-next r l, level-half (next-op s x r))
+  equal-able-small r l = cc (e .stop, equal-finished r l, e .waiting r l, equal-next r l, equal-half (next-op s x r))
 
   able-big : (z : Job) (r : ℕ) → P-of s ≤ r → able s z r ≡ false
   unfolding able
@@ -80,75 +81,75 @@ module _ (s : Sheet) (x y : Job) (e : Level s x y) where
       go true false h c d = refl
       go false b h c d = refl
 
-  pub level-able : (r : ℕ) → able s x r ≡ able s y r
-  level-able r = go (decLt r (P-of s))
+  pub equal-able : (r : ℕ) → able s x r ≡ able s y r
+  equal-able r = go (decLt r (P-of s))
     where
       go : Dec (r < P-of s) → able s x r ≡ able s y r
-      go (yes l) = level-able-small r l
+      go (yes l) = equal-able-small r l
       go (no d) = able-big x r (omega arith) ∙ sym (able-big y r (omega arith))
 
   lowest-same : (k r : ℕ) → lowest-able k r s x ≡ lowest-able k r s y
   unfolding lowest-able
   lowest-same zero r = refl
-  lowest-same (suc k) r = cc (level-able r, lowest-same k (suc r))
+  lowest-same (suc k) r = cc (equal-able r, lowest-same k (suc r))
 
-  pub level-next-rank : next-rank s x ≡ next-rank s y
+  pub equal-next-rank : next-rank s x ≡ next-rank s y
   unfolding next-rank
-  level-next-rank = lowest-same (P-of s) 0
+  equal-next-rank = lowest-same (P-of s) 0
 
-  pub level-none-able : none-able s x ≡ none-able s y
+  pub equal-none-able : none-able s x ≡ none-able s y
   unfolding none-able
-  level-none-able = ap (λ (o : Option ℕ). is-none o) level-next-rank
+  equal-none-able = ap (λ (o : Option ℕ). is-none o) equal-next-rank
 
   -- THE HEADER
   all-finished-same : (k r : ℕ) → r + k ≤ P-of s → all-finished k r s x ≡ all-finished k r s y
   unfolding all-finished
   all-finished-same zero r l = refl
-  all-finished-same (suc k) r l = cc (level-finished r (omega arith), all-finished-same k (suc r) (omega arith))
+  all-finished-same (suc k) r l = cc (equal-finished r (omega arith), all-finished-same k (suc r) (omega arith))
 
-  level-verdict : (o : Option Stop) → verdict-of o s x ≡ verdict-of o s y
+  equal-verdict : (o : Option Stop) → verdict-of o s x ≡ verdict-of o s y
   unfolding verdict-of
-  level-verdict none = cc (all-finished-same (P-of s) 0 (omega arith), level-none-able)
-  level-verdict (some t) = refl
+  equal-verdict none = cc (all-finished-same (P-of s) 0 (omega arith), equal-none-able)
+  equal-verdict (some t) = refl
 
-  level-messages : pending-messages s x ≡ pending-messages s y
+  equal-messages : pending-messages s x ≡ pending-messages s y
   unfolding pending-messages is-pending-message
-  level-messages =
+  equal-messages =
       count-same (N-of s) 0 (is-pending-message s x) (is-pending-message s y)
-      (λ i. ap (λ (z : Entry). is-send (op s i) && (eqb (z .state) 1 || eqb (z .state) 2)) (level-entry i))
+      (λ i. ap (λ (z : Entry). is-send (op s i) && (eqb (z .state) 1 || eqb (z .state) 2)) (equal-entry i))
 
-  level-receives : pending-receives s x ≡ pending-receives s y
+  equal-receives : pending-receives s x ≡ pending-receives s y
   unfolding pending-receives is-pending-receive
-  level-receives =
+  equal-receives =
       count-same (N-of s) 0 (is-pending-receive s x) (is-pending-receive s y)
-      (λ i. ap (λ (z : Entry). is-receive (op s i) && eqb (z .state) 1) (level-entry i))
+      (λ i. ap (λ (z : Entry). is-receive (op s i) && eqb (z .state) 1) (equal-entry i))
 
-  level-cut : cut-messages s x ≡ cut-messages s y
+  equal-cut : cut-messages s x ≡ cut-messages s y
   unfolding cut-messages
-  level-cut =
+  equal-cut =
       count-same (N-of s) 0 (λ i. eqb (entry-at x i .cut) 1) (λ i. eqb (entry-at y i .cut) 1)
-      (λ i. ap (λ (z : Entry). eqb (z .cut) 1) (level-entry i))
+      (λ i. ap (λ (z : Entry). eqb (z .cut) 1) (equal-entry i))
 
-  level-header : header-bytes s x ≡ header-bytes s y
+  equal-header : header-bytes s x ≡ header-bytes s y
   unfolding header-bytes
-  level-header = cc (e .stop, level-verdict (x .stop), e .steps, level-messages, level-receives, level-cut)
+  equal-header = cc (e .stop, equal-verdict (x .stop), e .steps, equal-messages, equal-receives, equal-cut)
 
   -- THE ROWS
-  level-row : (r : ℕ) → r < P-of s → bare-row s x r ≡ bare-row s y r
+  equal-row : (r : ℕ) → r < P-of s → bare-row s x r ≡ bare-row s y r
   unfolding bare-row board-state
-  level-row r l = cc (e .finished r l, e .in-use r l, level-finished r l, level-able r)
+  equal-row r l = cc (e .finished r l, e .in-use r l, equal-finished r l, equal-able r)
 
-  level-rows : (k r : ℕ) → r + k ≤ P-of s → bare-rows k r s x ≡ bare-rows k r s y
+  equal-rows : (k r : ℕ) → r + k ≤ P-of s → bare-rows k r s x ≡ bare-rows k r s y
   unfolding bare-rows
-  level-rows zero r l = refl
-  level-rows (suc k) r l = cc (level-row r (omega arith), level-rows k (suc r) (omega arith))
+  equal-rows zero r l = refl
+  equal-rows (suc k) r l = cc (equal-row r (omega arith), equal-rows k (suc r) (omega arith))
 
-  pub level-report : without-peaks (P-of s) (report s x) ≡ without-peaks (P-of s) (report s y)
+  pub equal-report : without-peaks (P-of s) (report s x) ≡ without-peaks (P-of s) (report s y)
   unfolding bare-report
-  level-report =
-      let bare : bare-report s x ≡ bare-report s y = cc (level-header, level-rows (P-of s) 0 (omega arith), e .entries) in
+  equal-report =
+      let bare : bare-report s x ≡ bare-report s y = cc (equal-header, equal-rows (P-of s) 0 (omega arith), e .entries) in
       report-bare s x ∙ bare ∙ sym (report-bare s y)
 
-  pub level-alike : x .memory ≡ y .memory → Alike s x y
+  pub equal-alike : x .memory ≡ y .memory → Alike s x y
   unfolding Alike
-  level-alike m = (m, level-report)
+  equal-alike m = (m, equal-report)

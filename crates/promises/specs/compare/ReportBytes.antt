@@ -13,7 +13,8 @@ use lib.ListN.{length, set, length-append}
 use Rattle.rules.specs.Limits.{report-header-size, board-row-size, op-row-size, report-size}
 use Rattle.rules.specs.Sheet.{Sheet, P-of, N-of}
 use Rattle.rules.specs.Job.{Job, Entry, Stop, place-at}
-use Rattle.rules.specs.Report.{low-two, pending-messages, pending-receives, cut-messages, verdict-of, stop-bytes, header-bytes, board-state, board-row, board-rows, op-row, op-rows, report}
+use Rattle.rules.specs.Report.{low-two, pending-messages, pending-receives, cut-messages, verdict-of, stop-bytes, header-bytes, board-state}
+use Rattle.rules.specs.Report.{board-row, board-rows, op-row, op-rows, report}
 use Rattle.rules.specs.Claims.{rows-without-peaks, without-peaks}
 
 -- LENGTHS

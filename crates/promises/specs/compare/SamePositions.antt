@@ -1,8 +1,8 @@
--- Jobs whose boards position alike, and in which messages that one receive could take came in the same order, are alike: the
--- same rows, use and ables; a step of one board keeps them so, and so does the rest of an order.
---   Like             the relation; like-rows, like-in-use, like-level, like-able
---   like-step        one step
---   like-follow      a whole order: refused at the same index, and alike where it was left
+-- Jobs whose boards stand at the same places, and in which messages that one receive could take came in the same order: the
+-- same rows, use and ables; a step of one board keeps them so.
+--   Same-positions                                      the relation
+--   positions-rows, positions-in-use, positions-able    what is equal in both; positions-equal: all but peaks and memory
+--   positions-step                                      one step
 -- Assumes nothing.
 use mathlib.Core.Path.{_≡_, refl, sym, ap, subst, _∙_}
 use mathlib.Core.Logic.{_≢_}
@@ -20,7 +20,7 @@ use Rattle.rules.specs.Job.{Job, Stop, bare-entry, entry-at, place-at}
 use Rattle.rules.specs.Step.{able, step, next-op, is-none, first-by, first-receive, fits-with, fits-buffer, charge-of}
 use Rattle.laws.specs.Tests.{true-not-false}
 use Rattle.invariant.specs.sheet.Valid.{Valid}
-use Rattle.invariant.specs.deliveries.Assumed.{Ground}
+use Rattle.invariant.specs.deliveries.Laws.{Delivery-laws}
 use Rattle.laws.specs.Sums.{sum-same}
 use Rattle.laws.specs.WaitingLists.{first-by-none, first-by-some}
 use Rattle.invariant.specs.Invariant.{Entered, charge-in, Pending-receive, Reached, Extended}
@@ -30,18 +30,20 @@ use Rattle.invariant.specs.preserve.Charges.{charge-same}
 use Rattle.invariant.specs.preserve.WaitingLists.{pending-receive-same}
 use Rattle.invariant.specs.step.Places.{Moved, able-next}
 use Rattle.invariant.specs.preserve.Step.{step-sound}
-use Rattle.promises.specs.compare.PeaksAside.{Level, level-able}
-use Rattle.promises.specs.compare.ArrivalGrowth.{grew-step, grew-order}
+use Rattle.promises.specs.compare.PeaksAside.{Equal-but-peaks, equal-able}
+use Rattle.promises.specs.compare.ArrivalGrowth.{arrivals-step, arrivals-order}
 use Rattle.invariant.specs.step.Position.{position, position-finished, position-waiting}
-use Rattle.promises.specs.compare.Behind.{Behind, level-rows, places-entered, behind-entered}
-use Rattle.promises.specs.compare.AfterStep.{stop-after, step-stop, After, goes-on, halts, step-after, step-counted, finishing, moved-position-other, places-stand, position-next, stand-half, position-moved}
+use Rattle.promises.specs.compare.Behind.{Behind, both-behind-rows, places-entered, behind-entered}
+use Rattle.promises.specs.compare.AfterStep.{stop-after, step-stop, After, continues, stops-job, step-after, step-counted, finishing}
+use Rattle.promises.specs.compare.AfterStep.{moved-position-other, places-position, position-next, position-half, position-moved}
 
-pub record Like {s : Sheet} {i j : List ℕ} {x y : Job} (X : Reached s i x) (Y : Reached s j y) : Type 0 where
+-- the boards of x and y stand at the same places, and messages that one receive could take came in the same order
+pub record Same-positions {s : Sheet} {i j : List ℕ} {x y : Job} (X : Reached s i x) (Y : Reached s j y) : Type 0 where
   pub stop : x .stop ≡ y .stop
   pub steps : x .steps ≡ y .steps
   pub places : (r : ℕ) → r < P-of s → position x r ≡ position y r
-  pub order : Same-order s (X .came) x (Y .came) y
-  pub order-back : Same-order s (Y .came) y (X .came) x
+  pub order : Same-order s (X .arrival) x (Y .arrival) y
+  pub order-back : Same-order s (Y .arrival) y (X .arrival) x
 
 -- a search finds nothing in both lists, or something in both
 none-found : (f : ℕ → Bool) (a b : List ℕ) → ((v : ℕ) → first-by f b ≡ some v → first-by f a ≡ none → ⊥) → first-by f a ≡ none →
@@ -59,47 +61,47 @@ is-none-same none (some v) f h = absurd (let z : some v ≡ none = f refl in let
 is-none-same (some v) none f h = absurd (let z : some v ≡ none = h refl in let y : _≡_ {A = ℕ} 0 1 = cc in omega arith)
 is-none-same (some v) (some w) f h = refl
 
-module _ {s : Sheet} (g : Valid s) {i j : List ℕ} {x y : Job} {X : Reached s i x} {Y : Reached s j y} (K : Like X Y) where
-  pub like-behind : Behind X Y
-  like-behind =
+module _ {s : Sheet} (g : Valid s) {i j : List ℕ} {x y : Job} {X : Reached s i x} {Y : Reached s j y} (K : Same-positions X Y) where
+  pub positions-behind : Behind X Y
+  positions-behind =
       record {
         places = λ r l. omega (arith, K .places r l);
         order = K .order;
       }
 
-  pub like-ahead : Behind Y X
-  like-ahead =
+  pub positions-ahead : Behind Y X
+  positions-ahead =
       record {
         places = λ r l. omega (arith, K .places r l);
         order = K .order-back;
       }
 
-  pub like-rows : (k : ℕ) → entry-at y k ≡ entry-at x k
-  like-rows = level-rows g X Y like-behind like-ahead
+  pub positions-rows : (k : ℕ) → entry-at y k ≡ entry-at x k
+  positions-rows = both-behind-rows g X Y positions-behind positions-ahead
 
-  pub like-in-use : (r : ℕ) → r < P-of s → place-at x r .in-use ≡ place-at y r .in-use
-  like-in-use r l =
+  pub positions-in-use : (r : ℕ) → r < P-of s → place-at x r .in-use ≡ place-at y r .in-use
+  positions-in-use r l =
       X .in-use-sum r l
-      ∙ sum-same (N-of s) (charge-in s x r) (charge-in s y r) (λ k h. charge-same s x y r k (state-same (like-rows k)))
+      ∙ sum-same (N-of s) (charge-in s x r) (charge-in s y r) (λ k h. charge-same s x y r k (state-same (positions-rows k)))
       ∙ sym (Y .in-use-sum r l)
 
   -- rows, stop, steps and places are equal, peaks aside
-  pub like-level : Level s x y
+  pub positions-equal : Equal-but-peaks s x y
   unfolding entry-at
-  like-level =
+  positions-equal =
       record {
         entries =
             ext-getD (bare-entry 0) (x .entries) (y .entries) (X .placed .entries-long ∙ sym (Y .placed .entries-long))
-            (λ k l. sym (like-rows k));
+            (λ k l. sym (positions-rows k));
         stop = K .stop;
         steps = K .steps;
         finished = λ r l. position-finished x y r (K .places r l);
         waiting = λ r l. position-waiting x y r (K .places r l);
-        in-use = like-in-use;
+        in-use = positions-in-use;
       }
 
-  pub like-able : (r : ℕ) → able s x r ≡ able s y r
-  like-able = level-able s x y like-level
+  pub positions-able : (r : ℕ) → able s x r ≡ able s y r
+  positions-able = equal-able s x y positions-equal
 
   -- THE NEXT STEP of board r
   module _ (r : ℕ) (l : r < P-of s) where
@@ -109,7 +111,7 @@ module _ {s : Sheet} (g : Valid s) {i j : List ℕ} {x y : Job} {X : Reached s i
     same-room : fits-buffer s r (next-op s x r) x ≡ fits-buffer s r (next-op s y r) y
     unfolding fits-buffer
     same-room =
-        ap (λ (n : ℕ). leb (n + charge-of (op s (next-op s x r))) (board s r .attached)) (like-in-use r l)
+        ap (λ (n : ℕ). leb (n + charge-of (op s (next-op s x r))) (board s r .attached)) (positions-in-use r l)
         ∙ ap (λ (k : ℕ). leb (place-at y r .in-use + charge-of (op s k)) (board s r .attached)) same-next
 
   -- a posted receive that fits is pending in both
@@ -120,14 +122,14 @@ module _ {s : Sheet} (g : Valid s) {i j : List ℕ} {x y : Job} {X : Reached s i
       (none-found f (x .receives) (y .receives)
       (λ v e c. true-not-false (found-y v e .1)
       (first-by-none f (x .receives) c v (X .receives-held .whole v
-      (pending-receive-same x (sym (state-same (like-rows v))) (found-y v e .0))))))
+      (pending-receive-same x (sym (state-same (positions-rows v))) (found-y v e .0))))))
       (none-found f (y .receives) (x .receives)
       (λ v e c. true-not-false (found-x v e .1)
       (first-by-none f (y .receives) c v (Y .receives-held .whole v
-      (pending-receive-same y (state-same (like-rows v)) (found-x v e .0))))))
+      (pending-receive-same y (state-same (positions-rows v)) (found-x v e .0))))))
     where
       f : ℕ → Bool
-      f = λ r. fits-with s m r
+      f = λ q. fits-with s m q
 
       found-x : (v : ℕ) → first-by f (x .receives) ≡ some v → Pending-receive s x v × (f v ≡ true)
       found-x v e = let h = first-by-some f (x .receives) (X .receives-held .sorted) v e in
@@ -137,15 +139,15 @@ module _ {s : Sheet} (g : Valid s) {i j : List ℕ} {x y : Job} {X : Reached s i
       found-y v e = let h = first-by-some f (y .receives) (Y .receives-held .sorted) v e in
           (Y .receives-held .sound v (h .member), h .passes)
 
-  pub like-stop : (r : ℕ) → r < P-of s → step s r x .stop ≡ step s r y .stop
+  pub positions-stop : (r : ℕ) → r < P-of s → step s r x .stop ≡ step s r y .stop
   unfolding stop-after
-  like-stop r l =
+  positions-stop r l =
       step-stop s r x
-      ∙ cc (same-next r l, stand-half s x y r (K .places r l), same-room r l, same-found (next-op s y r), K .stop)
+      ∙ cc (same-next r l, position-half s x y r (K .places r l), same-room r l, same-found (next-op s y r), K .stop)
       ∙ sym (step-stop s r y)
 
   -- ONE STEP, where there is room for the inboxes of both
-  module _ (A : Ground s) (room-x : inbox-total s ≤ length i) (room-y : inbox-total s ≤ length j) (r : ℕ) (a : able s x r ≡ true)
+  module _ (A : Delivery-laws s) (room-x : inbox-total s ≤ length i) (room-y : inbox-total s ≤ length j) (r : ℕ) (a : able s x r ≡ true)
       (b : able s y r ≡ true) where
     abbrev EX : Extended X (step s r x) (next-op s x r)
     EX = step-sound g A room-x X r a
@@ -170,12 +172,12 @@ module _ {s : Sheet} (g : Valid s) {i j : List ℕ} {x y : Job} {X : Reached s i
         apart p q = let z : _≡_ {A = ℕ} 0 1 = cc in omega arith
 
         go : After s x (step s r x) r → After s y (step s r y) r → position (step s r x) q ≡ position (step s r y) q
-        go (goes-on p m) (goes-on o n) = moved m n (ℕ-discrete q r)
-        go (goes-on p m) (halts t o e k) = absurd (apart p (like-stop r small ∙ o))
-        go (halts t p e k) (goes-on o n) = absurd (apart o (sym (like-stop r small) ∙ p))
-        go (halts t p e k) (halts u o f n) =
-            places-stand x (step s r x) e q ∙ K .places q l
-            ∙ sym (places-stand y (step s r y) f q)
+        go (continues p m) (continues o n) = moved m n (ℕ-discrete q r)
+        go (continues p m) (stops-job t o e k) = absurd (apart p (positions-stop r small ∙ o))
+        go (stops-job t p e k) (continues o n) = absurd (apart o (sym (positions-stop r small) ∙ p))
+        go (stops-job t p e k) (stops-job u o f n) =
+            places-position x (step s r x) e q ∙ K .places q l
+            ∙ sym (places-position y (step s r y) f q)
 
     step-steps : step s r x .steps ≡ step s r y .steps
     step-steps = counted X r a ∙ ap suc (K .steps) ∙ sym (counted Y r b)
@@ -198,20 +200,21 @@ module _ {s : Sheet} (g : Valid s) {i j : List ℕ} {x y : Job} {X : Reached s i
         go (yes c) (no e) = gone (EX .back m e hm)
         go (yes c) (yes e) = d (c ∙ sym e)
 
-    pub like-step : Like (EX .reached) (EY .reached)
-    like-step =
+    -- a step of one board in both keeps them so
+    pub positions-step : Same-positions (EX .reached) (EY .reached)
+    positions-step =
         record {
-          stop = like-stop r small;
+          stop = positions-stop r small;
           steps = step-steps;
           places = step-places;
           order =
-              grew-order (grew-step EX) (grew-step EY) (behind-entered g X Y like-behind)
-              (behind-entered g Y X like-ahead) entered-back (K .order)
+              arrivals-order (arrivals-step EX) (arrivals-step EY) (behind-entered g X Y positions-behind)
+              (behind-entered g Y X positions-ahead) entered-back (K .order)
               (λ k m q sk sm rq fk fm hk hm out gone d. one-entered k m (entered-back k hk) hm out gone d);
           order-back =
-              grew-order (grew-step EY) (grew-step EX) (behind-entered g Y X like-ahead)
-              (behind-entered g X Y like-behind) entered-on (K .order-back)
+              arrivals-order (arrivals-step EY) (arrivals-step EX) (behind-entered g Y X positions-ahead)
+              (behind-entered g X Y positions-behind) entered-on (K .order-back)
               (λ k m q sk sm rq fk fm hk hm out gone d.
-              one-entered k m hk (entered-back m hm) (λ h. out (behind-entered g X Y like-behind k h))
-              (λ h. gone (behind-entered g X Y like-behind m h)) d);
+              one-entered k m hk (entered-back m hm) (λ h. out (behind-entered g X Y positions-behind k h))
+              (λ h. gone (behind-entered g X Y positions-behind m h)) d);
         }

@@ -1,7 +1,7 @@
 -- Nothing in the inboxes influences a step: an order is followed alike on any two rooms that are long enough, and where they
 -- start with the same bytes, so do the inboxes that it leaves.
---   rooms-like     one order, two rooms
---   like-near      the inboxes of like jobs start with the same bytes if the lent ones did
+--   rooms-same-positions    one order, two rooms
+--   positions-near          the inboxes of two such jobs start with the same bytes if the lent ones did
 -- Assumes nothing.
 use mathlib.Core.Path.{_≡_, refl, sym, subst, _∙_}
 use mathlib.Core.Bool.{Bool, true, false, _&&_, cond}
@@ -14,24 +14,24 @@ use Rattle.rules.specs.Job.{Job, job, started}
 use Rattle.rules.specs.Step.{delivered}
 use Rattle.rules.specs.Order.{follow}
 use Rattle.invariant.specs.sheet.Valid.{Valid}
-use Rattle.invariant.specs.deliveries.Assumed.{Ground}
+use Rattle.invariant.specs.deliveries.Laws.{Delivery-laws}
 use Rattle.invariant.specs.Invariant.{state-at, partner-at, replay, replayed, Reached}
 use Rattle.invariant.specs.matching.Monotone.{Same-order}
 use Rattle.laws.specs.SpliceOrder.{Near, splice-near}
 use Rattle.invariant.specs.preserve.Memory.{replayed-rows}
 use Rattle.invariant.specs.preserve.Orders.{start-reached, start-position, none-entered}
-use Rattle.promises.specs.compare.SamePositions.{Like, like-rows}
-use Rattle.promises.specs.compare.WholeOrders.{Left-like, like-follow}
+use Rattle.promises.specs.compare.SamePositions.{Same-positions, positions-rows}
+use Rattle.promises.specs.compare.WholeOrders.{Left-same-positions, positions-follow}
 
 -- ONE ORDER, TWO ROOMS
 -- nothing is entered at the start, so there is no order of arrival to differ in
 start-order : {s : Sheet} (g : Valid s) (i j : List ℕ) →
-    Same-order s (start-reached g i .came) (started s i) (start-reached g j .came) (started s j)
-start-order g i j k m r sk sm rr fk fm there-m = none-entered g i m there-m
+    Same-order s (start-reached g i .arrival) (started s i) (start-reached g j .arrival) (started s j)
+start-order g i j k m q sk sm rr fk fm there-m = none-entered g i m there-m
 
-start-like : {s : Sheet} (g : Valid s) (i j : List ℕ) → Like (start-reached g i) (start-reached g j)
+start-same-positions : {s : Sheet} (g : Valid s) (i j : List ℕ) → Same-positions (start-reached g i) (start-reached g j)
 unfolding started job
-start-like g i j =
+start-same-positions g i j =
     record {
       stop = refl;
       steps = refl;
@@ -40,10 +40,10 @@ start-like g i j =
       order-back = start-order g j i;
     }
 
-pub rooms-like : {s : Sheet} → Valid s → Ground s → {i j : List ℕ} → inbox-total s ≤ length i → inbox-total s ≤ length j →
-    (rs : List ℕ) → Left-like s i j (follow s rs i) (follow s rs j)
+pub rooms-same-positions : {s : Sheet} → Valid s → Delivery-laws s → {i j : List ℕ} → inbox-total s ≤ length i → inbox-total s ≤ length j →
+    (rs : List ℕ) → Left-same-positions s i j (follow s rs i) (follow s rs j)
 unfolding follow
-rooms-like g A {i} {j} room-i room-j rs = like-follow g A room-i room-j 0 rs (start-like g i j)
+rooms-same-positions g A {i} {j} room-i room-j rs = positions-follow g A room-i room-j 0 rs (start-same-positions g i j)
 
 -- THE SAME FIRST BYTES
 replay-near : {n : ℕ} {bs cs : List ℕ} (s : Sheet) (x : Job) (k : ℕ) → Near n bs cs → Near n (replay s x k bs) (replay s x k cs)
@@ -61,12 +61,12 @@ unfolding replayed
 replayed-near s x zero h = h
 replayed-near s x (suc k) h = replay-near s x k (replayed-near s x k h)
 
-pub like-near : {s : Sheet} → Valid s → {n : ℕ} {i j : List ℕ} {x y : Job} {X : Reached s i x} {Y : Reached s j y} → Like X Y →
+pub positions-near : {s : Sheet} → Valid s → {n : ℕ} {i j : List ℕ} {x y : Job} {X : Reached s i x} {Y : Reached s j y} → Same-positions X Y →
     Near n i j → Near n (x .memory) (y .memory)
-like-near {s} g {n} {i} {j} {x} {y} {X} {Y} K h =
+positions-near {s} g {n} {i} {j} {x} {y} {X} {Y} K h =
     subst (λ (z : List ℕ). Near n z (y .memory)) (sym (X .memory-replayed))
     (subst (λ (z : List ℕ). Near n (replayed s x (N-of s) i) z) (replayed-rows-back ∙ sym (Y .memory-replayed))
     (replayed-near s x (N-of s) h))
   where
     replayed-rows-back : replayed s x (N-of s) j ≡ replayed s y (N-of s) j
-    replayed-rows-back = sym (replayed-rows s x y (N-of s) j (like-rows g K))
+    replayed-rows-back = sym (replayed-rows s x y (N-of s) j (positions-rows g K))

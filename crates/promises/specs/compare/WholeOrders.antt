@@ -1,8 +1,9 @@
--- Like jobs are followed alike: refused at the same index, and like where they were left. And how follow goes over an order
--- that is joined of two.
---   like-follow       a whole order
---   follow-join       an accepted beginning, and then the rest
---   follow-two        two steps that are able
+-- Jobs whose boards stand at the same places are followed alike: refused at the same index, and at the same places where they
+-- were left. And how follow goes over an order that is joined of two.
+--   Left-same-positions    what two calls of follow left
+--   positions-follow       a whole order
+--   follow-join            an accepted beginning, and then the rest
+--   follow-two             two steps that are able
 -- Assumes nothing.
 use mathlib.Core.Path.{_≡_, refl, sym, ap, _∙_}
 use mathlib.Core.Bool.{Bool, true, false, cond}
@@ -18,44 +19,46 @@ use Rattle.rules.specs.Order.{Followed, followed, follow-from, follow}
 use Rattle.rules.specs.Claims.{accepts, left-by}
 use Rattle.laws.specs.Tests.{true-not-false}
 use Rattle.invariant.specs.sheet.Valid.{Valid}
-use Rattle.invariant.specs.deliveries.Assumed.{Ground}
+use Rattle.invariant.specs.deliveries.Laws.{Delivery-laws}
 use Rattle.invariant.specs.Invariant.{Reached}
-use Rattle.promises.specs.compare.SamePositions.{Like, like-able, like-step}
+use Rattle.promises.specs.compare.SamePositions.{Same-positions, positions-able, positions-step}
 
-pub record Left-like (s : Sheet) (i j : List ℕ) (a b : Followed) : Type 0 where
+-- two calls of follow were refused at the same index, and left their boards at the same places
+pub record Left-same-positions (s : Sheet) (i j : List ℕ) (a b : Followed) : Type 0 where
   pub refused : a .refused-at ≡ b .refused-at
   pub reached-x : Reached s i (a .left)
   pub reached-y : Reached s j (b .left)
-  pub like : Like reached-x reached-y
+  pub same-positions : Same-positions reached-x reached-y
 
-pub like-follow : {s : Sheet} → Valid s → Ground s → {i j : List ℕ} → inbox-total s ≤ length i → inbox-total s ≤ length j →
+-- from jobs at the same places a whole order leads to such jobs
+pub positions-follow : {s : Sheet} → Valid s → Delivery-laws s → {i j : List ℕ} → inbox-total s ≤ length i → inbox-total s ≤ length j →
     (k : ℕ) (rs : List ℕ) →
-    {x y : Job} {X : Reached s i x} {Y : Reached s j y} → Like X Y → Left-like s i j (follow-from k s rs x) (follow-from k s rs y)
+    {x y : Job} {X : Reached s i x} {Y : Reached s j y} → Same-positions X Y → Left-same-positions s i j (follow-from k s rs x) (follow-from k s rs y)
 unfolding follow-from followed
-like-follow g A room-x room-y k [] {x} {y} {X} {Y} K =
+positions-follow g A room-x room-y k [] {x} {y} {X} {Y} K =
     record {
       refused = refl;
       reached-x = X;
       reached-y = Y;
-      like = K;
+      same-positions = K;
     }
-like-follow {s} g A {i} {j} room-x room-y k (r ∷ rs) {x} {y} {X} {Y} K =
-    go (able s x r) refl (able s y r) refl (λ a b. like-follow g A room-x room-y (suc k) rs (like-step g K A room-x room-y r a b))
+positions-follow {s} g A {i} {j} room-x room-y k (r ∷ rs) {x} {y} {X} {Y} K =
+    go (able s x r) refl (able s y r) refl (λ a b. positions-follow g A room-x room-y (suc k) rs (positions-step g K A room-x room-y r a b))
   where
     go : (a : Bool) → able s x r ≡ a → (b : Bool) → able s y r ≡ b →
         (able s x r ≡ true → able s y r ≡ true →
-        Left-like s i j (follow-from (suc k) s rs (step s r x)) (follow-from (suc k) s rs (step s r y))) →
-        Left-like s i j (cond a (follow-from (suc k) s rs (step s r x)) (followed (some k) x))
+        Left-same-positions s i j (follow-from (suc k) s rs (step s r x)) (follow-from (suc k) s rs (step s r y))) →
+        Left-same-positions s i j (cond a (follow-from (suc k) s rs (step s r x)) (followed (some k) x))
         (cond b (follow-from (suc k) s rs (step s r y)) (followed (some k) y))
     go true e true f rest = rest e f
-    go true e false f rest = true-not-false (sym (like-able g K r) ∙ e) f
-    go false e true f rest = true-not-false (like-able g K r ∙ f) e
+    go true e false f rest = true-not-false (sym (positions-able g K r) ∙ e) f
+    go false e true f rest = true-not-false (positions-able g K r ∙ f) e
     go false e false f rest =
         record {
           refused = refl;
           reached-x = X;
           reached-y = Y;
-          like = K;
+          same-positions = K;
         }
 
 -- AN ORDER JOINED OF TWO

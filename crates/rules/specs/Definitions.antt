@@ -1,0 +1,54 @@
+-- Every definition of rules under one name: a claim that the checker computes says `unfolding definitions`, and no list of its
+-- own (Bench here; Counterexamples in promises). A new definition is added to the lines of its file. Assumes nothing.
+use Rattle.rules.specs.Crc
+use Rattle.rules.specs.Sheet
+use Rattle.rules.specs.Refusal
+use Rattle.rules.specs.Job
+use Rattle.rules.specs.Step
+use Rattle.rules.specs.Order
+use Rattle.rules.specs.Report
+use Rattle.rules.specs.Service
+use Rattle.rules.specs.Claims
+use Rattle.rules.specs.BenchJob
+use Rattle.rules.specs.BenchNumbered
+use Rattle.rules.specs.BenchFurther
+
+unfoldable pub definitions : Unit {0}
+unfolding
+    Crc.xor Crc.shift Crc.shifts Crc.crc-byte Crc.crc-from Crc.crc
+    Sheet.no-op Sheet.no-board Sheet.P-of Sheet.N-of Sheet.op Sheet.board Sheet.is-send Sheet.is-buffered
+    Sheet.is-ready Sheet.is-receive Sheet.is-wait Sheet.is-nonblocking Sheet.only-half Sheet.no-half
+    Sheet.takes-slot Sheet.names-slot Sheet.frees-slot Sheet.sum-before Sheet.counts-before Sheet.inbox-start
+    Sheet.inbox-total Sheet.rank-from Sheet.rank-of Sheet.two Sheet.boards-in Sheet.ops-in Sheet.sheet-in
+    Refusal.refusal Refusal.or-else Refusal.first-broken Refusal.sizes-good Refusal.layout-good Refusal.crc-good
+    Refusal.board-good Refusal.boards-refusal Refusal.or-any Refusal.envelope-good Refusal.slot-good
+    Refusal.extent-good Refusal.wait-good Refusal.fields-good Refusal.room-for Refusal.op-good Refusal.ops-refusal
+    Refusal.freed Refusal.holds Refusal.some-below Refusal.slot-held Refusal.share Refusal.area-taken
+    Refusal.request-good Refusal.requests-refusal Refusal.tables-refusal Refusal.sheet-refusal
+    Job.entry Job.bare-entry Job.place Job.job Job.started Job.entry-at Job.place-at Job.with-entries
+    Job.with-places Job.with-messages Job.with-receives Job.with-memory Job.with-stop Job.with-steps
+    Step.next-op Step.is-finished Step.complete Step.waited-below Step.waited Step.complete-if Step.half-complete
+    Step.in-waiting-half Step.is-none Step.able Step.fits-with Step.first-by Step.first-message Step.first-receive
+    Step.without Step.splice Step.area-start Step.is-cut Step.copied Step.delivered Step.charge-of Step.charged
+    Step.released Step.with-place Step.charge Step.release Step.matched-rows Step.matched Step.with-state
+    Step.pend-message Step.pend-receive Step.stopped Step.one-finished Step.now-waiting Step.initiated
+    Step.fits-buffer Step.unmatched Step.sent Step.received Step.initiating Step.ended Step.step
+    Order.followed Order.follow-from Order.follow Order.lowest-able Order.next-rank Order.none-able Order.ran
+    Order.run-next Order.run-from Order.run
+    Report.low-two Report.count-from Report.is-pending-message Report.is-pending-receive Report.pending-messages
+    Report.pending-receives Report.cut-messages Report.all-finished Report.verdict-of Report.stop-bytes
+    Report.header-bytes Report.board-state Report.board-row Report.board-rows Report.op-row Report.op-rows
+    Report.report
+    Service.answers Service.Check-says Service.room-refusal Service.order-refusal Service.in-front Service.kept-or
+    Service.scratch-left Service.follow-refusal Service.Follow-says Service.run-refusal Service.Run-says
+    Claims.all-bytes Claims.passes Claims.is-any-source Claims.none-wild Claims.all-charges Claims.script
+    Claims.all-covered Claims.calm Claims.accepts Claims.left-by Claims.rows-without-peaks Claims.without-peaks
+    Claims.Alike
+    BenchJob.scripts-of BenchJob.lines-of BenchJob.P-drafted BenchJob.N-drafted BenchJob.as-words
+    BenchJob.line-bytes BenchJob.all-line-bytes BenchJob.entry-bytes BenchJob.draft-bytes BenchJob.same
+    BenchJob.verdict-bytes BenchJob.opening BenchJob.rows-bytes BenchJob.partner-by BenchJob.rows-match
+    BenchJob.same-if-given BenchJob.reported BenchJob.driven BenchJob.as-expected BenchJob.all
+    BenchNumbered.case-1-sheet BenchNumbered.nonblocking-sheet BenchNumbered.ready-sheet
+    BenchNumbered.any-source-sheet BenchNumbered.numbered-jobs
+    BenchFurther.further-jobs
+definitions = tt
