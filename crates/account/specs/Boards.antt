@@ -9,7 +9,7 @@ use lib.ListN.{length, length-set}
 use lib.Dec.{eqb}
 use borrow.Author.Tests.{ne-eqb}
 use lib.Seq.{getD-set-same, getD-set-other}
-use Rattle.rules.specs.Sheet.{Sheet, board, op, rank-of, is-ready, is-buffered, is-nonblocking}
+use Rattle.rules.specs.Sheet.{Sheet, board, op, rank-of, is-ready, is-buffered, no-half}
 use Rattle.rules.specs.Job.{Job, Place, place, job, place-at, entry-at, with-entries, with-places, with-messages, with-receives, with-memory, with-stop}
 use Rattle.rules.specs.Step.{charge-of, charged, released, with-place, charge, release, matched-rows, matched}
 use Rattle.rules.specs.Step.{with-state, pend-message, stopped, one-finished, now-waiting, initiated, fits-buffer, unmatched}
@@ -89,8 +89,8 @@ module _ (s : Sheet) (x : Job) (r i : ℕ) (l : r < length (x .places)) where
   initiated-account : board-account s (initiated s r i x) r ≡ board-account s x r
   unfolding board-account initiated
   initiated-account =
-      ap (account-of (board s r .attached)) (place-put r (cond (is-nonblocking (op s i)) (one-finished (place-at x r)) (now-waiting (place-at x r))) x l)
-      ∙ account-settled (board s r .attached) (place-at x r) (is-nonblocking (op s i))
+      ap (account-of (board s r .attached)) (place-put r (cond (no-half (op s i)) (one-finished (place-at x r)) (now-waiting (place-at x r))) x l)
+      ∙ account-settled (board s r .attached) (place-at x r) (no-half (op s i))
 
   pended-fits : fits-buffer s r i (pend-message i 2 x) ≡ fits-buffer s r i x
   unfolding fits-buffer pend-message with-messages with-state with-entries job place-at

@@ -113,7 +113,7 @@ pub record Roles (o : Op) : Type 0 where
   pub named-takes-none : names-slot o ≡ true → takes-slot o ≡ false
 
 pub roles : (p c room : ℕ) (o : Op) → fields-good p c room o ≡ true → Roles o
-unfolding is-nonblocking
+unfolding is-nonblocking takes-slot frees-slot names-slot
 roles p c room o g =
     record {
       frees-named = λ f. f;

@@ -9,7 +9,7 @@ use native.Mathlib.Omega.{arith}
 use native.Mathlib.Decide.{ℕ-discrete, decLt}
 use lib.ListN.{length, getD, replicate, length-replicate, getD-replicate}
 use Rattle.rules.specs.Limits.{most-ops, scratch-size}
-use Rattle.rules.specs.Sheet.{Sheet, op, N-of, rank-of, is-wait, two}
+use Rattle.rules.specs.Sheet.{Sheet, op, N-of, rank-of, frees-slot, two}
 use Rattle.rules.specs.Step.{splice, waited}
 use Rattle.rules.specs.Report.{low-two}
 use Rattle.laws.specs.Tests.{true-not-false}
@@ -22,7 +22,7 @@ abbrev pub Ranked : Sheet → List ℕ → (n : ℕ) → Type 0
 Ranked s c n = (i : ℕ) → i < n → getD c (rank-at i) 0 ≡ rank-of s i
 
 abbrev pub Awaited : Sheet → List ℕ → (n : ℕ) → Type 0
-Awaited s c n = (i : ℕ) → i < n → is-wait (op s i) ≡ true → waited s i ≡ some (two c (word-at waits-at i))
+Awaited s c n = (i : ℕ) → i < n → frees-slot (op s i) ≡ true → waited s i ≡ some (two c (word-at waits-at i))
 
 pub record Indexed (s : Sheet) (c : List ℕ) : Type 0 where
   pub rank-is : Ranked s c (N-of s)
@@ -66,11 +66,11 @@ module _ (s : Sheet) (c : List ℕ) (i : ℕ) (m : i < most-ops) (h : scratch-si
       ranked-script s c i 1 r (omega arith) h (λ j l u. let q : j ≡ i = omega arith in ap (λ (k : ℕ). rank-of s k) q ∙ sym e) x
 
   -- an operation that is no wait has no entry
-  pub awaited-skip : is-wait (op s i) ≡ false → Awaited s c i → Awaited s c (i + 1)
+  pub awaited-skip : frees-slot (op s i) ≡ false → Awaited s c i → Awaited s c (i + 1)
   awaited-skip e x j l w = go (ℕ-discrete j i)
     where
       go : Dec (j ≡ i) → waited s j ≡ some (two c (word-at waits-at j))
-      go (yes q) = true-not-false (ap (λ (k : ℕ). is-wait (op s k)) (sym q) ∙ w) e
+      go (yes q) = true-not-false (ap (λ (k : ℕ). frees-slot (op s k)) (sym q) ∙ w) e
       go (no q) = x j (omega arith) w
 
   pub awaited-more : (k : ℕ) → k < 65536 → waited s i ≡ some k → Awaited s c i → Awaited s (splice c (word-at waits-at i) (low-two k)) (i + 1)

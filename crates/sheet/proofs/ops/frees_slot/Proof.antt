@@ -1,11 +1,11 @@
 -- `sheet::ops::frees_slot` meets its contract: the test of the kind that was read is the definition's. Assumes nothing.
-use Rattle.rules.specs.Sheet.{is-wait}
+use Rattle.rules.specs.Sheet.{frees-slot, is-wait}
 use borrow.Author.Needs.{needs}
 use Rattle.sheet.proofs.ops.frees_slot.Statement.{statement}
 use Rattle.sheet.proofs.ops.frees_slot.Tie as tie
 
 returns : tie.Need-returns
-unfolding is-wait
+unfolding frees-slot is-wait
 returns c = cc
 
 pub frees-slot-spec : {M : Type 1} → statement M
