@@ -29,7 +29,9 @@ pub extern "C" fn jamturret_follow(
     report: &mut [u8],
     scratch: &mut [u8],
 ) -> Answer
-    ensures { λ a. ⌜ Follow-says (now (sheet .entry)) (now (order .entry)) (a .number) (a .place) (now (inbox .entry)) (now (inbox .exit)) (now (report .entry)) (now (report .exit)) (now (scratch .entry)) (now (scratch .exit)) ⌝ }
+    ensures { λ a. ⌜ Follow-says (now (sheet .entry)) (now (order .entry)) (a .number) (a .place)
+        (now (inbox .entry)) (now (inbox .exit)) (now (report .entry)) (now (report .exit))
+        (now (scratch .entry)) (now (scratch .exit)) ⌝ }
 {
     let checked = check::check(sheet);
     if checked.number != 0 {
@@ -39,7 +41,7 @@ pub extern "C" fn jamturret_follow(
         sheet,
         inbox.len(),
         report.len(),
-        2 * header::ops(sheet),
+        limits::order_room(header::ops(sheet)),
         scratch.len(),
     );
     if short.number != 0 {
@@ -58,7 +60,9 @@ pub extern "C" fn jamturret_run(
     order: &mut [u8],
     scratch: &mut [u8],
 ) -> Answer
-    ensures { λ a. ⌜ Run-says (now (sheet .entry)) (a .number) (a .place) (now (inbox .entry)) (now (inbox .exit)) (now (report .entry)) (now (report .exit)) (now (order .entry)) (now (order .exit)) (now (scratch .entry)) (now (scratch .exit)) ⌝ }
+    ensures { λ a. ⌜ Run-says (now (sheet .entry)) (a .number) (a .place)
+        (now (inbox .entry)) (now (inbox .exit)) (now (report .entry)) (now (report .exit))
+        (now (order .entry)) (now (order .exit)) (now (scratch .entry)) (now (scratch .exit)) ⌝ }
 {
     let checked = check::check(sheet);
     if checked.number != 0 {

@@ -22,7 +22,7 @@ fn inbox_total(s: &[u8]) -> usize
     total
 }
 
-// Place 1 inbox, 2 report, 3 order out, 4 scratch.
+// The refusal: place 1 inbox, 2 report, 3 order out, 4 scratch.
 pub fn refusal(s: &[u8], inbox: usize, report: usize, order: usize, scratch: usize) -> Answer
     requires { ⌜ Laid (now s) ⌝ }
     ensures { λ a. ⌜ answers (room-refusal (sheet-in (now (s .entry))) inbox report order scratch) (a .number) (a .place) ⌝ }
@@ -34,19 +34,19 @@ pub fn refusal(s: &[u8], inbox: usize, report: usize, order: usize, scratch: usi
             place: 1,
         };
     }
-    if report < 16 + 8 * header::boards(s) + 12 * n {
+    if report < limits::report_size(header::boards(s), n) {
         return Answer {
             number: 8,
             place: 2,
         };
     }
-    if order < 2 * n {
+    if order < limits::order_room(n) {
         return Answer {
             number: 8,
             place: 3,
         };
     }
-    if scratch < 32768 {
+    if scratch < limits::SCRATCH_SIZE {
         return Answer {
             number: 8,
             place: 4,

@@ -1,97 +1,81 @@
 -- `jamturret::jamturret_follow` meets its contract: the sheet's refusal, a room's, or what follow does. Assumes nothing.
-use mathlib.Core.Path.{_≡_, _∙_, sym}
-use Prim.Native.Nat.{ℕ, _*_}
-use native.Mathlib.Omega.{arith}
+use mathlib.Core.Path.{_≡_, _∙_, sym, ap, subst}
+use Prim.Native.Nat.{ℕ}
 use lib.ListN.{length}
 use Rattle.rules.specs.Limits.{order-room}
 use Rattle.rules.specs.Sheet.{sheet-in, N-of}
 use Rattle.rules.specs.Service.{answers, room-refusal}
-use Rattle.jamturret.specs.Rooms.{roomy}
-use Rattle.jamturret.specs.Outcomes.{Settled, settled, check-told, number-of, rooms-as, follow-sheet, follow-rooms, follow-done}
+use Rattle.jamturret.specs.Rooms.{Ready}
+use Rattle.jamturret.specs.Outcomes.{Settled, settled, rooms-refused, ready, follow-sheet, follow-rooms, follow-done}
 use borrow.Author.Needs.{needs}
 use Rattle.jamturret.proofs.jamturret_follow.Statement.{statement}
 use Rattle.jamturret.proofs.jamturret_follow.Tie as tie
-use Rattle.jamturret.proofs.jamturret_follow.Reads as reads
-use Rattle.jamturret.proofs.jamturret_follow.Lts as lts
-use Rattle.jamturret.proofs.jobs.follow.Reads as follow-reads
-use Rattle.jamturret.proofs.rooms.refusal.Reads as refusal-reads
-use Rattle.refusals.proofs.check.check.Reads as check-reads
-use Rattle.sheet.proofs.header.ops.Reads as ops-reads
 
-check-requires : tie.Need-check-requires
-check-requires c κs = search needs
+-- check accepts the sheet
+module _ (c : tie.Else1) where
+  abbrev start : tie.Start
+  start = c .before .before .before .before .before .before .before .before
+
+  accepted : Settled (start .args .sheet .now)
+  accepted =
+      let k = c .before .before .check in
+      settled (start .args .sheet .now) (k .result .number) (k .result .place) (k .ensures) (c .if1 .left)
+
+-- the rooms' answer, with the order's own room
+module _ (c : tie.After-refusal) where
+  abbrev entry : tie.Start
+  entry = start (c .before .before .before)
+
+  abbrev room : ℕ
+  room = order-room (N-of (sheet-in (entry .args .sheet .now)))
+
+  short : answers (room-refusal (sheet-in (entry .args .sheet .now)) (length (entry .args .inbox .now)) (length (entry .args .report .now)) room
+      (length (entry .args .scratch .now))) (c .refusal .result .number) (c .refusal .result .place)
+  short =
+      let n = c .before .before .ops .ensures .is ∙ sym (accepted (c .before .before .before) .laid .N-is) in
+      subst (λ (k : ℕ). answers (room-refusal (sheet-in (entry .args .sheet .now)) (length (entry .args .inbox .now)) (length (entry .args .report .now))
+      k (length (entry .args .scratch .now))) (c .refusal .result .number) (c .refusal .result .place)) (c .before .order-room .ensures ∙ ap order-room n)
+      (c .refusal .ensures)
+
+  enough : c .refusal .result .number ≡ 0 →
+      Ready (entry .args .sheet .now) (length (entry .args .inbox .now)) (length (entry .args .report .now)) room (length (entry .args .scratch .now))
+  enough z = ready (accepted (c .before .before .before)) _ _ _ _ _ _ short z
 
 returns : tie.Need-returns
 returns c =
-    let a = c .before .before .before .before .before .before .before .before .args in
     let k = c .before .before .check in
+    let a = c .before .before .before .before .before .before .before .before .args in
     follow-sheet (a .sheet .now) (a .order .now) (a .inbox .now) (a .report .now) (a .scratch .now) (k .result .number) (k .result .place)
-    (check-told (a .sheet .now) (k .result .number) (k .result .place) (k .ensures)) (c .if1 .taken)
-
-ops-requires : tie.Need-ops-requires
-ops-requires c κs =
-    let q = settled (c .before .before .before .before .before .before .before .before .args .sheet .now) (c .before .before .check .result .number) (c .before .before .check .result .place) (c .before .before .check .ensures) (c .if1 .left) in
-    omega (arith, q .laid .whole)
-
-mul-refusal : tie.Need-mul-refusal
-mul-refusal c = search needs
-
-refusal-requires : tie.Need-refusal-requires
-refusal-requires c κs = settled (c .before .before .before .before .before .before .before .before .before .args .sheet .now) (c .before .before .before .check .result .number) (c .before .before .before .check .result .place) (c .before .before .before .check .ensures) (c .before .if1 .left) .laid
-
--- the rooms' refusal, with the order's own room
-short : (c : tie.After-refusal) → answers (room-refusal (sheet-in (c .before .before .before .before .before .before .before .before .before .before .args .sheet .now)) (length (c .before .before .before .before .before .before .before .before .before .before .args .inbox .now)) (length (c .before .before .before .before .before .before .before .before .before .before .args .report .now)) (order-room (N-of (sheet-in (c .before .before .before .before .before .before .before .before .before .before .args .sheet .now)))) (length (c .before .before .before .before .before .before .before .before .before .before .args .scratch .now))) (c .refusal .result .number) (c .refusal .result .place)
-short c =
-    let a = c .before .before .before .before .before .before .before .before .before .before .args in
-    rooms-as (a .sheet .now) (length (a .inbox .now)) (length (a .report .now)) (c .before .ops .result) (length (a .scratch .now)) (c .refusal .result .number) (c .refusal .result .place) (c .before .ops .ensures .is) (c .refusal .ensures)
-
-enough : (c : tie.After-refusal) → c .refusal .result .number ≡ 0 → room-refusal (sheet-in (c .before .before .before .before .before .before .before .before .before .before .args .sheet .now)) (length (c .before .before .before .before .before .before .before .before .before .before .args .inbox .now)) (length (c .before .before .before .before .before .before .before .before .before .before .args .report .now)) (order-room (N-of (sheet-in (c .before .before .before .before .before .before .before .before .before .before .args .sheet .now)))) (length (c .before .before .before .before .before .before .before .before .before .before .args .scratch .now)) .number ≡ 0
-enough c z =
-    let a = c .before .before .before .before .before .before .before .before .before .before .args in
-    sym (number-of (room-refusal (sheet-in (a .sheet .now)) (length (a .inbox .now)) (length (a .report .now)) (order-room (N-of (sheet-in (a .sheet .now)))) (length (a .scratch .now))) (c .refusal .result .number) (c .refusal .result .place) (short c)) ∙ z
+    (k .ensures) (c .if1 .taken)
 
 returns-2 : tie.Need-returns-2
 returns-2 c =
-    let a = c .before .before .before .before .before .before .before .before .before .before .before .before .args in
-    let q = settled (a .sheet .now) (c .before .before .before .before .before .before .check .result .number) (c .before .before .before .before .before .before .check .result .place) (c .before .before .before .before .before .before .check .ensures) (c .before .before .before .before .if1 .left) in
-    let k = c .before .before .refusal in
-    follow-rooms (a .sheet .now) (a .order .now) (a .inbox .now) (a .report .now) (a .scratch .now) (q .unrefused) (k .result .number) (k .result .place) (short (c .before .before)) (c .if2 .taken)
-
-follow-requires : tie.Need-follow-requires
-follow-requires c κs =
-    let a = c .before .before .before .before .before .before .before .before .before .before .before .before .before .before .before .args in
-    let q = settled (a .sheet .now) (c .before .before .before .before .before .before .before .before .before .check .result .number) (c .before .before .before .before .before .before .before .before .before .check .result .place) (c .before .before .before .before .before .before .before .before .before .check .ensures) (c .before .before .before .before .before .before .before .if1 .left) in
-    (q .laid, q .good, roomy (sheet-in (a .sheet .now)) (length (a .inbox .now)) (length (a .report .now)) (order-room (N-of (sheet-in (a .sheet .now)))) (length (a .scratch .now)) (enough (c .before .before .before .before .before) (c .before .before .before .if2 .left)))
-
-same-length : tie.Need-same-length
-same-length c = search needs
-
-same-length-2 : tie.Need-same-length-2
-same-length-2 c = search needs
-
-same-length-3 : tie.Need-same-length-3
-same-length-3 c = search needs
+    let k = c .before .before in
+    let g = accepted (k .before .before .before) in
+    let a = entry k .args in
+    follow-rooms (a .sheet .now) (a .order .now) (a .inbox .now) (a .report .now) (a .scratch .now) g (rooms-refused g _ _ _ _ _ _ (short k) (c .if2 .taken))
 
 returns-3 : tie.Need-returns-3
 returns-3 c =
-    let a = c .before .before .before .before .before .before .before .before .before .before .before .before .before .before .before .before .before .before .before .before .before .before .args in
-    let q = settled (a .sheet .now) (c .before .before .before .before .before .before .before .before .before .before .before .before .before .before .before .before .check .result .number) (c .before .before .before .before .before .before .before .before .before .before .before .before .before .before .before .before .check .result .place) (c .before .before .before .before .before .before .before .before .before .before .before .before .before .before .before .before .check .ensures) (c .before .before .before .before .before .before .before .before .before .before .before .before .before .before .if1 .left) in
     let f = c .before .before .before .before .before .before .follow in
-    follow-done (a .sheet .now) (a .order .now) (a .inbox .now) (a .report .now) (a .scratch .now) (q .unrefused) (enough (c .before .before .before .before .before .before .before .before .before .before .before .before) (c .before .before .before .before .before .before .before .before .before .before .if2 .left))
+    let k = c .before .before .before .before .before .before .before .before .before .before .before .before in
+    let a = entry k .args in
+    follow-done (a .sheet .now) (a .order .now) (a .inbox .now) (a .report .now) (a .scratch .now) (accepted (k .before .before .before))
+    (enough k (c .before .before .before .before .before .before .before .before .before .before .if2 .left) .roomy)
     (f .result .number) (f .result .place) (f .last .1 .1 .0) (f .last .1 .1 .1 .0) (f .last .1 .1 .1 .1 .0) (f .ensures)
 
 pub jamturret-follow-spec : {M : Type 1} → statement M
 jamturret-follow-spec =
     tie.close
     (tie.spec
-    check-requires
+    (λ c κs. search needs)
     returns
-    ops-requires
-    mul-refusal
-    refusal-requires
+    (λ c κs. let l = accepted c .laid in search needs)
+    (λ c κs. search needs)
+    (λ c κs. accepted (c .before .before) .laid)
     returns-2
-    follow-requires
-    same-length
-    same-length-2
-    same-length-3
+    (λ c κs. enough (c .before .before .before .before .before) (c .before .before .before .if2 .left))
+    (λ c. search needs)
+    (λ c. search needs)
+    (λ c. search needs)
     returns-3)
