@@ -40,7 +40,7 @@ refused f n p t h l =
       early = l;
     }
 
-refused-as : {f g : Refusal} {n p : ℕ} → f ≡ g → Refused g n p → Refused f n p
+pub refused-as : {f g : Refusal} {n p : ℕ} → f ≡ g → Refused g n p → Refused f n p
 refused-as {f} {g} {n} {p} e q = subst (λ (h : Refusal). Refused h n p) (sym e) q
 
 pub refused-first : {a : Refusal} {n p : ℕ} (b : Refusal) → Refused a n p → Refused (or-else a b) n p

@@ -2,13 +2,14 @@
 -- Assumes nothing.
 --   Finished                  deliveries, report and scratch at the end of a job
 --   Follow-does, Run-does     the outcome past sheet and rooms
---   follow-says, run-says     the whole outcome from that; follow-refuses, run-refuses: of a refusal of sheet or rooms
---   Settled, settled          what an accepting check has settled
-use mathlib.Core.Path.{_≡_, refl, sym, _∙_, ap}
+--   chain-sheet, chain-rooms  the refusal that is asked first; early, ready: what it has settled
+--   follow-done, run-done     the whole outcome; follow-refused, run-refused: of a refusal of sheet or rooms
+use mathlib.Core.Path.{_≡_, refl, sym, _∙_, ap, subst}
 use mathlib.Core.List.{List}
 use mathlib.Core.Option.{Option, none, some}
-use Prim.Native.Nat.{ℕ}
+use Prim.Native.Nat.{ℕ, _≤_}
 use native.Mathlib.Omega.{arith}
+use native.Mathlib.Decide.{ℕ-discrete}
 use lib.ListN.{length, replicate}
 use Rattle.rules.specs.Limits.{order-room}
 use Rattle.rules.specs.Sheet.{sheet-in, N-of}
@@ -19,46 +20,57 @@ use Rattle.rules.specs.Report.{report}
 use Rattle.rules.specs.Service.{answers, room-refusal, order-refusal, in-front, kept-or, scratch-left, Check-says}
 use Rattle.rules.specs.Service.{follow-refusal, Follow-says, run-refusal, Run-says}
 use Rattle.laws.specs.Laid.{Laid}
-use Rattle.invariant.specs.sheet.Valid.{Valid}
+use Rattle.laws.specs.Tabled.{or-else-first, or-else-second}
 use Rattle.invariant.specs.sheet.FromBytes.{unrefused-accepted, accepted-laid, good-from-accepted}
 use Rattle.state.specs.declared.Control.{Control}
 use Rattle.simulation.specs.Represents.{Represents}
-use Rattle.jamturret.specs.Chain.{or-else-behind, number-of, Refused, refused, refused-first, refused-second, kept, scratch-kept}
-use Rattle.jamturret.specs.Rooms.{sheet-most, room-most, Roomy, rooms-enough, roomy, Ready}
+use Rattle.jamturret.specs.Chain.{or-else-here, or-else-behind, number-of, Refused, refused, refused-as, refused-first, refused-second, kept, scratch-kept}
+use Rattle.jamturret.specs.Rooms.{or-else-most, sheet-most, room-most, order-unasked, Roomy, rooms-enough, roomy, Ready}
 
--- CHECK'S ANSWER, and what an accepting one has settled
-pub record Settled (bs : List ℕ) : Type 0 where
-  pub unrefused : sheet-refusal bs .number ≡ 0
-  pub laid : Laid bs
-  pub good : Valid (sheet-in bs)
+-- SHEET AND ROOMS, which are asked first: check's answer, or the rooms'
+pub chain-sheet : (bs : List ℕ) (i r o c n p : ℕ) → Check-says bs n p → (n ≡ 0 → ⊥) → answers (run-refusal bs i r o c) n p
+unfolding Check-says run-refusal
+chain-sheet bs i r o c n p t h =
+    refused-first (room-refusal (sheet-in bs) i r o c) (refused (sheet-refusal bs) n p t h (let l = sheet-most bs in omega arith)) .answered
 
-pub settled : (bs : List ℕ) (n p : ℕ) → Check-says bs n p → n ≡ 0 → Settled bs
+pub check-accepts : (bs : List ℕ) (n p : ℕ) → Check-says bs n p → n ≡ 0 → sheet-refusal bs .number ≡ 0
 unfolding Check-says
-settled bs n p h z =
-    let e : sheet-refusal bs .number ≡ 0 = sym (number-of (sheet-refusal bs) n p h) ∙ z in
-    let a = unrefused-accepted bs e in
-    record {
-      unrefused = e;
-      laid = accepted-laid bs a;
-      good = good-from-accepted bs a;
-    }
+check-accepts bs n p h z = sym (number-of (sheet-refusal bs) n p h) ∙ z
 
-pub sheet-refused : (bs : List ℕ) (n p : ℕ) → Check-says bs n p → (n ≡ 0 → ⊥) → Refused (sheet-refusal bs) n p
-unfolding Check-says
-sheet-refused bs n p t h = refused (sheet-refusal bs) n p t h (let l = sheet-most bs in omega arith)
+pub chain-rooms : (bs : List ℕ) (i r o c n p : ℕ) → sheet-refusal bs .number ≡ 0 → answers (room-refusal (sheet-in bs) i r o c) n p →
+    answers (run-refusal bs i r o c) n p
+unfolding run-refusal
+chain-rooms bs i r o c n p e t =
+    subst (λ (f : Refusal). answers f n p) (sym (or-else-behind (sheet-refusal bs) (room-refusal (sheet-in bs) i r o c) e)) t
 
--- the rooms' answer on a sheet that check accepts
-module _ {bs : List ℕ} (g : Settled bs) (i r o c n p : ℕ) (t : answers (room-refusal (sheet-in bs) i r o c) n p) where
-  pub rooms-refused : (n ≡ 0 → ⊥) → Refused (room-refusal (sheet-in bs) i r o c) n p
-  rooms-refused h = refused (room-refusal (sheet-in bs) i r o c) n p t h (room-most (sheet-in bs) i r o c)
+pub unrefused-laid : (bs : List ℕ) → sheet-refusal bs .number ≡ 0 → Laid bs
+unrefused-laid bs e = accepted-laid bs (unrefused-accepted bs e)
 
-  pub ready : n ≡ 0 → Ready bs i r o c
-  ready z =
-      record {
-        laid = g .laid;
-        good = g .good;
-        roomy = roomy (sheet-in bs) i r o c (sym (number-of (room-refusal (sheet-in bs) i r o c) n p t) ∙ z);
-      }
+module _ (bs : List ℕ) (i r o c n p : ℕ) (t : answers (run-refusal bs i r o c) n p) where
+  pub early : (n ≡ 0 → ⊥) → Refused (run-refusal bs i r o c) n p
+  unfolding run-refusal
+  early h =
+      let l = sheet-most bs in
+      refused (run-refusal bs i r o c) n p t h
+      (or-else-most 8 (sheet-refusal bs) (room-refusal (sheet-in bs) i r o c) (omega arith) (room-most (sheet-in bs) i r o c))
+
+  module _ (z : n ≡ 0) where
+    zero-number : run-refusal bs i r o c .number ≡ 0
+    zero-number = sym (number-of (run-refusal bs i r o c) n p t) ∙ z
+
+    pub unrefused : sheet-refusal bs .number ≡ 0
+    unfolding run-refusal
+    unrefused = or-else-first (sheet-refusal bs) (room-refusal (sheet-in bs) i r o c) zero-number
+
+    pub ready : Ready bs i r o c
+    unfolding run-refusal
+    ready =
+        let a = unrefused-accepted bs unrefused in
+        record {
+          laid = accepted-laid bs a;
+          good = good-from-accepted bs a;
+          roomy = roomy (sheet-in bs) i r o c (or-else-second (sheet-refusal bs) (room-refusal (sheet-in bs) i r o c) zero-number);
+        }
 
 -- THE END of a job that stands in scratch
 pub record Finished (bs : List ℕ) (t : Control) (i i-now r r-now c c-now : List ℕ) : Type 0 where
@@ -97,18 +109,23 @@ module _ (bs o i r c : List ℕ) where
   abbrev ordered : Refusal
   ordered = order-refusal (follow (sheet-in bs) o i .refused-at)
 
-  -- sheet or rooms are refused
-  says-refused : {n p : ℕ} → Refused (follow-refusal bs o i (length r) (length c)) n p → Follow-says bs o n p i i r r c c
-  unfolding Follow-says
-  says-refused q = (q .answered, kept q _ i, kept q _ r, scratch-kept q c)
+  -- sheet or rooms are refused, whatever room long enough for an order is lent
+  pub follow-refused : (room n p : ℕ) → (Laid bs → order-room (N-of (sheet-in bs)) ≤ room) →
+      Refused (run-refusal bs (length i) (length r) room (length c)) n p → Follow-says bs o n p i i r r c c
+  unfolding Follow-says follow-refusal run-refusal
+  follow-refused room n p wide q =
+      let e = chain (ℕ-discrete (sheet-refusal bs .number) 0) in
+      (e .answered, kept e _ i, kept e _ r, scratch-kept e c)
+    where
+      lent : Refusal
+      lent = room-refusal (sheet-in bs) (length i) (length r) room (length c)
 
-  pub follow-sheet : (n p : ℕ) → Check-says bs n p → (n ≡ 0 → ⊥) → Follow-says bs o n p i i r r c c
-  unfolding follow-refusal
-  follow-sheet n p t h = says-refused (refused-first (or-else rooms ordered) (sheet-refused bs n p t h))
-
-  pub follow-rooms : Settled bs → {n p : ℕ} → Refused rooms n p → Follow-says bs o n p i i r r c c
-  unfolding follow-refusal
-  follow-rooms g q = says-refused (refused-second (sheet-refusal bs) (g .unrefused) (refused-first ordered q))
+      chain : Dec (sheet-refusal bs .number ≡ 0) → Refused (or-else (sheet-refusal bs) (or-else rooms ordered)) n p
+      chain (no h) = refused-first (or-else rooms ordered) (refused-as (sym (or-else-here (sheet-refusal bs) lent h)) q)
+      chain (yes e) =
+          let same = or-else-behind (sheet-refusal bs) lent e
+          ∙ order-unasked (sheet-in bs) (length i) (length r) room (length c) (wide (unrefused-laid bs e)) in
+          refused-second (sheet-refusal bs) e (refused-first ordered (refused-as (sym same) q))
 
   -- both are accepted
   zeroed-left : (k : Option ℕ) → replicate (length c) 0 ≡ scratch-left (order-refusal k .number) c
@@ -116,13 +133,13 @@ module _ (bs o i r c : List ℕ) where
   zeroed-left none = refl
   zeroed-left (some k) = refl
 
-  pub follow-done : Settled bs → Roomy (sheet-in bs) (length i) (length r) (order-room (N-of (sheet-in bs))) (length c) →
+  pub follow-done : sheet-refusal bs .number ≡ 0 → Roomy (sheet-in bs) (length i) (length r) (order-room (N-of (sheet-in bs))) (length c) →
       (n p : ℕ) (i-now r-now c-now : List ℕ) → Follow-does bs o n p i i-now r r-now c c-now →
       Follow-says bs o n p i i-now r r-now c c-now
   unfolding Follow-says Follow-does follow-refusal refusal
   follow-done g q n p i-now r-now c-now h =
       let z = ap (λ (f : Refusal). f .number) (rooms-enough (sheet-in bs) (length i) (length r) (order-room (N-of (sheet-in bs))) (length c) q) in
-      let e = or-else-behind (sheet-refusal bs) (or-else rooms ordered) (g .unrefused) ∙ or-else-behind rooms ordered z in
+      let e = or-else-behind (sheet-refusal bs) (or-else rooms ordered) g ∙ or-else-behind rooms ordered z in
       rw e (h .0, h .1, h .2, h .3 ∙ zeroed-left (follow (sheet-in bs) o i .refused-at))
 
 -- RUN, past sheet and rooms
@@ -146,22 +163,14 @@ module _ (bs i r o c : List ℕ) where
   abbrev run-rooms : Refusal
   run-rooms = room-refusal (sheet-in bs) (length i) (length r) (length o) (length c)
 
-  run-says-refused : {n p : ℕ} → Refused (run-refusal bs (length i) (length r) (length o) (length c)) n p → Run-says bs n p i i r r o o c c
+  pub run-refused : (n p : ℕ) → Refused (run-refusal bs (length i) (length r) (length o) (length c)) n p → Run-says bs n p i i r r o o c c
   unfolding Run-says
-  run-says-refused q = (q .answered, kept q _ i, kept q _ r, kept q _ o, scratch-kept q c)
+  run-refused n p q = (q .answered, kept q _ i, kept q _ r, kept q _ o, scratch-kept q c)
 
-  pub run-sheet : (n p : ℕ) → Check-says bs n p → (n ≡ 0 → ⊥) → Run-says bs n p i i r r o o c c
-  unfolding run-refusal
-  run-sheet n p t h = run-says-refused (refused-first run-rooms (sheet-refused bs n p t h))
-
-  pub run-short : Settled bs → {n p : ℕ} → Refused run-rooms n p → Run-says bs n p i i r r o o c c
-  unfolding run-refusal
-  run-short g q = run-says-refused (refused-second (sheet-refusal bs) (g .unrefused) q)
-
-  pub run-done : Settled bs → Roomy (sheet-in bs) (length i) (length r) (length o) (length c) →
+  pub run-done : sheet-refusal bs .number ≡ 0 → Roomy (sheet-in bs) (length i) (length r) (length o) (length c) →
       (n p : ℕ) (i-now r-now o-now c-now : List ℕ) → Run-does bs n p i i-now r r-now o o-now c c-now →
       Run-says bs n p i i-now r r-now o o-now c c-now
   unfolding Run-says Run-does run-refusal refusal kept-or scratch-left
   run-done g q n p i-now r-now o-now c-now h =
-      let e = or-else-behind (sheet-refusal bs) run-rooms (g .unrefused) ∙ rooms-enough (sheet-in bs) (length i) (length r) (length o) (length c) q in
+      let e = or-else-behind (sheet-refusal bs) run-rooms g ∙ rooms-enough (sheet-in bs) (length i) (length r) (length o) (length c) q in
       rw e h

@@ -4,7 +4,7 @@
 --   short-inbox ..          the first short room is the answer; rooms-enough: none is
 --   Roomy, roomy            what rooms that are not refused are
 --   Ready                   a sheet that passes check, and such rooms
-use mathlib.Core.Path.{_≡_, _∙_, ap}
+use mathlib.Core.Path.{_≡_, sym, _∙_, ap}
 use mathlib.Core.Bool.{Bool, true, false, not, cond}
 use mathlib.Core.List.{List}
 use Prim.Native.Nat.{ℕ, zero, suc, _<_, _≤_}
@@ -31,7 +31,7 @@ broken-most n m f (suc k) i l = go (f i) (broken-most n m f k (suc i) l)
     go true h = h
     go false h = l
 
-or-else-most : (m : ℕ) (a b : Refusal) → a .number ≤ m → b .number ≤ m → or-else a b .number ≤ m
+pub or-else-most : (m : ℕ) (a b : Refusal) → a .number ≤ m → b .number ≤ m → or-else a b .number ≤ m
 unfolding or-else
 or-else-most m a b l k = go (eqb (a .number) 0)
   where
@@ -143,3 +143,25 @@ module _ (s : Sheet) (i r o c : ℕ) where
         order = order;
         scratch = omega arith;
       }
+
+-- follow is lent no room for an order: any room that is long enough is as good as the order's own
+pub order-unasked : (s : Sheet) (i r o c : ℕ) → order-room (N-of s) ≤ o → room-refusal s i r o c ≡ room-refusal s i r (order-room (N-of s)) c
+unfolding room-refusal
+order-unasked s i r o c h =
+    let room = order-room (N-of s) in
+    ap (λ (b : Bool). cond (ltb i (inbox-total s)) (refusal 8 1) (cond (ltb r (report-size (P-of s) (N-of s))) (refusal 8 2) (cond b (refusal 8 3) (behind-order s i r o c))))
+    (le-ltb o room h ∙ sym (le-ltb room room (omega arith)))
+
+pub own-order : {bs : List ℕ} {i r o c : ℕ} → Ready bs i r o c → Ready bs i r (order-room (N-of (sheet-in bs))) c
+own-order q =
+    record {
+      laid = q .laid;
+      good = q .good;
+      roomy =
+          record {
+            inbox = q .roomy .inbox;
+            report = q .roomy .report;
+            order = omega arith;
+            scratch = q .roomy .scratch;
+          };
+    }
