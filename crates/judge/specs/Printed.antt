@@ -13,23 +13,22 @@ use borrow.Author.Tests.{eq-eqb}
 use Rattle.rules.specs.Limits.{most-boards, most-ops, most-inbox, report-size, order-room, scratch-size}
 use Rattle.rules.specs.Sheet.{Sheet, sheet-in, P-of, N-of}
 use Rattle.rules.specs.Job.{Job}
-use Rattle.rules.specs.Refusal.{Refusal, refusal, accepted, or-else, sheet-refusal}
+use Rattle.rules.specs.Refusal.{Refusal, refusal, accepted, sheet-refusal}
 use Rattle.rules.specs.Step.{splice}
 use Rattle.rules.specs.Order.{run}
 use Rattle.rules.specs.Report.{report}
 use Rattle.rules.specs.Service.{answers, room-refusal, in-front, kept-or, run-refusal, Run-says}
 use Rattle.laws.specs.Tests.{cond-true}
 use Rattle.laws.specs.Laid.{Laid}
-use Rattle.laws.specs.Tabled.{or-else-first, or-else-second}
-use Rattle.invariant.specs.sheet.Valid.{Valid}
 use Rattle.invariant.specs.sheet.FromBytes.{unrefused-accepted, accepted-laid, good-from-accepted}
 use Rattle.invariant.specs.deliveries.Commute.{ground}
 use Rattle.invariant.specs.preserve.Orders.{left-reached}
 use Rattle.promises.specs.claims.RunEnds.{run-ended}
 use Rattle.promises.specs.compare.ReportBytes.{report-length}
 use Rattle.promises.specs.claims.Calls.{front-report}
-use Rattle.jamturret.specs.Chain.{or-else-here, or-else-behind}
-use Rattle.jamturret.specs.Rooms.{Roomy, roomy, rooms-enough}
+use Rattle.jamturret.specs.Chain.{or-else-here, or-else-behind, number-of}
+use Rattle.jamturret.specs.Rooms.{rooms-enough, Ready}
+use Rattle.jamturret.specs.Outcomes.{ready}
 use Rattle.judge.specs.Text.{hex-line, hex-line-length}
 
 -- the longest report, the longest order, and the longest line: three places a byte
@@ -87,45 +86,30 @@ checks bs n p t = go (ℕ-discrete (sheet-refusal bs .number) 0)
         (none ∙ sym e, λ h. absurd (h none))
 
 module _ (bs i i' r r' o o' c c' : List ℕ) (n p : ℕ) (said : Run-says bs n p i i' r r' o o' c c') (z : n ≡ 0) where
-  s : Sheet
+  abbrev s : Sheet
   s = sheet-in bs
 
-  rooms : Refusal
-  rooms = room-refusal s (length i) (length r) (length o) (length c)
-
-  whole-zero : or-else (sheet-refusal bs) rooms .number ≡ 0
-  unfolding Run-says answers run-refusal rooms s
-  whole-zero = sym (said .0 .0) ∙ z
-
-  unrefused : sheet-refusal bs .number ≡ 0
-  unrefused = or-else-first (sheet-refusal bs) rooms whole-zero
-
-  enough : Roomy s (length i) (length r) (length o) (length c)
-  unfolding rooms
-  enough = roomy s (length i) (length r) (length o) (length c) (or-else-second (sheet-refusal bs) rooms whole-zero)
+  given : Ready bs (length i) (length r) (length o) (length c)
+  unfolding Run-says
+  given = ready bs (length i) (length r) (length o) (length c) n p (said .0) z
 
   pub sheet-laid : Laid bs
-  sheet-laid = accepted-laid bs (unrefused-accepted bs unrefused)
-
-  good : Valid s
-  unfolding s
-  good = good-from-accepted bs (unrefused-accepted bs unrefused)
+  sheet-laid = given .laid
 
   long : length (run s i .end .entries) ≡ N-of s
   long =
-      ap (λ (x : Job). length (x .entries)) (sym (run-ended good (ground s good) i (enough .inbox) .same-job))
-      ∙ left-reached good (ground s good) (enough .inbox) (run s i .order) .placed .entries-long
+      ap (λ (x : Job). length (x .entries)) (sym (run-ended (given .good) (ground s (given .good)) i (given .roomy .inbox) .same-job))
+      ∙ left-reached (given .good) (ground s (given .good)) (given .roomy .inbox) (run s i .order) .placed .entries-long
 
   reported : r' ≡ in-front (report s (run s i .end)) r
-  unfolding Run-says answers run-refusal kept-or rooms s
+  unfolding Run-says kept-or
   reported =
-      said .2
-      ∙ cond-true (eqb (or-else (sheet-refusal bs) rooms .number) 0) (in-front (report s (run s i .end)) r) r
-      (eq-eqb (or-else (sheet-refusal bs) rooms .number) 0 whole-zero)
+      let f = run-refusal bs (length i) (length r) (length o) (length c) in
+      let e : f .number ≡ 0 = sym (number-of f n p (said .0)) ∙ z in
+      said .2 ∙ cond-true (eqb (f .number) 0) (in-front (report s (run s i .end)) r) r (eq-eqb (f .number) 0 e)
 
   -- the report's own bytes are the report
   pub own-report : take (report-size (P-of (sheet-in bs)) (N-of (sheet-in bs))) r' ≡ report (sheet-in bs) (run (sheet-in bs) i .end)
-  unfolding s
   own-report =
       ap (λ (w : List ℕ). take (report-size (P-of s) (N-of s)) w) reported
       ∙ front-report (report s (run s i .end)) r (report-size (P-of s) (N-of s)) (report-length s (run s i .end) long)
