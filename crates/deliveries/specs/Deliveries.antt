@@ -1,10 +1,11 @@
 -- Deliveries from what scratch holds: rows tell which receives are matched and with which message. A copy into a part of the
 -- inboxes is the delivery of rules, and all of them in script order are the job's memory. Assumes nothing.
 --   Deliverable       the sheet passes check, and the partner of a matched receive is a send
---   replay-in          the delivery that row j tells; replayed-in those of the first n rows
+--   Sent, Inbox-at    a message and its receive; where a board's inbox starts
+--   replay-in         the delivery that row j tells; replayed-in those of the first n rows
 --   part-splice       bytes put at the front of a part that comes back
 --   delivered-part    such a copy is a delivery; delivered-cut: a cut message leaves all as it was
---   Painting          the first i operations are delivered; Scripting, Filling: so far in a board's script, in the scripts
+--   Replaying         the first i operations are delivered; Scripting, Filling: so far in a board's script, in the scripts
 --   memory-is         all of them are the memory of the job that stands there
 use mathlib.Core.Path.{_≡_, refl, sym, ap, subst, _∙_}
 use mathlib.Core.Bool.{Bool, true, false, _&&_, cond}
@@ -23,18 +24,16 @@ use Rattle.rules.specs.Job.{Job, Entry, entry-at}
 use Rattle.rules.specs.Step.{splice, area-start, is-cut, copied, delivered}
 use Rattle.laws.specs.Tests.{true-not-false}
 use Rattle.laws.specs.Laid.{Laid}
-use Rattle.laws.specs.Decoded.{payload-decoded}
 use Rattle.laws.specs.Ranks.{inbox-start-none, counts-none, inbox-start-more, counts-more}
-use Rattle.words.specs.Splice.{splice-none}
-use Rattle.invariant.specs.sheet.Valid.{Valid}
+use Rattle.laws.specs.Splice.{splice-none}
+use Rattle.invariant.specs.sheet.Valid.{Valid, good-first}
 use Rattle.invariant.specs.Invariant.{replay, replayed}
-use Rattle.invariant.specs.sheet.Extents.{send-extent, area-inside}
+use Rattle.invariant.specs.sheet.Extents.{send-inside, send-extent, area-inside}
 use Rattle.state.specs.declared.Control.{Control}
 use Rattle.state.specs.Layout.{row-at}
 use Rattle.state.specs.Decoded.{entry-in}
 use Rattle.state.specs.Decodes.{entry-is}
 use Rattle.simulation.specs.Represents.{Represents, Represented}
-use Rattle.invariant.specs.sheet.Valid.{good-first}
 
 -- what deliveries are given
 pub record Deliverable (bs c : List ℕ) : Type 0 where
@@ -56,6 +55,33 @@ deliverable bs c t g =
           subst (λ (e : Entry). is-send (op (sheet-in bs) (e .partner)) ≡ true) (sym row)
           (h .reached .stable .receive-met j receives (sym (ap (λ (e : Entry). e .state) row) ∙ state) .sends);
     }
+
+-- message m goes to receive r
+pub record Sent (bs : List ℕ) (m r : ℕ) : Type 0 where
+  pub laid : Laid bs
+  pub good : Valid (sheet-in bs)
+  pub sends : is-send (op (sheet-in bs) m) ≡ true
+  pub receives : is-receive (op (sheet-in bs) r) ≡ true
+  pub message-inside : m < N-of (sheet-in bs)
+  pub receive-inside : r < N-of (sheet-in bs)
+
+pub sent-to : {bs c : List ℕ} {m r : ℕ} → Deliverable bs c → r < N-of (sheet-in bs) → is-receive (op (sheet-in bs) r) ≡ true →
+    entry-in c (row-at r) .state ≡ 3 → m ≡ entry-in c (row-at r) .partner → Sent bs m r
+sent-to {bs} {c} {m} {r} d l receives state e =
+    let sends : is-send (op (sheet-in bs) m) ≡ true = ap (λ (k : ℕ). is-send (op (sheet-in bs) k)) e ∙ d .sent r l receives state in
+    record {
+      laid = d .laid;
+      good = d .good;
+      sends = sends;
+      receives = receives;
+      message-inside = send-inside (sheet-in bs) m sends;
+      receive-inside = l;
+    }
+
+-- the inbox of board r starts at `start`, and the inboxes have their room
+pub record Inbox-at (s : Sheet) (r start : ℕ) (inbox : List ℕ) : Type 0 where
+  pub starts : start ≡ inbox-start s r
+  pub room : inbox-total s ≤ length inbox
 
 -- the delivery that row j tells, if it tells one; and those of the first n rows, in script order
 unfoldable pub replay-in : Sheet → (c : List ℕ) → (j : ℕ) → List ℕ → List ℕ
@@ -89,52 +115,55 @@ part-splice xs a e vs l h m =
     ∙ ap (λ (z : List ℕ). take a xs ++ (vs ++ z)) (drop-drop (length vs) a xs)
 
 -- ONE MESSAGE m to receive r
-module _ (bs : List ℕ) (l : Laid bs) (g : Valid (sheet-in bs)) (m r : ℕ)
-    (sends : is-send (op (sheet-in bs) m) ≡ true) (receives : is-receive (op (sheet-in bs) r) ≡ true) where
+module _ {bs : List ℕ} {m r : ℕ} (d : Sent bs m r) where
   abbrev sheet : Sheet
   sheet = sheet-in bs
 
+  abbrev payload-start : ℕ
+  payload-start = payload-at (P-in bs) (N-in bs)
+
   -- the message's bytes lie inside the sheet, the area inside the inboxes
-  pub message-end : payload-at (P-in bs) (N-in bs) + (op sheet m .offset + op sheet m .long) ≤ length bs
-  message-end = omega (arith, l .whole, send-extent sheet g m sends, payload-decoded bs (l .whole))
+  pub message-end : payload-start + (op sheet m .offset + op sheet m .long) ≤ length bs
+  message-end = omega (arith, d .laid .whole, send-extent sheet (d .good) m (d .sends), d .laid .payload-is)
 
   pub area-end : (inbox-start sheet (rank-of sheet r) + op sheet r .offset) + op sheet r .long ≤ inbox-total sheet
   unfolding area-start
-  area-end = area-inside sheet g r receives
+  area-end = area-inside sheet (d .good) r (d .receives)
 
   -- a part of the payload, as the sheet's bytes have it
   payload-part : (off n : ℕ) → off + n ≤ length (sheet .payload) →
-      take n (drop off (sheet .payload)) ≡ take n (drop (payload-at (P-in bs) (N-in bs) + off) bs)
+      take n (drop off (sheet .payload)) ≡ take n (drop (payload-start + off) bs)
   unfolding sheet-in
   payload-part off n h =
-      let pa = payload-at (P-in bs) (N-in bs) in
-      let long : length (drop pa bs) ≡ length bs - pa = length-drop pa bs in
-      take-part n (L-in bs) (drop pa bs) off (omega (arith, payload-decoded bs (l .whole))) (omega (arith, l .whole))
-      ∙ ap (λ (z : List ℕ). take n z) (drop-drop off pa bs)
+      let long : length (drop payload-start bs) ≡ length bs - payload-start = length-drop payload-start bs in
+      take-part n (L-in bs) (drop payload-start bs) off (omega (arith, d .laid .payload-is)) (omega (arith, d .laid .whole))
+      ∙ ap (λ (z : List ℕ). take n z) (drop-drop off payload-start bs)
 
   -- a message that is longer than the area leaves all as it was
   pub delivered-cut : (inbox : List ℕ) → inbox-total sheet ≤ length inbox → op sheet r .long < op sheet m .long →
       inbox ≡ delivered sheet m r inbox
   unfolding delivered copied is-cut area-start
   delivered-cut inbox room longer =
-      let none : copied sheet m r ≡ 0 = ap (λ (b : Bool). cond b 0 (op sheet m .long)) (lt-ltb (op sheet r .long) (op sheet m .long) longer) in
+      let none : copied sheet m r ≡ 0 =
+      ap (λ (b : Bool). cond b 0 (op sheet m .long)) (lt-ltb (op sheet r .long) (op sheet m .long) longer) in
       sym
       (ap (λ (n : ℕ). splice inbox (area-start sheet r) (take n (drop (op sheet m .offset) (sheet .payload)))) none
       ∙ splice-none inbox (area-start sheet r) (omega (arith, area-end)))
 
   -- any other is copied to the front of the part that is the area
   pub delivered-part : (inbox : List ℕ) (from size area end : ℕ) → inbox-total sheet ≤ length inbox →
-      (op sheet r .long < op sheet m .long → ⊥) →
-      from ≡ payload-at (P-in bs) (N-in bs) + op sheet m .offset → size ≡ op sheet m .long → area ≡ area-start sheet r → end ≡ area + op sheet r .long →
+      size ≤ op sheet r .long → from ≡ payload-start + op sheet m .offset → size ≡ op sheet m .long →
+      area ≡ inbox-start sheet (rank-of sheet r) + op sheet r .offset → end ≡ area + op sheet r .long →
       putMid area (end - area) inbox (splice (midOf area (end - area) inbox) 0 (take size (drop from bs))) ≡ delivered sheet m r inbox
   unfolding delivered copied is-cut area-start
-  delivered-part inbox from size area end room whole ef es ea ee =
-      let all : copied sheet m r ≡ op sheet m .long = ap (λ (b : Bool). cond b 0 (op sheet m .long)) (le-ltb (op sheet r .long) (op sheet m .long) (omega arith)) in
+  delivered-part inbox from size area end room fits ef es ea ee =
+      let all : copied sheet m r ≡ op sheet m .long =
+      ap (λ (b : Bool). cond b 0 (op sheet m .long)) (le-ltb (op sheet r .long) (op sheet m .long) (omega arith)) in
       let inside : from + size ≤ length bs = omega (arith, message-end) in
       let long : length (take size (drop from bs)) ≡ size = length-take-le size (drop from bs) (omega (arith, length-drop from bs)) in
       let bytes : take size (drop from bs) ≡ take (copied sheet m r) (drop (op sheet m .offset) (sheet .payload)) =
       ap (λ (n : ℕ). take size (drop n bs)) ef
-      ∙ sym (payload-part (op sheet m .offset) size (omega (arith, send-extent sheet g m sends)))
+      ∙ sym (payload-part (op sheet m .offset) size (omega (arith, send-extent sheet (d .good) m (d .sends))))
       ∙ ap (λ (n : ℕ). take n (drop (op sheet m .offset) (sheet .payload))) (es ∙ sym all) in
       part-splice inbox area end (take size (drop from bs)) (omega arith) (omega (arith, area-end)) (omega arith)
       ∙ ap (λ (vs : List ℕ). splice inbox area vs) bytes
@@ -162,16 +191,16 @@ module _ (s : Sheet) (c : List ℕ) (j : ℕ) (inbox : List ℕ) where
 
 -- ALL
 -- the first i operations are delivered
-pub record Painting (s : Sheet) (c lent : List ℕ) (i : ℕ) (inbox : List ℕ) : Type 0 where
+pub record Replaying (s : Sheet) (c lent : List ℕ) (i : ℕ) (inbox : List ℕ) : Type 0 where
   pub is : inbox ≡ replayed-in s c i lent
   pub size : length inbox ≡ length lent
 
-pub replaying-none : (s : Sheet) (c lent : List ℕ) → Painting s c lent 0 lent
+pub replaying-none : (s : Sheet) (c lent : List ℕ) → Replaying s c lent 0 lent
 unfolding replayed-in
 replaying-none s c lent = record { is = refl; size = refl }
 
-pub replaying-more : (s : Sheet) (c lent : List ℕ) (i : ℕ) (inbox after : List ℕ) → Painting s c lent i inbox →
-    after ≡ replay-in s c i inbox → length after ≡ length inbox → Painting s c lent (i + 1) after
+pub replaying-more : (s : Sheet) (c lent : List ℕ) (i : ℕ) (inbox after : List ℕ) → Replaying s c lent i inbox →
+    after ≡ replay-in s c i inbox → length after ≡ length inbox → Replaying s c lent (i + 1) after
 unfolding replayed-in
 replaying-more s c lent i inbox after q e h =
     record {
@@ -179,20 +208,20 @@ replaying-more s c lent i inbox after q e h =
       size = h ∙ q .size;
     }
 
-pub replaying-at : {s : Sheet} {c lent inbox : List ℕ} {i k : ℕ} → i ≡ k → Painting s c lent i inbox → Painting s c lent k inbox
-replaying-at {s} {c} {lent} {inbox} e q = subst (λ (n : ℕ). Painting s c lent n inbox) e q
+pub replaying-at : {s : Sheet} {c lent inbox : List ℕ} {i k : ℕ} → i ≡ k → Replaying s c lent i inbox → Replaying s c lent k inbox
+replaying-at {s} {c} {lent} {inbox} e q = subst (λ (n : ℕ). Replaying s c lent n inbox) e q
 
 -- the script of board r is delivered: what was done before it was met is done, and its own operations too
 abbrev pub Script-delivered : Sheet → (c : List ℕ) → (r : ℕ) → (met inbox : List ℕ) → Type 0
 Script-delivered s c r met inbox =
-    (lent : List ℕ) → Painting s c lent (board s r .first) met →
-    Painting s c lent (board s r .first + board s r .count) inbox
+    (lent : List ℕ) → Replaying s c lent (board s r .first) met →
+    Replaying s c lent (board s r .first + board s r .count) inbox
 
 -- in the script of board r, which was met with inboxes `met`, the operations before i are delivered too
 pub record Scripting (s : Sheet) (c : List ℕ) (r : ℕ) (met : List ℕ) (i : ℕ) (inbox : List ℕ) : Type 0 where
   pub lower : board s r .first ≤ i
   pub size : length inbox ≡ length met
-  pub goes : (lent : List ℕ) → Painting s c lent (board s r .first) met → Painting s c lent i inbox
+  pub goes : (lent : List ℕ) → Replaying s c lent (board s r .first) met → Replaying s c lent i inbox
 
 pub scripting-none : (s : Sheet) (c : List ℕ) (r : ℕ) (met : List ℕ) (i : ℕ) → i ≡ board s r .first → Scripting s c r met i met
 scripting-none s c r met i e =
@@ -216,7 +245,7 @@ scripting-more s c r met i inbox after q e h =
 pub record Filling (s : Sheet) (c lent : List ℕ) (r start : ℕ) (inbox : List ℕ) : Type 0 where
   pub upper : r ≤ P-of s
   pub start-is : start ≡ inbox-start s r
-  pub replaying : Painting s c lent (counts-before s r) inbox
+  pub replaying : Replaying s c lent (counts-before s r) inbox
 
 pub filling-none : (s : Sheet) (c lent : List ℕ) → Filling s c lent 0 0 lent
 filling-none s c lent =
@@ -258,7 +287,7 @@ replayed-rows bs c lent t x h (suc n) l =
         replay-in (sheet-in bs) c n inbox ≡ replay (sheet-in bs) x n inbox
     row inbox e = unfold replay-in replay in ap (λ (z : Entry). cond (is-receive (op (sheet-in bs) n) && eqb (z .state) 3) (delivered (sheet-in bs) (z .partner) n inbox) inbox) e
 
-pub memory-is : (bs c lent inbox : List ℕ) (n : ℕ) → Painting (sheet-in bs) c lent n inbox → n ≡ N-of (sheet-in bs) →
+pub memory-is : (bs c lent inbox : List ℕ) (n : ℕ) → Replaying (sheet-in bs) c lent n inbox → n ≡ N-of (sheet-in bs) →
     (t : Control) (x : Job) → Represents bs lent c t x → inbox ≡ x .memory
 memory-is bs c lent inbox n q e t x h =
     q .is ∙ ap (λ (k : ℕ). replayed-in (sheet-in bs) c k lent) e ∙ replayed-rows bs c lent t x h (N-of (sheet-in bs)) (omega arith) ∙ sym (h .reached .memory-replayed)

@@ -2,68 +2,50 @@
 // receives are copied in script order. Each copy is lent its own stretch of the inbox, from the start of the receive's area
 // to its end, and nothing else.
 ghost use mathlib.Core.Path.{_≡_};
-ghost use mathlib.Core.Bool.{true};
-ghost use mathlib.Core.List.{List};
-ghost use Prim.Native.Nat.{ℕ, _+_, _<_, _≤_};
+ghost use Prim.Native.Nat.{_<_, _≤_};
 ghost use lib.ListN.{length};
-ghost use Rattle.rules.specs.Sheet.{sheet-in, op, board, rank-of, inbox-start, inbox-total, is-send, is-receive, P-in, N-in};
+ghost use Rattle.rules.specs.Sheet.{sheet-in, rank-of, inbox-total, P-of, N-of};
 ghost use Rattle.rules.specs.Job.{Job};
 ghost use Rattle.rules.specs.Step.{delivered};
-ghost use Rattle.laws.specs.Laid.{Laid};
-ghost use Rattle.invariant.specs.sheet.Valid.{Valid};
 ghost use Rattle.state.specs.declared.Control.{Control};
 ghost use Rattle.simulation.specs.Represents.{Represents};
-ghost use Rattle.deliveries.specs.Deliveries.{Deliverable, replay-in, Script-delivered};
+ghost use Rattle.deliveries.specs.Deliveries.{Sent, Inbox-at, Deliverable, replay-in, Script-delivered};
 use sheet::boards;
 use sheet::header;
-use sheet::op_bytes;
+use sheet::ops;
 use state::rows;
 
 // Message m to receive r, whose board's inbox starts at `start`. A message longer than the area is cut: nothing is copied.
 fn deliver_message(s: &[u8], m: usize, r: usize, start: usize, inbox: &mut [u8])
-    requires { ⌜ Laid (now s) × Valid (sheet-in (now s))
-        × (is-send (op (sheet-in (now s)) m) ≡ true) × (is-receive (op (sheet-in (now s)) r) ≡ true)
-        × (start ≡ inbox-start (sheet-in (now s)) (rank-of (sheet-in (now s)) r))
-        × (inbox-total (sheet-in (now s)) ≤ length (now inbox)) ⌝ }
+    requires { ⌜ Sent (now s) m r × Inbox-at (sheet-in (now s)) (rank-of (sheet-in (now s)) r) start (now inbox) ⌝ }
     ensures { λ _. ⌜ now (inbox .exit) ≡ delivered (sheet-in (now (s .entry))) m r (now (inbox .entry)) ⌝ }
 {
-    let table = 16 + 8 * header::boards(s);
-    let message = table + 16 * m;
-    let receive = table + 16 * r;
-    let size = op_bytes::long(s, message);
-    let capacity = op_bytes::long(s, receive);
+    let size = ops::long(s, m);
+    let capacity = ops::long(s, r);
     if capacity < size {
         return;
     }
-    let from = table + 16 * header::ops(s) + op_bytes::offset(s, message);
-    let area = start + op_bytes::offset(s, receive);
+    let from = header::payload_offset(s) + ops::offset(s, m);
+    let area = start + ops::offset(s, r);
     let end = area + capacity;
     words::copy(&mut inbox[area..end], 0, s, from, size);
 }
 
 // Operation i: a receive that is matched has its message delivered.
 fn deliver_one(s: &[u8], c: &[u8], i: usize, start: usize, inbox: &mut [u8])
-    requires { ⌜ Deliverable (now s) (now c) × (i < N-in (now s))
-        × (start ≡ inbox-start (sheet-in (now s)) (rank-of (sheet-in (now s)) i))
-        × (inbox-total (sheet-in (now s)) ≤ length (now inbox)) ⌝ }
+    requires { ⌜ Deliverable (now s) (now c) × (i < N-of (sheet-in (now s)))
+        × Inbox-at (sheet-in (now s)) (rank-of (sheet-in (now s)) i) start (now inbox) ⌝ }
     ensures { λ _. ⌜ now (inbox .exit) ≡ replay-in (sheet-in (now (s .entry))) (now (c .entry)) i (now (inbox .entry)) ⌝ }
 {
-    let at = 16 + 8 * header::boards(s) + 16 * i;
-    if op_bytes::kind(s, at) != 5 {
-        return;
+    if ops::is_receive(s, i) && rows::state_of(c, i) == 3 {
+        let m = rows::partner_of(c, i);
+        deliver_message(s, m, i, start, inbox);
     }
-    if rows::state_of(c, i) != 3 {
-        return;
-    }
-    let m = rows::partner_of(c, i);
-    deliver_message(s, m, i, start, inbox);
 }
 
 // The script of board r, whose inbox starts at `start`.
 fn deliver_script(s: &[u8], c: &[u8], r: usize, start: usize, inbox: &mut [u8])
-    requires { ⌜ Deliverable (now s) (now c) × (r < P-in (now s))
-        × (start ≡ inbox-start (sheet-in (now s)) r)
-        × (inbox-total (sheet-in (now s)) ≤ length (now inbox)) ⌝ }
+    requires { ⌜ Deliverable (now s) (now c) × (r < P-of (sheet-in (now s))) × Inbox-at (sheet-in (now s)) r start (now inbox) ⌝ }
     ensures { λ _. ⌜ Script-delivered (sheet-in (now (s .entry))) (now (c .entry)) r (now (inbox .entry)) (now (inbox .exit)) ⌝ }
 {
     let mut i = boards::first(s, r);

@@ -2,7 +2,7 @@
 // Account lines: size, in use and peak. After a charge also 1 where it was taken, else 0.
 // Waiting lines: the place of the earliest that fits, counted from 0, or `none`.
 use account::Account;
-use waiting::ANY;
+use limits::ANY;
 use waiting::Envelope;
 use waiting::Found;
 
@@ -68,7 +68,7 @@ fn envelope(source: usize, communicator: usize, tag: usize, operation: usize) ->
 // is from 3 in communicator 2 with tag 9; the first `count` are searched.
 fn array_line(count: usize, source: usize, communicator: usize, tag: usize) {
     let rest = envelope(1, 2, 9, 4);
-    let mut list = [rest; waiting::MOST];
+    let mut list = [rest; limits::MOST_OPS];
     list[0] = envelope(0, 0, 5, 0);
     list[1] = envelope(1, 1, 5, 1);
     list[2] = envelope(1, 0, 6, 2);

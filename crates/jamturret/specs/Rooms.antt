@@ -1,17 +1,25 @@
 -- Refusal 8: the rooms that a caller lends, test by test (document 01, "When the desk says no"); and which numbers a refusal of
 -- a sheet or of a room can have. Assumes nothing.
-use mathlib.Core.Path.{_≡_, refl, sym, _∙_, ap, subst}
+--   sheet-most, room-most   7 and 8 at the most
+--   short-inbox ..          the first short room is the answer; rooms-enough: none is
+--   Roomy, roomy            what rooms that are not refused are
+--   Ready                   a sheet that passes check, and such rooms
+use mathlib.Core.Path.{_≡_, sym, _∙_, ap}
 use mathlib.Core.Bool.{Bool, true, false, not, cond}
 use mathlib.Core.List.{List}
-use Prim.Native.Nat.{ℕ, zero, suc, _+_, _*_, _<_, _≤_}
+use Prim.Native.Nat.{ℕ, zero, suc, _<_, _≤_}
 use native.Mathlib.Omega.{arith}
 use lib.Dec.{ltb, eqb}
 use lib.ListN.{length}
-use borrow.Author.Tests.{lt-ltb, le-ltb, ltb-false}
-use Rattle.rules.specs.Limits.{report-size, order-room, scratch-size}
-use Rattle.rules.specs.Sheet.{Sheet, sheet-in, P-of, N-of, counts-before, inbox-start, inbox-total}
-use Rattle.rules.specs.Refusal.{Refusal, refusal, accepted, or-else, first-broken, board-good, boards-refusal, ops-refusal, requests-refusal, tables-refusal, sizes-good, layout-good, crc-good, sheet-refusal}
-use Rattle.rules.specs.Service.{answers, room-refusal}
+use borrow.Author.Tests.{lt-ltb, le-ltb}
+use Rattle.rules.specs.Limits.{header-size, report-size, order-room, scratch-size}
+use Rattle.rules.specs.Sheet.{Sheet, sheet-in, P-of, N-of, counts-before, inbox-total}
+use Rattle.rules.specs.Refusal.{Refusal, refusal, accepted, or-else, first-broken, board-good, boards-refusal, ops-refusal, requests-refusal}
+use Rattle.rules.specs.Refusal.{tables-refusal, sizes-good, layout-good, crc-good, sheet-refusal}
+use Rattle.rules.specs.Service.{room-refusal}
+use Rattle.laws.specs.Tests.{cond-true, cond-false}
+use Rattle.laws.specs.Laid.{Laid}
+use Rattle.invariant.specs.sheet.Valid.{Valid}
 
 -- NUMBERS that a refusal can have
 broken-most : (n m : ℕ) (f : ℕ → Bool) (left i : ℕ) → n ≤ m → first-broken n f left i .number ≤ m
@@ -23,7 +31,7 @@ broken-most n m f (suc k) i l = go (f i) (broken-most n m f k (suc i) l)
     go true h = h
     go false h = l
 
-or-else-most : (m : ℕ) (a b : Refusal) → a .number ≤ m → b .number ≤ m → or-else a b .number ≤ m
+pub or-else-most : (m : ℕ) (a b : Refusal) → a .number ≤ m → b .number ≤ m → or-else a b .number ≤ m
 unfolding or-else
 or-else-most m a b l k = go (eqb (a .number) 0)
   where
@@ -40,7 +48,7 @@ pub sheet-most : (bs : List ℕ) → sheet-refusal bs .number ≤ 7
 unfolding sheet-refusal tables-refusal boards-refusal ops-refusal requests-refusal refusal
 sheet-most bs =
     let s : Sheet = sheet-in bs in
-    cond-most 7 (ltb (length bs) 16) (refusal 1 0) _ (omega arith)
+    cond-most 7 (ltb (length bs) header-size) (refusal 1 0) _ (omega arith)
     (cond-most 7 (not (sizes-good bs)) (refusal 2 0) _ (omega arith)
     (cond-most 7 (not (layout-good bs)) (refusal 3 0) _ (omega arith)
     (cond-most 7 (not (crc-good bs)) (refusal 4 0) _ (omega arith)
@@ -49,53 +57,6 @@ sheet-most bs =
     (broken-most 5 7 (board-good s) (P-of s) 0 (omega arith)) (cond-most 7 (eqb (counts-before s (P-of s)) (N-of s)) accepted (refusal 5 (P-of s)) (omega arith) (omega arith)))
     (or-else-most 7 (ops-refusal s) (requests-refusal s) (broken-most 6 7 _ (N-of s) 0 (omega arith)) (broken-most 7 7 _ (N-of s) 0 (omega arith)))))))
 
--- ROOMS, the first short one
-module _ (s : Sheet) (i r o c : ℕ) where
-  pub room-most : room-refusal s i r o c .number ≤ 8
-  unfolding room-refusal refusal
-  room-most =
-      cond-most 8 (ltb i (inbox-total s)) (refusal 8 1) _ (omega arith)
-      (cond-most 8 (ltb r (report-size (P-of s) (N-of s))) (refusal 8 2) _ (omega arith)
-      (cond-most 8 (ltb o (order-room (N-of s))) (refusal 8 3) _ (omega arith)
-      (cond-most 8 (ltb c scratch-size) (refusal 8 4) accepted (omega arith) (omega arith))))
-
-  pub short-inbox : i < inbox-total s → answers (room-refusal s i r o c) 8 1
-  unfolding answers room-refusal refusal
-  short-inbox h = let a = lt-ltb i (inbox-total s) h in rw a (refl, refl)
-
-  module _ (inbox : inbox-total s ≤ i) where
-    pub short-report : r < report-size (P-of s) (N-of s) → answers (room-refusal s i r o c) 8 2
-    unfolding answers room-refusal refusal
-    short-report h = let a = le-ltb i (inbox-total s) inbox in let b = lt-ltb r (report-size (P-of s) (N-of s)) h in rw (a, b) (refl, refl)
-
-    module _ (report : report-size (P-of s) (N-of s) ≤ r) where
-      pub short-order : o < order-room (N-of s) → answers (room-refusal s i r o c) 8 3
-      unfolding answers room-refusal refusal
-      short-order h =
-          let a = le-ltb i (inbox-total s) inbox in
-          let b = le-ltb r (report-size (P-of s) (N-of s)) report in
-          let d = lt-ltb o (order-room (N-of s)) h in
-          rw (a, b, d) (refl, refl)
-
-      module _ (order : order-room (N-of s) ≤ o) where
-        pub short-scratch : c < scratch-size → answers (room-refusal s i r o c) 8 4
-        unfolding answers room-refusal refusal
-        short-scratch h =
-            let a = le-ltb i (inbox-total s) inbox in
-            let b = le-ltb r (report-size (P-of s) (N-of s)) report in
-            let d = le-ltb o (order-room (N-of s)) order in
-            let e = lt-ltb c scratch-size h in
-            rw (a, b, d, e) (refl, refl)
-
-        pub rooms-enough : scratch-size ≤ c → answers (room-refusal s i r o c) 0 0
-        unfolding answers room-refusal refusal
-        rooms-enough h =
-            let a = le-ltb i (inbox-total s) inbox in
-            let b = le-ltb r (report-size (P-of s) (N-of s)) report in
-            let d = le-ltb o (order-room (N-of s)) order in
-            let e = le-ltb c scratch-size h in
-            rw (a, b, d, e) (refl, refl)
-
 -- what rooms that are not refused are
 pub record Roomy (s : Sheet) (i r o c : ℕ) : Type 0 where
   pub inbox : inbox-total s ≤ i
@@ -103,19 +64,104 @@ pub record Roomy (s : Sheet) (i r o c : ℕ) : Type 0 where
   pub order : order-room (N-of s) ≤ o
   pub scratch : scratch-size ≤ c
 
-pub roomy : (s : Sheet) (i r o c : ℕ) → room-refusal s i r o c .number ≡ 0 → Roomy s i r o c
-unfolding room-refusal refusal
-roomy s i r o c h = go (ltb i (inbox-total s)) refl (ltb r (report-size (P-of s) (N-of s))) refl (ltb o (order-room (N-of s))) refl (ltb c scratch-size) refl h
-  where
-    go : (a : Bool) → ltb i (inbox-total s) ≡ a → (b : Bool) → ltb r (report-size (P-of s) (N-of s)) ≡ b → (d : Bool) → ltb o (order-room (N-of s)) ≡ d → (e : Bool) → ltb c scratch-size ≡ e → cond a (refusal 8 1) (cond b (refusal 8 2) (cond d (refusal 8 3) (cond e (refusal 8 4) accepted))) .number ≡ 0 → Roomy s i r o c
-    go true p b q d u e v z = absurd (omega arith)
-    go false p true q d u e v z = absurd (omega arith)
-    go false p false q true u e v z = absurd (omega arith)
-    go false p false q false u true v z = absurd (omega arith)
-    go false p false q false u false v z =
-        record {
-          inbox = ltb-false i (inbox-total s) p;
-          report = ltb-false r (report-size (P-of s) (N-of s)) q;
-          order = ltb-false o (order-room (N-of s)) u;
-          scratch = ltb-false c scratch-size v;
-        }
+-- a sheet that passes check, and such rooms
+pub record Ready (bs : List ℕ) (i r o c : ℕ) : Type 0 where
+  pub laid : Laid bs
+  pub good : Valid (sheet-in bs)
+  pub roomy : Roomy (sheet-in bs) i r o c
+
+-- ROOMS, the first short one
+module _ (s : Sheet) (i r o c : ℕ) where
+  abbrev size : ℕ
+  size = report-size (P-of s) (N-of s)
+
+  -- the tests behind the inbox's, the report's and the order's
+  abbrev behind-order : Refusal
+  behind-order = cond (ltb c scratch-size) (refusal 8 4) accepted
+
+  abbrev behind-report : Refusal
+  behind-report = cond (ltb o (order-room (N-of s))) (refusal 8 3) behind-order
+
+  abbrev behind-inbox : Refusal
+  behind-inbox = cond (ltb r size) (refusal 8 2) behind-report
+
+  pub room-most : room-refusal s i r o c .number ≤ 8
+  unfolding room-refusal refusal
+  room-most =
+      cond-most 8 (ltb i (inbox-total s)) (refusal 8 1) behind-inbox (omega arith)
+      (cond-most 8 (ltb r size) (refusal 8 2) behind-report (omega arith)
+      (cond-most 8 (ltb o (order-room (N-of s))) (refusal 8 3) behind-order (omega arith)
+      (cond-most 8 (ltb c scratch-size) (refusal 8 4) accepted (omega arith) (omega arith))))
+
+  pub short-inbox : i < inbox-total s → room-refusal s i r o c ≡ refusal 8 1
+  unfolding room-refusal
+  short-inbox h = cond-true (ltb i (inbox-total s)) (refusal 8 1) behind-inbox (lt-ltb i (inbox-total s) h)
+
+  module _ (inbox : inbox-total s ≤ i) where
+    at-report : room-refusal s i r o c ≡ behind-inbox
+    unfolding room-refusal
+    at-report = cond-false (ltb i (inbox-total s)) (refusal 8 1) behind-inbox (le-ltb i (inbox-total s) inbox)
+
+    pub short-report : r < size → room-refusal s i r o c ≡ refusal 8 2
+    short-report h = at-report ∙ cond-true (ltb r size) (refusal 8 2) behind-report (lt-ltb r size h)
+
+    module _ (report : size ≤ r) where
+      at-order : room-refusal s i r o c ≡ behind-report
+      at-order = at-report ∙ cond-false (ltb r size) (refusal 8 2) behind-report (le-ltb r size report)
+
+      pub short-order : o < order-room (N-of s) → room-refusal s i r o c ≡ refusal 8 3
+      short-order h = at-order ∙ cond-true (ltb o (order-room (N-of s))) (refusal 8 3) behind-order (lt-ltb o (order-room (N-of s)) h)
+
+      module _ (order : order-room (N-of s) ≤ o) where
+        at-scratch : room-refusal s i r o c ≡ behind-order
+        at-scratch = at-order ∙ cond-false (ltb o (order-room (N-of s))) (refusal 8 3) behind-order (le-ltb o (order-room (N-of s)) order)
+
+        pub short-scratch : c < scratch-size → room-refusal s i r o c ≡ refusal 8 4
+        short-scratch h = at-scratch ∙ cond-true (ltb c scratch-size) (refusal 8 4) accepted (lt-ltb c scratch-size h)
+
+        enough : scratch-size ≤ c → room-refusal s i r o c ≡ accepted
+        enough h = at-scratch ∙ cond-false (ltb c scratch-size) (refusal 8 4) accepted (le-ltb c scratch-size h)
+
+  pub rooms-enough : Roomy s i r o c → room-refusal s i r o c ≡ accepted
+  rooms-enough q = enough (q .inbox) (q .report) (q .order) (q .scratch)
+
+  -- and rooms that are not refused are enough: none of them is the first short one
+  pub roomy : room-refusal s i r o c .number ≡ 0 → Roomy s i r o c
+  unfolding refusal
+  roomy h =
+      let never : (place : ℕ) → room-refusal s i r o c ≡ refusal 8 place → ⊥ = λ place e. omega (arith, ap (λ (f : Refusal). f .number) e) in
+      let no-inbox : i < inbox-total s → ⊥ = λ l. never 1 (short-inbox l) in
+      let inbox : inbox-total s ≤ i = omega arith in
+      let no-report : r < size → ⊥ = λ l. never 2 (short-report inbox l) in
+      let report : size ≤ r = omega arith in
+      let no-order : o < order-room (N-of s) → ⊥ = λ l. never 3 (short-order inbox report l) in
+      let order : order-room (N-of s) ≤ o = omega arith in
+      let no-scratch : c < scratch-size → ⊥ = λ l. never 4 (short-scratch inbox report order l) in
+      record {
+        inbox = inbox;
+        report = report;
+        order = order;
+        scratch = omega arith;
+      }
+
+-- follow is lent no room for an order: any room that is long enough is as good as the order's own
+pub order-unasked : (s : Sheet) (i r o c : ℕ) → order-room (N-of s) ≤ o → room-refusal s i r o c ≡ room-refusal s i r (order-room (N-of s)) c
+unfolding room-refusal
+order-unasked s i r o c h =
+    let room = order-room (N-of s) in
+    ap (λ (b : Bool). cond (ltb i (inbox-total s)) (refusal 8 1) (cond (ltb r (report-size (P-of s) (N-of s))) (refusal 8 2) (cond b (refusal 8 3) (behind-order s i r o c))))
+    (le-ltb o room h ∙ sym (le-ltb room room (omega arith)))
+
+pub own-order : {bs : List ℕ} {i r o c : ℕ} → Ready bs i r o c → Ready bs i r (order-room (N-of (sheet-in bs))) c
+own-order q =
+    record {
+      laid = q .laid;
+      good = q .good;
+      roomy =
+          record {
+            inbox = q .roomy .inbox;
+            report = q .roomy .report;
+            order = omega arith;
+            scratch = q .roomy .scratch;
+          };
+    }

@@ -7,7 +7,6 @@ mod rooms;
 
 use refusals::check;
 use sheet::Answer;
-use sheet::header;
 
 // CHECK a sheet: refusals 1 to 7, or number 0 and place 0. Shut out, among others: a check that refuses everything, and one
 // that accepts everything.
@@ -29,21 +28,20 @@ pub extern "C" fn jamturret_follow(
     report: &mut [u8],
     scratch: &mut [u8],
 ) -> Answer
-    ensures { λ a. ⌜ Follow-says (now (sheet .entry)) (now (order .entry)) (a .number) (a .place) (now (inbox .entry)) (now (inbox .exit)) (now (report .entry)) (now (report .exit)) (now (scratch .entry)) (now (scratch .exit)) ⌝ }
+    ensures { λ a. ⌜ Follow-says (now (sheet .entry)) (now (order .entry)) (a .number) (a .place)
+        (now (inbox .entry)) (now (inbox .exit)) (now (report .entry)) (now (report .exit))
+        (now (scratch .entry)) (now (scratch .exit)) ⌝ }
 {
-    let checked = check::check(sheet);
-    if checked.number != 0 {
-        return checked;
-    }
-    let short = rooms::refusal(
+    // follow is lent no room for an order: the longest one is never short
+    let refused = rooms::refusal(
         sheet,
         inbox.len(),
         report.len(),
-        2 * header::ops(sheet),
+        limits::MOST_ORDER,
         scratch.len(),
     );
-    if short.number != 0 {
-        return short;
+    if refused.number != 0 {
+        return refused;
     }
     jobs::follow(sheet, order, inbox, report, scratch)
 }
@@ -58,15 +56,13 @@ pub extern "C" fn jamturret_run(
     order: &mut [u8],
     scratch: &mut [u8],
 ) -> Answer
-    ensures { λ a. ⌜ Run-says (now (sheet .entry)) (a .number) (a .place) (now (inbox .entry)) (now (inbox .exit)) (now (report .entry)) (now (report .exit)) (now (order .entry)) (now (order .exit)) (now (scratch .entry)) (now (scratch .exit)) ⌝ }
+    ensures { λ a. ⌜ Run-says (now (sheet .entry)) (a .number) (a .place)
+        (now (inbox .entry)) (now (inbox .exit)) (now (report .entry)) (now (report .exit))
+        (now (order .entry)) (now (order .exit)) (now (scratch .entry)) (now (scratch .exit)) ⌝ }
 {
-    let checked = check::check(sheet);
-    if checked.number != 0 {
-        return checked;
-    }
-    let short = rooms::refusal(sheet, inbox.len(), report.len(), order.len(), scratch.len());
-    if short.number != 0 {
-        return short;
+    let refused = rooms::refusal(sheet, inbox.len(), report.len(), order.len(), scratch.len());
+    if refused.number != 0 {
+        return refused;
     }
     jobs::run(sheet, inbox, report, order, scratch)
 }

@@ -1,8 +1,9 @@
-// Refusal 8: the first lent room that is short (document 01, "When the desk says no").
+// Refusals 1 to 8 of a call: the sheet's, else the first lent room that is short (document 01, "When the desk says no").
 ghost use mathlib.Core.Path.{_≡_};
 ghost use Rattle.rules.specs.Sheet.{sheet-in, inbox-total};
-ghost use Rattle.rules.specs.Service.{answers, room-refusal};
+ghost use Rattle.rules.specs.Service.{answers, room-refusal, run-refusal};
 ghost use Rattle.laws.specs.Laid.{Laid};
+use refusals::check;
 use sheet::Answer;
 use sheet::boards;
 use sheet::header;
@@ -22,8 +23,8 @@ fn inbox_total(s: &[u8]) -> usize
     total
 }
 
-// Place 1 inbox, 2 report, 3 order out, 4 scratch.
-pub fn refusal(s: &[u8], inbox: usize, report: usize, order: usize, scratch: usize) -> Answer
+// Refusal 8: place 1 inbox, 2 report, 3 order out, 4 scratch.
+fn short(s: &[u8], inbox: usize, report: usize, order: usize, scratch: usize) -> Answer
     requires { ⌜ Laid (now s) ⌝ }
     ensures { λ a. ⌜ answers (room-refusal (sheet-in (now (s .entry))) inbox report order scratch) (a .number) (a .place) ⌝ }
 {
@@ -34,19 +35,19 @@ pub fn refusal(s: &[u8], inbox: usize, report: usize, order: usize, scratch: usi
             place: 1,
         };
     }
-    if report < 16 + 8 * header::boards(s) + 12 * n {
+    if report < limits::report_size(header::boards(s), n) {
         return Answer {
             number: 8,
             place: 2,
         };
     }
-    if order < 2 * n {
+    if order < limits::order_room(n) {
         return Answer {
             number: 8,
             place: 3,
         };
     }
-    if scratch < 32768 {
+    if scratch < limits::SCRATCH_SIZE {
         return Answer {
             number: 8,
             place: 4,
@@ -56,4 +57,15 @@ pub fn refusal(s: &[u8], inbox: usize, report: usize, order: usize, scratch: usi
         number: 0,
         place: 0,
     }
+}
+
+// The sheet's refusal, or a room's.
+pub fn refusal(sheet: &[u8], inbox: usize, report: usize, order: usize, scratch: usize) -> Answer
+    ensures { λ a. ⌜ answers (run-refusal (now (sheet .entry)) inbox report order scratch) (a .number) (a .place) ⌝ }
+{
+    let checked = check::check(sheet);
+    if checked.number != 0 {
+        return checked;
+    }
+    short(sheet, inbox, report, order, scratch)
 }

@@ -1,21 +1,20 @@
--- Why the judge may stop reading one byte behind the longest sheet: of an input longer than that, the first 32,913 bytes are
+-- Why the judge may stop reading one byte behind the longest sheet: of an input longer than that, its start of so many bytes is
 -- refused as the whole input is (document 01, "When the desk says no"). 1 asks for 16 bytes, 2 reads only the header, and where
--- 2 is out the header asks for at most 32,912 bytes, so 3 is given for both. Assumes nothing.
+-- 2 is out the header asks for at most the longest sheet, so 3 is given for both. Assumes nothing.
 use mathlib.Core.Path.{_≡_, refl, sym, _∙_, ap}
-use mathlib.Core.Bool.{Bool, true, false, _&&_, not, cond}
+use mathlib.Core.Bool.{Bool, true, false, not, cond}
 use mathlib.Core.List.{List}
 use Prim.Native.Nat.{ℕ, _+_, _*_, _<_}
 use native.Mathlib.Omega.{arith}
-use lib.Dec.{ltb, leb}
 use lib.ListN.{length, getD, take}
 use lib.Seq.{length-take-le, getD-take}
 use borrow.Author.Tests.{le-ltb}
-use Rattle.rules.specs.Limits.{most-boards, most-comms, most-ops, most-payload, sheet-size}
-use Rattle.rules.specs.Sheet.{two, P-in, C-in, N-in, L-in, sheet-in}
+use Rattle.rules.specs.Limits.{header-size, most-boards, most-ops, most-payload, sheet-size}
+use Rattle.rules.specs.Sheet.{two, sheet-in}
 use Rattle.rules.specs.Refusal.{Refusal, refusal, sizes-good, layout-good, crc-good, tables-refusal, sheet-refusal}
-use Rattle.laws.specs.Laid.{Laid, laid}
+use Rattle.laws.specs.Laid.{laid}
 
--- 16 + 8 * 16 + 16 * 1024 + 16384, the longest sheet
+-- the longest sheet
 abbrev pub longest : ℕ
 longest = sheet-size most-boards most-ops most-payload
 
@@ -39,7 +38,7 @@ module _ (bs : List ℕ) (h : longest < length bs) where
   pub longer-refused : sheet-refusal bs ≡ cond (not (sizes-good bs)) (refusal 2 0) (refusal 3 0)
   unfolding sheet-refusal rest
   longer-refused =
-      ap (λ (t : Bool). cond t (refusal 1 0) (cond (not (sizes-good bs)) (refusal 2 0) (cond (not (layout-good bs)) (refusal 3 0) rest))) (le-ltb (length bs) 16 (omega arith))
+      ap (λ (t : Bool). cond t (refusal 1 0) (cond (not (sizes-good bs)) (refusal 2 0) (cond (not (layout-good bs)) (refusal 3 0) rest))) (le-ltb (length bs) header-size (omega arith))
       ∙ by-sizes (sizes-good bs) refl
 
 two-of-start : (bs : List ℕ) (n at : ℕ) → at + 1 < n → two (take n bs) at ≡ two bs at

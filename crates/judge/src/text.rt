@@ -1,20 +1,21 @@
 // A report as a line of text (document 01, "The desk and its three services").
 ghost use mathlib.Core.Path.{_≡_};
 ghost use Prim.Native.Nat.{_+_, _*_, _<_, _≤_};
-ghost use lib.ListN.{length, getD};
+ghost use lib.ListN.{length};
 ghost use Rattle.rules.specs.Step.{splice};
 ghost use Rattle.rules.specs.Limits.{report-size};
-ghost use Rattle.rules.specs.Sheet.{P-in, N-in};
+ghost use Rattle.rules.specs.Sheet.{sheet-in, P-of, N-of};
 ghost use Rattle.laws.specs.Laid.{Laid};
+ghost use Rattle.judge.specs.Printed.{most-report};
 ghost use Rattle.judge.specs.Text.{digit-of, pair as Text·pair, hex-line as Text·hex-line};
 use sheet::header;
 
-// How many bytes the report has: 16 + 8P + 12N.
+// How many bytes the sheet's report has.
 pub fn report_size(s: &[u8]) -> usize
     requires { ⌜ Laid (now s) ⌝ }
-    ensures { λ r. ⌜ (r ≡ report-size (P-in (now (s .entry))) (N-in (now (s .entry)))) × (r ≤ 12432) ⌝ }
+    ensures { λ r. ⌜ (r ≡ report-size (P-of (sheet-in (now (s .entry)))) (N-of (sheet-in (now (s .entry))))) × (r ≤ most-report) ⌝ }
 {
-    16 + 8 * header::boards(s) + 12 * header::ops(s)
+    limits::report_size(header::boards(s), header::ops(s))
 }
 
 // Upper-case hex pairs with one blank between, ended by a newline, put at the start of `line`: three places a byte. A report

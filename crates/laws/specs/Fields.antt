@@ -107,16 +107,21 @@ module _ (p c room : ℕ) (o : Op) (g : fields-good p c room o ≡ true) where
       go true w = omega (arith, wait-empty o (fields-named w))
       go false w = extent-inside room o (fields-extent w)
 
--- ROLES of an operation whose fields are good: what frees a slot names it, and what names a slot takes none
+-- ROLES: what frees a slot names it
+pub frees-names : (o : Op) → frees-slot o ≡ true → names-slot o ≡ true
+unfolding frees-slot names-slot
+frees-names o e = e
+
+-- of an operation whose fields are good: what frees a slot names it, and what names a slot takes none
 pub record Roles (o : Op) : Type 0 where
   pub frees-named : frees-slot o ≡ true → names-slot o ≡ true
   pub named-takes-none : names-slot o ≡ true → takes-slot o ≡ false
 
 pub roles : (p c room : ℕ) (o : Op) → fields-good p c room o ≡ true → Roles o
-unfolding is-nonblocking takes-slot frees-slot names-slot
+unfolding is-nonblocking takes-slot
 roles p c room o g =
     record {
-      frees-named = λ f. f;
+      frees-named = frees-names o;
       named-takes-none = λ w. ne-eqb (o .flag) 1 (λ e. absurd (omega (arith, wait-flag o (fields-named p c room o g w))));
     }
 

@@ -1,9 +1,8 @@
 -- The report of the job that stands in scratch: board states, the verdict, and the stretches side by side. Assumes nothing.
---   Every                         what holds of every job that stands in scratch
 --   state-finished, state-other   a board's state; row-is: its row, with the figures as they were read
---   Finishing                     all boards before r are finished; Seeking: none before r is able
+--   Finishing                     all boards before r are finished
 --   verdict-stopped, ..           the verdict, by what was found
---   rank-told, op-told            the stop, as the control block has it
+--   stop-rank, stop-op            the stop, as the control block has it
 --   front-bytes, back-bytes       the header's two halves; header-is: side by side they are the header
 --   report-whole                  header, board rows and operation rows side by side are the report, in front of what stays
 use mathlib.Core.Path.{_≡_, sym, ap, ap₂, _∙_}
@@ -19,11 +18,11 @@ use native.Mathlib.Decide.{ℕ-discrete}
 use lib.Dec.{eqb}
 use lib.ListN.{length, drop, length-append}
 use borrow.Author.Tests.{le-leb, lt-leb, eq-eqb, ne-eqb}
-use Rattle.rules.specs.Limits.{report-size}
+use Rattle.rules.specs.Limits.{absent, report-header-size, board-row-size, op-row-size, report-size}
 use Rattle.rules.specs.Sheet.{Sheet, op, board, P-of, N-of, sheet-in}
 use Rattle.rules.specs.Job.{Job, Entry, Place, Stop, place-at}
-use Rattle.rules.specs.Step.{splice, able, is-finished, is-none}
-use Rattle.rules.specs.Order.{lowest-able, next-rank, none-able}
+use Rattle.rules.specs.Step.{splice, able, is-finished}
+use Rattle.rules.specs.Order.{none-able}
 use Rattle.rules.specs.Report.{low-two, count-from, pending-messages, pending-receives, cut-messages, all-finished, verdict-of, stop-bytes, header-bytes, board-state, board-row, op-rows, report}
 use Rattle.rules.specs.Service.{in-front}
 use Rattle.state.specs.declared.Control.{Control}
@@ -31,23 +30,19 @@ use Rattle.state.specs.Layout.{seat-at}
 use Rattle.state.specs.Decoded.{place-in}
 use Rattle.state.specs.Decodes.{place-is}
 use Rattle.state.specs.Controls.{stop-of, stop-some}
-use Rattle.words.specs.Splice.{splice-then}
+use Rattle.laws.specs.Splice.{splice-then}
 use Rattle.simulation.specs.Represents.{Represents}
 use Rattle.steps.specs.Able.{finished-is}
 use Rattle.report.specs.ReportCounts.{message-row, receive-row, cut-row, messages-are, receives-are, cut-are}
-use Rattle.report.specs.ReportRows.{low-of, joined, joined-length, row-in, row-in-length, board-rows-joined, board-row-length, op-rows-joined}
+use Rattle.report.specs.ReportRows.{low-of, four, board-row-at, joined, joined-length, row-in, row-in-length, board-rows-joined, board-row-length, op-rows-joined}
 
 -- bytes at the very front
 front-splice : (met vs : List ℕ) → splice met 0 vs ≡ in-front vs met
 unfolding splice in-front
 front-splice met vs = ap (λ (n : ℕ). vs ++ drop n met) (zero-add (length vs))
 
--- what holds of every job that stands in scratch
-abbrev pub Every : (bs c : List ℕ) (t : Control) → (Job → Type 0) → Type 0
-Every bs c t f = (lent : List ℕ) (x : Job) → Represents bs lent c t x → f x
-
 -- A BOARD'S STATE: 2 finished, 1 able, 0 neither
-module _ (bs lent c : List ℕ) (t : Control) (x : Job) (d : Represents bs lent c t x) (r done count : ℕ) (l : r < P-of (sheet-in bs))
+module _ {bs lent c : List ℕ} {t : Control} {x : Job} (d : Represents bs lent c t x) {r done count : ℕ} (l : r < P-of (sheet-in bs))
     (e : done ≡ place-in c (seat-at r) .finished) (h : count ≡ board (sheet-in bs) r .count) where
   abbrev s : Sheet
   s = sheet-in bs
@@ -68,18 +63,18 @@ module _ (bs lent c : List ℕ) (t : Control) (x : Job) (d : Represents bs lent 
   state-finished q = ap (λ (b : Bool). cond b 2 (cond (able s x r) 1 0)) (sym (finished-yes q))
 
   -- b is whether the board is able
-  pub state-other : done < count → (b a : Bool) → a ≡ able s x r → a ≡ b → cond b 1 0 ≡ board-state s x r
+  pub state-other : done < count → {a : Bool} (b : Bool) → a ≡ able s x r → a ≡ b → cond b 1 0 ≡ board-state s x r
   unfolding board-state
-  state-other q b a p w =
+  state-other q {a} b p w =
       ap (λ (f : Bool). cond f 1 0) (sym w ∙ p)
       ∙ ap (λ (f : Bool). cond f 2 (cond (able s x r) 1 0)) (sym (finished-no q))
 
   -- a board row, with its figures as they were read
-  pub row-is : (charged peak state : ℕ) → charged ≡ place-in c (seat-at r) .in-use → peak ≡ place-in c (seat-at r) .peak →
+  pub row-is : {charged peak state : ℕ} → charged ≡ place-in c (seat-at r) .in-use → peak ≡ place-in c (seat-at r) .peak →
       state ≡ board-state s x r → state ≤ 2 →
-      (low-two done ++ low-two charged) ++ (low-two peak ++ low-two state) ≡ board-row s x r
+      four done charged peak state ≡ board-row s x r
   unfolding board-row low-two
-  row-is charged peak state u p v small =
+  row-is {charged} {peak} {state} u p v small =
       let place : place-in c (seat-at r) ≡ place-at x r = place-is s c t x (d .decodes) r l in
       let one : charged ≡ place-at x r .in-use = u ∙ ap (λ (q : Place). q .in-use) place in
       let two : peak ≡ place-at x r .peak = p ∙ ap (λ (q : Place). q .peak) place in
@@ -91,87 +86,62 @@ module _ (bs lent c : List ℕ) (t : Control) (x : Job) (d : Represents bs lent 
 abbrev pub Finishing : Sheet → Job → (r : ℕ) → Type 0
 Finishing s x r = all-finished (P-of s) 0 s x ≡ all-finished (P-of s - r) r s x
 
--- NONE ABLE: no board before r is
-abbrev pub Seeking : Sheet → Job → (r : ℕ) → Type 0
-Seeking s x r = next-rank s x ≡ lowest-able (P-of s - r) r s x
-
 module _ (s : Sheet) (x : Job) where
   pub finishing-none : Finishing s x 0
   finishing-none = let e : P-of s ≡ P-of s - 0 = omega arith in ap (λ (n : ℕ). all-finished n 0 s x) e
 
-  pub seeking-none : Seeking s x 0
-  unfolding next-rank
-  seeking-none = let e : P-of s ≡ P-of s - 0 = omega arith in ap (λ (n : ℕ). lowest-able n 0 s x) e
+  -- board r is asked for
+  finished-next : (r : ℕ) → r < P-of s → Finishing s x r → (b : Bool) → is-finished s x r ≡ b →
+      all-finished (P-of s) 0 s x ≡ (b && all-finished (P-of s - (r + 1)) (r + 1) s x)
+  unfolding all-finished
+  finished-next r l q b e =
+      let left : P-of s - r ≡ suc (P-of s - (r + 1)) = omega arith in
+      q ∙ ap (λ (n : ℕ). all-finished n r s x) left
+      ∙ ap₂ (λ (f : Bool) (k : ℕ). f && all-finished (P-of s - (r + 1)) k s x) e (sym (add-one r))
 
-  module _ (r : ℕ) (l : r < P-of s) where
-    abbrev left : ℕ
-    left = P-of s - (r + 1)
+  pub finishing-more : (r : ℕ) → r < P-of s → Finishing s x r → is-finished s x r ≡ true → Finishing s x (r + 1)
+  finishing-more r l q e = finished-next r l q true e
 
-    one-less : P-of s - r ≡ suc left
-    one-less = omega arith
+  pub finishing-not : (r : ℕ) → r < P-of s → Finishing s x r → is-finished s x r ≡ false → false ≡ all-finished (P-of s) 0 s x
+  finishing-not r l q e = sym (finished-next r l q false e)
 
-    finished-next : all-finished (P-of s - r) r s x ≡ (is-finished s x r && all-finished left (r + 1) s x)
-    unfolding all-finished
-    finished-next = ap (λ (n : ℕ). all-finished n r s x) one-less ∙ ap (λ (k : ℕ). is-finished s x r && all-finished left k s x) (sym (add-one r))
+  pub finishing-all : (r : ℕ) → P-of s ≤ r → Finishing s x r → true ≡ all-finished (P-of s) 0 s x
+  unfolding all-finished
+  finishing-all r h q =
+      let none-left : P-of s - r ≡ 0 = omega arith in
+      sym (q ∙ ap (λ (n : ℕ). all-finished n r s x) none-left)
 
-    able-next : lowest-able (P-of s - r) r s x ≡ cond (able s x r) (some r) (lowest-able left (r + 1) s x)
-    unfolding lowest-able
-    able-next = ap (λ (n : ℕ). lowest-able n r s x) one-less ∙ ap (λ (k : ℕ). cond (able s x r) (some r) (lowest-able left k s x)) (sym (add-one r))
+-- THE HEADER: stop rank (255 none) and stop operation, as the control block has them
+abbrev pub no-rank : ℕ
+no-rank = 255
 
-    pub finishing-more : Finishing s x r → is-finished s x r ≡ true → Finishing s x (r + 1)
-    finishing-more q e = q ∙ finished-next ∙ ap (λ (b : Bool). b && all-finished left (r + 1) s x) e
+abbrev pub stop-rank : Control → ℕ
+stop-rank t = cond (eqb (t .verdict) 0) no-rank (t .rank)
 
-    pub finishing-not : Finishing s x r → is-finished s x r ≡ false → false ≡ all-finished (P-of s) 0 s x
-    finishing-not q e = sym (q ∙ finished-next ∙ ap (λ (b : Bool). b && all-finished left (r + 1) s x) e)
-
-    pub seeking-more : Seeking s x r → able s x r ≡ false → Seeking s x (r + 1)
-    seeking-more q e = q ∙ able-next ∙ ap (λ (b : Bool). cond b (some r) (lowest-able left (r + 1) s x)) e
-
-    pub seeking-found : Seeking s x r → able s x r ≡ true → false ≡ none-able s x
-    unfolding none-able is-none
-    seeking-found q e = sym (ap (λ (o : Option ℕ). is-none o) (q ∙ able-next ∙ ap (λ (b : Bool). cond b (some r) (lowest-able left (r + 1) s x)) e))
-
-  module _ (r : ℕ) (h : P-of s ≤ r) where
-    none-left : P-of s - r ≡ 0
-    none-left = omega arith
-
-    pub finishing-all : Finishing s x r → true ≡ all-finished (P-of s) 0 s x
-    unfolding all-finished
-    finishing-all q = sym (q ∙ ap (λ (n : ℕ). all-finished n r s x) none-left)
-
-    pub seeking-all : Seeking s x r → true ≡ none-able s x
-    unfolding none-able is-none lowest-able
-    seeking-all q = sym (ap (λ (o : Option ℕ). is-none o) (q ∙ ap (λ (n : ℕ). lowest-able n r s x) none-left))
-
--- THE HEADER: stop rank (255 none) and stop operation (65,535 none), as the control block has them
-abbrev pub rank-told : Control → ℕ
-rank-told t = cond (eqb (t .verdict) 0) 255 (t .rank)
-
-abbrev pub op-told : Control → ℕ
-op-told t = cond (eqb (t .verdict) 0) 65535 (t .op)
+abbrev pub stop-op : Control → ℕ
+stop-op t = cond (eqb (t .verdict) 0) absent (t .op)
 
 -- the first eight bytes, verdict and rank as one number; the last eight
 unfoldable pub front-bytes : (verdict : ℕ) → Control → (p : ℕ) → List ℕ
-front-bytes v t p = (low-two (v + 256 * rank-told t) ++ low-two (op-told t)) ++ (low-two (t .steps) ++ low-two p)
+front-bytes v t p = four (v + 256 * stop-rank t) (stop-op t) (t .steps) p
 
 unfoldable pub back-bytes : Sheet → (c : List ℕ) → List ℕ
 back-bytes s c =
-    (low-two (N-of s) ++ low-two (count-from (N-of s) 0 (message-row s c)))
-    ++ (low-two (count-from (N-of s) 0 (receive-row s c)) ++ low-two (count-from (N-of s) 0 (cut-row c)))
+    four (N-of s) (count-from (N-of s) 0 (message-row s c)) (count-from (N-of s) 0 (receive-row s c)) (count-from (N-of s) 0 (cut-row c))
 
-module _ (bs lent c : List ℕ) (t : Control) (x : Job) (d : Represents bs lent c t x) where
+module _ {bs lent c : List ℕ} {t : Control} {x : Job} (d : Represents bs lent c t x) where
   abbrev here : Sheet
   here = sheet-in bs
 
-  abbrev stop-told : Stop
-  stop-told =
+  abbrev ststop-op : Stop
+  ststop-op =
       record {
         verdict = t .verdict;
         rank = t .rank;
         at-op = t .op;
       }
 
-  stop-there : (t .verdict ≡ 0 → ⊥) → x .stop ≡ some stop-told
+  stop-there : (t .verdict ≡ 0 → ⊥) → x .stop ≡ some ststop-op
   stop-there h = d .decodes .stop-is ∙ stop-some (t .verdict) (t .rank) (t .op) h
 
   stop-none : t .verdict ≡ 0 → x .stop ≡ none
@@ -180,7 +150,7 @@ module _ (bs lent c : List ℕ) (t : Control) (x : Job) (d : Represents bs lent 
 
   -- VERDICTS
   pub verdict-small : (t .verdict ≡ 0 → ⊥) → t .verdict ≤ 4
-  verdict-small h = go (d .reached .stop-at stop-told (stop-there h) .reason)
+  verdict-small h = go (d .reached .stop-at ststop-op (stop-there h) .reason)
     where
       go : (t .verdict ≡ 3) ⊎ (t .verdict ≡ 4) → t .verdict ≤ 4
       go (inl e) = omega arith
@@ -206,21 +176,21 @@ module _ (bs lent c : List ℕ) (t : Control) (x : Job) (d : Represents bs lent 
   verdict-going h e f = sym (going h ∙ cc (e, f))
 
   -- THE STOP
-  pub rank-small : rank-told t < 256
+  pub rank-small : stop-rank t < 256
   rank-small = go (ℕ-discrete (t .verdict) 0)
     where
-      go : Dec (t .verdict ≡ 0) → rank-told t < 256
-      go (yes e) = omega (arith, ap (λ (b : Bool). cond b 255 (t .rank)) (eq-eqb (t .verdict) 0 e))
+      go : Dec (t .verdict ≡ 0) → stop-rank t < 256
+      go (yes e) = omega (arith, ap (λ (b : Bool). cond b no-rank (t .rank)) (eq-eqb (t .verdict) 0 e))
       go (no n) =
-          omega (arith, ap (λ (b : Bool). cond b 255 (t .rank)) (ne-eqb (t .verdict) 0 n), d .reached .stop-at stop-told (stop-there n) .rank-small, d .good .boards-few)
+          omega (arith, ap (λ (b : Bool). cond b no-rank (t .rank)) (ne-eqb (t .verdict) 0 n), d .reached .stop-at ststop-op (stop-there n) .rank-small, d .good .boards-few)
 
-  stop-bytes-are : stop-bytes (x .stop) ≡ rank-told t ∷ low-two (op-told t)
+  stop-bytes-are : stop-bytes (x .stop) ≡ stop-rank t ∷ low-two (stop-op t)
   unfolding stop-bytes low-two
   stop-bytes-are = go (ℕ-discrete (t .verdict) 0)
     where
-      go : Dec (t .verdict ≡ 0) → stop-bytes (x .stop) ≡ rank-told t ∷ low-two (op-told t)
-      go (yes e) = ap (λ (o : Option Stop). stop-bytes o) (stop-none e) ∙ ap (λ (b : Bool). cond b 255 (t .rank) ∷ low-two (cond b 65535 (t .op))) (sym (eq-eqb (t .verdict) 0 e))
-      go (no n) = ap (λ (o : Option Stop). stop-bytes o) (stop-there n) ∙ ap (λ (b : Bool). cond b 255 (t .rank) ∷ low-two (cond b 65535 (t .op))) (sym (ne-eqb (t .verdict) 0 n))
+      go : Dec (t .verdict ≡ 0) → stop-bytes (x .stop) ≡ stop-rank t ∷ low-two (stop-op t)
+      go (yes e) = ap (λ (o : Option Stop). stop-bytes o) (stop-none e) ∙ ap (λ (b : Bool). cond b no-rank (t .rank) ∷ low-two (cond b absent (t .op))) (sym (eq-eqb (t .verdict) 0 e))
+      go (no n) = ap (λ (o : Option Stop). stop-bytes o) (stop-there n) ∙ ap (λ (b : Bool). cond b no-rank (t .rank) ∷ low-two (cond b absent (t .op))) (sym (ne-eqb (t .verdict) 0 n))
 
   -- the header behind its verdict and stop
   abbrev rest : (steps messages receives cut : ℕ) → List ℕ
@@ -233,34 +203,35 @@ module _ (bs lent c : List ℕ) (t : Control) (x : Job) (d : Represents bs lent 
       let m = count-from (N-of here) 0 (message-row here c) in
       let r = count-from (N-of here) 0 (receive-row here c) in
       let q = count-from (N-of here) 0 (cut-row c) in
-      ap (λ (u : List ℕ). ((u ++ low-two (op-told t)) ++ (low-two (t .steps) ++ low-two (P-of here))) ++ back-bytes here c) (low-of v (rank-told t) (omega arith) rank-small)
-      ∙ ap (λ (k : ℕ). v ∷ (rank-told t ∷ low-two (op-told t)) ++ rest k m r q) (sym (d .decodes .steps-are))
-      ∙ ap (λ (k : ℕ). v ∷ (rank-told t ∷ low-two (op-told t)) ++ rest (x .steps) k r q) (messages-are bs lent c t x d)
-      ∙ ap (λ (k : ℕ). v ∷ (rank-told t ∷ low-two (op-told t)) ++ rest (x .steps) (pending-messages here x) k q) (receives-are bs lent c t x d)
-      ∙ ap (λ (k : ℕ). v ∷ (rank-told t ∷ low-two (op-told t)) ++ rest (x .steps) (pending-messages here x) (pending-receives here x) k) (cut-are bs lent c t x d)
+      ap (λ (u : List ℕ). ((u ++ low-two (stop-op t)) ++ (low-two (t .steps) ++ low-two (P-of here))) ++ back-bytes here c) (low-of v (stop-rank t) (omega arith) rank-small)
+      ∙ ap (λ (k : ℕ). v ∷ (stop-rank t ∷ low-two (stop-op t)) ++ rest k m r q) (sym (d .decodes .steps-are))
+      ∙ ap (λ (k : ℕ). v ∷ (stop-rank t ∷ low-two (stop-op t)) ++ rest (x .steps) k r q) (messages-are d)
+      ∙ ap (λ (k : ℕ). v ∷ (stop-rank t ∷ low-two (stop-op t)) ++ rest (x .steps) (pending-messages here x) k q) (receives-are d)
+      ∙ ap (λ (k : ℕ). v ∷ (stop-rank t ∷ low-two (stop-op t)) ++ rest (x .steps) (pending-messages here x) (pending-receives here x) k) (cut-are d)
       ∙ ap₂ (λ (a : ℕ) (b : List ℕ). a ∷ (b ++ rest (x .steps) (pending-messages here x) (pending-receives here x) (cut-messages here x))) e (sym stop-bytes-are)
 
-  header-long : length (header-bytes here x) ≡ 16
+  header-long : length (header-bytes here x) ≡ report-header-size
   unfolding header-bytes low-two
   header-long = ap (λ (b : List ℕ). length (verdict-of (x .stop) here x ∷ (b ++ rest (x .steps) (pending-messages here x) (pending-receives here x) (cut-messages here x)))) stop-bytes-are
 
   -- THE WHOLE: three stretches side by side
-  pub report-whole : (met one two all : List ℕ) → report-size (P-of here) (N-of here) ≤ length met →
-      one ≡ splice met 0 (header-bytes here x) →
-      two ≡ splice one 16 (joined (board-row here x) 0 (P-of here)) → all ≡ splice two (16 + 8 * P-of here) (joined (row-in c) 0 (N-of here)) →
-      all ≡ in-front (report here x) met
+  pub report-whole : (met : List ℕ) {one two all : List ℕ} → report-size (P-of here) (N-of here) ≤ length met →
+      one ≡ splice met 0 (header-bytes here x) → two ≡ splice one report-header-size (joined (board-row here x) 0 (P-of here)) →
+      all ≡ splice two (board-row-at (P-of here)) (joined (row-in c) 0 (N-of here)) → all ≡ in-front (report here x) met
   unfolding report in-front
-  report-whole met one two all room a b z =
+  report-whole met {one} {two} {all} room a b z =
       let head = header-bytes here x in
       let rows = joined (board-row here x) 0 (P-of here) in
       let ops = joined (row-in c) 0 (N-of here) in
-      let rows-long : length rows ≡ 8 * P-of here = joined-length 8 (board-row here x) (board-row-length here x) 0 (P-of here) in
-      let ops-long : length ops ≡ 12 * N-of here = joined-length 12 (row-in c) (row-in-length c) 0 (N-of here) in
-      let long : length (head ++ rows) ≡ 16 + 8 * P-of here = omega (arith, length-append head rows, header-long) in
-      let both : two ≡ splice met 0 (head ++ rows) = splice-then met one two 0 16 head rows a header-long b (omega (arith, header-long)) in
-      let at : 16 + 8 * P-of here ≡ 0 + (16 + 8 * P-of here) = omega arith in
-      let last : all ≡ splice two (0 + (16 + 8 * P-of here)) ops = z ∙ ap (λ (n : ℕ). splice two n ops) at in
-      splice-then met two all 0 (16 + 8 * P-of here) (head ++ rows) ops both long last (omega arith)
+      let place = board-row-at (P-of here) in
+      let rows-long = joined-length board-row-size (board-row here x) (board-row-length here x) 0 (P-of here) in
+      let ops-long = joined-length op-row-size (row-in c) (row-in-length c) 0 (N-of here) in
+      let long : length (head ++ rows) ≡ place = omega (arith, length-append head rows, header-long) in
+      let both : two ≡ splice met 0 (head ++ rows) =
+      splice-then met one two 0 report-header-size head rows a header-long b (omega (arith, header-long)) in
+      let at : place ≡ 0 + place = omega arith in
+      let last : all ≡ splice two (0 + place) ops = z ∙ ap (λ (n : ℕ). splice two n ops) at in
+      splice-then met two all 0 place (head ++ rows) ops both long last (omega arith)
       ∙ ap (λ (vs : List ℕ). splice met 0 vs) (append-assoc head rows ops)
       ∙ ap₂ (λ (u v : List ℕ). splice met 0 (head ++ (u ++ v))) (sym (board-rows-joined here x 0 (P-of here)))
       (sym (ap (λ (es : List Entry). op-rows es) (d .decodes .entries-are) ∙ op-rows-joined c (N-of here)))

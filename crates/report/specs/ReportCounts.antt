@@ -1,15 +1,15 @@
 -- Pending messages, pending receives and cut messages, counted over the rows that scratch holds. Assumes nothing.
 --   message-row, receive-row, cut-row    what is counted, as the rows have it
---   message-read, ..                     the test as the code makes it
+--   Bit                                  a test as a number
 --   Counted                              the operations before i are counted
 --   messages-are, receives-are, cut-are  the counts are those of the job that stands there
-use mathlib.Core.Path.{_≡_, refl, sym, ap, ap₂, _∙_}
-use mathlib.Core.Bool.{Bool, true, false, _&&_, _||_, cond}
+use mathlib.Core.Path.{_≡_, refl, sym, ap, ap₂, subst, _∙_}
+use mathlib.Core.Bool.{Bool, _&&_, _||_, cond}
 use mathlib.Core.List.{List}
 use Prim.Native.Nat.{ℕ, zero, suc, _+_, _-_, _≤_, _<_}
 use native.Mathlib.Omega.{arith}
 use native.Mathlib.Numerals.{add-one}
-use lib.Dec.{eqb, leb}
+use lib.Dec.{eqb}
 use Rattle.rules.specs.Sheet.{Sheet, op, N-of, sheet-in, is-send, is-receive}
 use Rattle.rules.specs.Job.{Job, Entry, entry-at}
 use Rattle.rules.specs.Report.{count-from, is-pending-message, is-pending-receive, pending-messages, pending-receives, cut-messages}
@@ -28,19 +28,13 @@ receive-row s c i = is-receive (op s i) && eqb (entry-in c (row-at i) .state) 1
 unfoldable pub cut-row : (c : List ℕ) → (i : ℕ) → Bool
 cut-row c i = eqb (entry-in c (row-at i) .cut) 1
 
--- the tests, with kind and state as they were read
-module _ (s : Sheet) (c : List ℕ) (i kind state : ℕ) (k : kind ≡ op s i .kind) (v : state ≡ entry-in c (row-at i) .state) where
-  pub message-read : ((leb 1 kind && leb kind 4) && (eqb state 1 || eqb state 2)) ≡ message-row s c i
-  unfolding message-row is-send
-  message-read = ap₂ (λ (a b : ℕ). (leb 1 a && leb a 4) && (eqb b 1 || eqb b 2)) k v
+-- a test as a number
+pub record Bit (b : Bool) (v : ℕ) : Type 0 where
+  pub is : v ≡ cond b 1 0
+  pub small : v ≤ 1
 
-  pub receive-read : (eqb kind 5 && eqb state 1) ≡ receive-row s c i
-  unfolding receive-row is-receive
-  receive-read = ap₂ (λ (a b : ℕ). eqb a 5 && eqb b 1) k v
-
--- a test that was made, as a number
-pub bit-is : (b d : Bool) → b ≡ d → (a : Bool) → b ≡ a → _≡_ {A = ℕ} (cond a 1 0) (cond d 1 0)
-bit-is b d e a f = ap (λ (q : Bool). cond q 1 0) (sym f ∙ e)
+pub bit-of : {a b : Bool} {v : ℕ} → a ≡ b → Bit a v → Bit b v
+bit-of {a} {b} {v} e q = subst (λ (c : Bool). Bit c v) e q
 
 -- THE COUNT of the numbers below n that pass a test has come to i, at k
 pub record Counted (n : ℕ) (f : ℕ → Bool) (k i : ℕ) : Type 0 where
@@ -57,29 +51,31 @@ counted-none n f =
       is = omega (arith, ap (λ (m : ℕ). count-from m 0 f) e);
     }
 
-pub bit-small : (b : Bool) → cond b 1 0 ≤ 1
-bit-small true = omega arith
-bit-small false = omega arith
-
 count-more : (n i : ℕ) (f : ℕ → Bool) → i < n → count-from (n - i) i f ≡ cond (f i) 1 0 + count-from (n - (i + 1)) (i + 1) f
 unfolding count-from
 count-more n i f l =
     let e : n - i ≡ suc (n - (i + 1)) = omega arith in
     ap (λ (m : ℕ). count-from m i f) e ∙ ap (λ (j : ℕ). cond (f i) 1 0 + count-from (n - (i + 1)) j f) (sym (add-one i))
 
-pub counted-more : (n : ℕ) (f : ℕ → Bool) (k i b : ℕ) → Counted n f k i → i < n → b ≡ cond (f i) 1 0 → Counted n f (k + b) (i + 1)
-counted-more n f k i b q l e =
+pub counted-more : {n : ℕ} {f : ℕ → Bool} {k i b : ℕ} → Counted n f k i → i < n → Bit (f i) b → Counted n f (k + b) (i + 1)
+counted-more {n} {f} {k} {i} {b} q l e =
     record {
       upper = omega arith;
-      few = omega (arith, q .few, bit-small (f i));
-      is = omega (arith, q .is, count-more n i f l);
+      few = omega (arith, q .few, e .small);
+      is = omega (arith, q .is, e .is, count-more n i f l);
     }
 
-pub counted-all : (n : ℕ) (f : ℕ → Bool) (k i : ℕ) → Counted n f k i → n ≤ i → k ≡ count-from n 0 f
+pub counted-all : {n : ℕ} {f : ℕ → Bool} {k i : ℕ} → Counted n f k i → n ≤ i → k ≡ count-from n 0 f
 unfolding count-from
-counted-all n f k i q l =
+counted-all {n} {f} {k} {i} q l =
     let e : n - i ≡ 0 = omega arith in
     omega (arith, q .is, ap (λ (m : ℕ). count-from m i f) e)
+
+-- the three counts of a report
+pub record Rows-counted (s : Sheet) (c : List ℕ) (messages receives cut : ℕ) : Type 0 where
+  pub messages-counted : messages ≡ count-from (N-of s) 0 (message-row s c)
+  pub receives-counted : receives ≡ count-from (N-of s) 0 (receive-row s c)
+  pub cut-counted : cut ≡ count-from (N-of s) 0 (cut-row c)
 
 -- tests that agree on what is counted
 count-agree : (k i : ℕ) (f g : ℕ → Bool) → ((j : ℕ) → i ≤ j → j < i + k → f j ≡ g j) → count-from k i f ≡ count-from k i g
@@ -89,7 +85,7 @@ count-agree (suc k) i f g h =
     ap₂ (λ (b : Bool) (n : ℕ). cond b 1 0 + n) (h i (omega arith) (omega arith)) (count-agree k (suc i) f g (λ j l u. h j (omega arith) (omega arith)))
 
 -- THE JOB'S
-module _ (bs lent c : List ℕ) (t : Control) (x : Job) (d : Represents bs lent c t x) where
+module _ {bs lent c : List ℕ} {t : Control} {x : Job} (d : Represents bs lent c t x) where
   abbrev s : Sheet
   s = sheet-in bs
 

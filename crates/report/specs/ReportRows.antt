@@ -12,11 +12,12 @@ use native.Mathlib.Nat.{add-comm, mul-zero, mul-suc}
 use native.Mathlib.Numerals.{add-one}
 use lib.ListN.{length, getD, take, drop, length-append}
 use lib.Seq.{drop-cons}
+use Rattle.rules.specs.Limits.{report-header-size, board-row-size, op-row-size}
 use Rattle.rules.specs.Sheet.{Sheet, two}
 use Rattle.rules.specs.Job.{Job}
 use Rattle.rules.specs.Step.{splice}
 use Rattle.rules.specs.Report.{low-two, board-row, board-rows, op-row, op-rows}
-use Rattle.words.specs.Splice.{splice-none, splice-then, splice-length}
+use Rattle.laws.specs.Splice.{splice-none, splice-then, splice-length}
 use Rattle.words.specs.Tab.{tab}
 use Rattle.state.specs.Layout.{row-at}
 use Rattle.state.specs.Decoded.{entry-in, entries-in}
@@ -55,12 +56,15 @@ rowing-none f at met h =
       is = sym (splice-none met at h);
     }
 
-pub rowing-more : (f : ℕ → List ℕ) (at : ℕ) (met out after : List ℕ) (i long : ℕ) → Rowing f at met out i →
-    length (joined f 0 i) ≡ long →
-    after ≡ splice out (at + long) (f i) → at + (length (joined f 0 i) + length (f i)) ≤ length met → Rowing f at met after (i + 1)
-rowing-more f at met out after i long q e w h =
-    let next : joined f 0 (i + 1) ≡ joined f 0 i ++ f i = ap (λ (k : ℕ). joined f 0 k) (add-one i) ∙ joined-more f 0 i ∙ ap (λ (k : ℕ). joined f 0 i ++ f k) (omega arith) in
-    let is : after ≡ splice met at (joined f 0 i ++ f i) = splice-then met out after at long (joined f 0 i) (f i) (q .is) e w h in
+-- row i, of w bytes, is put behind them
+pub rowing-more : {f : ℕ → List ℕ} {at : ℕ} {met out after : List ℕ} {i : ℕ} (w : ℕ) → ((k : ℕ) → length (f k) ≡ w) →
+    Rowing f at met out i → after ≡ splice out (at + w * i) (f i) → at + (w * i + w) ≤ length met → Rowing f at met after (i + 1)
+rowing-more {f} {at} {met} {out} {after} {i} w each q e h =
+    let long = joined-length w f each 0 i in
+    let fits : at + (length (joined f 0 i) + length (f i)) ≤ length met = omega (arith, long, each i) in
+    let next : joined f 0 (i + 1) ≡ joined f 0 i ++ f i =
+    ap (λ (k : ℕ). joined f 0 k) (add-one i) ∙ joined-more f 0 i ∙ ap (λ (k : ℕ). joined f 0 i ++ f k) (omega arith) in
+    let is : after ≡ splice met at (joined f 0 i ++ f i) = splice-then met out after at (w * i) (joined f 0 i) (f i) (q .is) long e fits in
     record {
       size =
           ap (λ (z : List ℕ). length z) is
@@ -69,12 +73,20 @@ rowing-more f at met out after i long q e w h =
     }
 
 -- THE REPORT'S ROWS
+-- where the row of board r stands; behind the last board's row those of operations start
+abbrev pub board-row-at : (r : ℕ) → ℕ
+board-row-at r = report-header-size + board-row-size * r
+
+-- four numbers side by side
+abbrev pub four : (k l m n : ℕ) → List ℕ
+four k l m n = (low-two k ++ low-two l) ++ (low-two m ++ low-two n)
+
 pub board-rows-joined : (s : Sheet) (x : Job) (r n : ℕ) → board-rows n r s x ≡ joined (board-row s x) r n
 unfolding board-rows joined
 board-rows-joined s x r zero = refl
 board-rows-joined s x r (suc n) = ap (λ (z : List ℕ). board-row s x r ++ z) (board-rows-joined s x (suc r) n)
 
-pub board-row-length : (s : Sheet) (x : Job) (r : ℕ) → length (board-row s x r) ≡ 8
+pub board-row-length : (s : Sheet) (x : Job) (r : ℕ) → length (board-row s x r) ≡ board-row-size
 unfolding board-row low-two
 board-row-length s x r = refl
 
@@ -82,7 +94,7 @@ board-row-length s x r = refl
 unfoldable pub row-in : (c : List ℕ) → (i : ℕ) → List ℕ
 row-in c i = op-row (entry-in c (row-at i))
 
-pub row-in-length : (c : List ℕ) (i : ℕ) → length (row-in c i) ≡ 12
+pub row-in-length : (c : List ℕ) (i : ℕ) → length (row-in c i) ≡ op-row-size
 unfolding row-in
 row-in-length c i = row-length (entry-in c (row-at i))
 
@@ -117,7 +129,7 @@ module _ (c : List ℕ) (bytes : (k : ℕ) → getD c k 0 < 256) where
       ∙ ap (λ (z : List ℕ). getD c at 0 ∷ z) (part-one n (at + 1) next l (omega arith))
       ∙ ap (λ (z : List ℕ). z ++ take n (drop next c)) (sym (low-of (getD c at 0) (getD c (at + 1) 0) (bytes at) (bytes (at + 1))))
 
-  pub row-copied : (i : ℕ) → row-at i + 12 ≤ length c → take 10 (drop (row-at i) c) ++ low-two 0 ≡ row-in c i
+  pub row-copied : (i : ℕ) → row-at i + op-row-size ≤ length c → take 10 (drop (row-at i) c) ++ low-two 0 ≡ row-in c i
   unfolding row-in op-row low-two
   row-copied i h =
       let at = row-at i in

@@ -15,23 +15,31 @@ use native.Mathlib.Numerals.{add-one}
 use lib.Dec.{ltb, eqb}
 use lib.ListN.{length, getD, set, replicate, length-set, length-replicate}
 use lib.Seq.{getD-set-same, getD-set-other}
-use borrow.Author.Tests.{eq-eqb, ne-eqb, eqb-true}
+use borrow.Author.Tests.{eq-eqb, eqb-true}
 use Rattle.rules.specs.Limits.{most-ops, slot-limit, scratch-size}
-use Rattle.rules.specs.Sheet.{Sheet, Op, op, board, P-of, N-of, rank-of, is-wait, is-nonblocking}
+use Rattle.rules.specs.Sheet.{Sheet, Op, op, board, P-of, N-of, rank-of, sheet-in, names-slot, takes-slot, frees-slot}
 use Rattle.rules.specs.Refusal.{freed, holds, slot-held, request-good}
 use Rattle.rules.specs.Step.{waited-below, waited, splice}
 use Rattle.rules.specs.Report.{low-two}
+use Rattle.laws.specs.Fields.{frees-names}
 use Rattle.laws.specs.Tests.{and-left, and-right, and-both, true-not-false, not-so, cond-true, cond-false}
 use Rattle.laws.specs.Below.{below-found}
-use Rattle.words.specs.Splice.{splice-length}
+use Rattle.laws.specs.Laid.{Laid}
+use Rattle.laws.specs.Splice.{splice-length}
 use Rattle.state.specs.Layout.{rank-at, word-at, waits-at}
 use Rattle.state.specs.Indexed.{Ranked, Awaited, Indexed, ranked-kept, awaited-kept, ranked-more, awaited-skip, awaited-more}
 use Rattle.invariant.specs.sheet.Valid.{Valid}
 
+-- operation i is one of the sheet's, and its slot is below the limit
+pub record Slotted (bs : List ℕ) (i : ℕ) : Type 0 where
+  pub laid : Laid bs
+  pub inside : i < N-of (sheet-in bs)
+  pub slot-small : op (sheet-in bs) i .slot < slot-limit
+
 -- LATEST
 -- operation j of board r takes slot k
 abbrev pub takes : Sheet → (r k j : ℕ) → Bool
-takes s r k j = eqb (rank-of s j) r && (is-nonblocking (op s j) && eqb (op s j .slot) k)
+takes s r k j = eqb (rank-of s j) r && (takes-slot (op s j) && eqb (op s j .slot) k)
 
 unfoldable pub latest : (i : ℕ) → Sheet → (r k : ℕ) → Option ℕ
 latest zero s r k = none
@@ -76,21 +84,21 @@ latest-some s r k (suc i) j l t = go (takes s r k i) refl (λ d. latest-some s r
         other (yes q) = true-not-false (subst (λ (z : ℕ). takes s r k z ≡ true) q t) e
         other (no d) = omega arith
 
--- a wait's slot is held (rule 7), so one took it
-pub wait-taken : (s : Sheet) → Valid s → (r i : ℕ) → i < N-of s → rank-of s i ≡ r → is-wait (op s i) ≡ true → Taken s r i (op s i .slot)
+-- the slot that an operation names is held (rule 7), so one took it
+pub wait-taken : (s : Sheet) → Valid s → (r i : ℕ) → i < N-of s → rank-of s i ≡ r → frees-slot (op s i) ≡ true → Taken s r i (op s i .slot)
 unfolding request-good slot-held holds
 wait-taken s g r i l e w =
     let k = op s i .slot in
     let test : ℕ → Bool = λ j. holds s j i && eqb (op s j .slot) k in
-    let F = below-found i test (sym (cond-true (is-wait (op s i)) (slot-held s i k) _ w) ∙ g .requests-good i l) in
+    let F = below-found i test (sym (cond-true (names-slot (op s i)) (slot-held s i k) _ (frees-names (op s i) w)) ∙ g .requests-good i l) in
     let j = F .at in
     let held = and-left (holds s j i) (eqb (op s j .slot) k) (F .passed) in
     let near = ltb j i && eqb (rank-of s j) (rank-of s i) in
-    let kept = is-nonblocking (op s j) && not (freed s (i - suc j) (suc j) (op s j .slot)) in
+    let kept = takes-slot (op s j) && not (freed s (i - suc j) (suc j) (op s j .slot)) in
     let ranked = eqb-true (rank-of s j) (rank-of s i) (and-right (ltb j i) (eqb (rank-of s j) (rank-of s i)) (and-left near kept held)) in
     latest-some s r k i j (F .below)
     (and-both (eq-eqb (rank-of s j) r (ranked ∙ e))
-    (and-both (and-left (is-nonblocking (op s j)) _ (and-right near kept held)) (and-right (holds s j i) (eqb (op s j .slot) k) (F .passed))))
+    (and-both (and-left (takes-slot (op s j)) _ (and-right near kept held)) (and-right (holds s j i) (eqb (op s j .slot) k) (F .passed))))
 
 -- THE LIST of the latest operation of board r below i that took each slot
 pub record Latest (s : Sheet) (r i : ℕ) (last : List ℕ) : Type 0 where
@@ -99,22 +107,14 @@ pub record Latest (s : Sheet) (r i : ℕ) (last : List ℕ) : Type 0 where
 
 -- what an operation leaves in it
 unfoldable pub last-after : Op → (i : ℕ) → List ℕ → List ℕ
-last-after o i last = cond (is-nonblocking o) (set last (o .slot) i) last
-
-pub last-nonblocking : (o : Op) (i : ℕ) (last : List ℕ) → o .flag ≡ 1 → set last (o .slot) i ≡ last-after o i last
-unfolding last-after is-nonblocking
-last-nonblocking o i last h = sym (cond-true (eqb (o .flag) 1) (set last (o .slot) i) last (eq-eqb (o .flag) 1 h))
-
-pub last-blocking : (o : Op) (i : ℕ) (last : List ℕ) → (o .flag ≡ 1 → ⊥) → last ≡ last-after o i last
-unfolding last-after is-nonblocking
-last-blocking o i last h = sym (cond-false (eqb (o .flag) 1) (set last (o .slot) i) last (ne-eqb (o .flag) 1 h))
+last-after o i last = cond (takes-slot o) (set last (o .slot) i) last
 
 -- before a script nobody has taken a slot
-pub latest-none : (s : Sheet) → Valid s → (r : ℕ) → r < P-of s → Latest s r (board s r .first) (replicate 32 0)
+pub latest-none : (s : Sheet) → Valid s → (r : ℕ) → r < P-of s → Latest s r (board s r .first) (replicate slot-limit 0)
 unfolding latest
 latest-none s g r l =
     record {
-      long = length-replicate {A = ℕ} 32 0;
+      long = length-replicate {A = ℕ} slot-limit 0;
       is = λ k j m e. absurd (let z : _≡_ {A = Option ℕ} none (some j) = sym (nobody k (board s r .first) (omega arith)) ∙ e in let y : _≡_ {A = ℕ} 0 1 = cc in omega arith);
     }
   where
@@ -124,7 +124,7 @@ latest-none s g r l =
         cond-false (takes s r k i) (some i) (latest i s r k)
         (not-so (takes s r k i)
         (λ t.
-        let q = eqb-true (rank-of s i) r (and-left (eqb (rank-of s i) r) (is-nonblocking (op s i) && eqb (op s i .slot) k) t) in
+        let q = eqb-true (rank-of s i) r (and-left (eqb (rank-of s i) r) (takes-slot (op s i) && eqb (op s i .slot) k) t) in
         let inside : i < N-of s = omega (arith, g .script-inside r l) in
         omega (arith, g .rank-low i inside, ap (λ (z : ℕ). board s z .first) q)))
         ∙ nobody k i (omega arith)
@@ -133,7 +133,7 @@ latest-none s g r l =
 pub latest-more : (s : Sheet) (r i : ℕ) (last : List ℕ) → Latest s r i last → rank-of s i ≡ r → op s i .slot < slot-limit →
     Latest s r (i + 1) (last-after (op s i) i last)
 unfolding latest last-after
-latest-more s r i last L e m = subst (λ (n : ℕ). Latest s r n (last-after (op s i) i last)) (sym (add-one i)) (go (is-nonblocking (op s i)) refl)
+latest-more s r i last L e m = subst (λ (n : ℕ). Latest s r n (last-after (op s i) i last)) (sym (add-one i)) (go (takes-slot (op s i)) refl)
   where
     slot : ℕ
     slot = op s i .slot
@@ -142,16 +142,16 @@ latest-more s r i last L e m = subst (λ (n : ℕ). Latest s r n (last-after (op
     not-taken : (k : ℕ) → takes s r k i ≡ false → latest (suc i) s r k ≡ latest i s r k
     not-taken k t = cond-false (takes s r k i) (some i) (latest i s r k) t
 
-    its-slot : (k : ℕ) → takes s r k i ≡ true → (is-nonblocking (op s i) && eqb slot k) ≡ true
-    its-slot k t = and-right (eqb (rank-of s i) r) (is-nonblocking (op s i) && eqb slot k) t
+    its-slot : (k : ℕ) → takes s r k i ≡ true → (takes-slot (op s i) && eqb slot k) ≡ true
+    its-slot k t = and-right (eqb (rank-of s i) r) (takes-slot (op s i) && eqb slot k) t
 
     other-slot : (k : ℕ) → (k ≡ slot → ⊥) → takes s r k i ≡ false
-    other-slot k d = not-so (takes s r k i) (λ t. d (sym (eqb-true slot k (and-right (is-nonblocking (op s i)) (eqb slot k) (its-slot k t)))))
+    other-slot k d = not-so (takes s r k i) (λ t. d (sym (eqb-true slot k (and-right (takes-slot (op s i)) (eqb slot k) (its-slot k t)))))
 
-    blocking : is-nonblocking (op s i) ≡ false → (k : ℕ) → takes s r k i ≡ false
-    blocking n k = not-so (takes s r k i) (λ t. true-not-false (and-left (is-nonblocking (op s i)) (eqb slot k) (its-slot k t)) n)
+    blocking : takes-slot (op s i) ≡ false → (k : ℕ) → takes s r k i ≡ false
+    blocking n k = not-so (takes s r k i) (λ t. true-not-false (and-left (takes-slot (op s i)) (eqb slot k) (its-slot k t)) n)
 
-    go : (b : Bool) → is-nonblocking (op s i) ≡ b → Latest s r (suc i) (cond b (set last slot i) last)
+    go : (b : Bool) → takes-slot (op s i) ≡ b → Latest s r (suc i) (cond b (set last slot i) last)
     go false n =
         record {
           long = L .long;
@@ -191,7 +191,7 @@ filled-all s c F =
       wait-is = F .waits;
     }
 
--- what operation i of board r writes: its rank, and where it is a wait the latest that took its slot
+-- what operation i of board r writes: its rank, and where it frees a slot the latest that took it
 abbrev pub rank-put : (i r : ℕ) → List ℕ → List ℕ
 rank-put i r c = splice c (rank-at i) (r ∷ [])
 
@@ -199,16 +199,7 @@ abbrev pub wait-put : (i v : ℕ) → List ℕ → List ℕ
 wait-put i v c = splice c (word-at waits-at i) (low-two v)
 
 unfoldable pub op-put : Op → (i r : ℕ) → (last c : List ℕ) → List ℕ
-op-put o i r last c = cond (is-wait o) (wait-put i (getD last (o .slot) 0) (rank-put i r c)) (rank-put i r c)
-
-module _ (o : Op) (i r : ℕ) (last c : List ℕ) where
-  pub put-wait : o .kind ≡ 6 → wait-put i (getD last (o .slot) 0) (rank-put i r c) ≡ op-put o i r last c
-  unfolding op-put is-wait
-  put-wait h = sym (cond-true (eqb (o .kind) 6) (wait-put i (getD last (o .slot) 0) (rank-put i r c)) (rank-put i r c) (eq-eqb (o .kind) 6 h))
-
-  pub put-other : (o .kind ≡ 6 → ⊥) → rank-put i r c ≡ op-put o i r last c
-  unfolding op-put is-wait
-  put-other h = sym (cond-false (eqb (o .kind) 6) (wait-put i (getD last (o .slot) 0) (rank-put i r c)) (rank-put i r c) (ne-eqb (o .kind) 6 h))
+op-put o i r last c = cond (frees-slot o) (wait-put i (getD last (o .slot) 0) (rank-put i r c)) (rank-put i r c)
 
 -- one operation more
 module _ (s : Sheet) (g : Valid s) (r i : ℕ) (last c : List ℕ) (F : Filled s c i) (L : Latest s r i last) (l : i < N-of s) (e : rank-of s i ≡ r) where
@@ -226,7 +217,7 @@ module _ (s : Sheet) (g : Valid s) (r i : ℕ) (last c : List ℕ) (F : Filled s
     awaited-kept s c (rank-at i) (r ∷ []) i (omega (arith, few)) (F .roomy) rank-fits (λ j a b p q. omega (arith, few)) (F .waits),
   )
 
-  -- a wait's word is put, which leaves the ranks
+  -- the word of one that frees a slot is put, which leaves the ranks
   wait-filled : (v : ℕ) → v < 65536 → waited s i ≡ some v → Filled s (wait-put i v (rank-put i r c)) (i + 1)
   unfolding low-two
   wait-filled v small h =
@@ -240,9 +231,9 @@ module _ (s : Sheet) (g : Valid s) (r i : ℕ) (last c : List ℕ) (F : Filled s
 
   pub filled-more : op s i .slot < slot-limit → Filled s (op-put (op s i) i r last c) (i + 1)
   unfolding op-put
-  filled-more m = go (is-wait (op s i)) refl
+  filled-more m = go (frees-slot (op s i)) refl
     where
-      go : (b : Bool) → is-wait (op s i) ≡ b → Filled s (cond b (wait-put i (getD last (op s i .slot) 0) (rank-put i r c)) (rank-put i r c)) (i + 1)
+      go : (b : Bool) → frees-slot (op s i) ≡ b → Filled s (cond b (wait-put i (getD last (op s i .slot) 0) (rank-put i r c)) (rank-put i r c)) (i + 1)
       go true w =
           let T = wait-taken s g r i l e w in
           let is = L .is (op s i .slot) (T .by) m (T .is) in

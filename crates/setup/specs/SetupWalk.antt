@@ -2,24 +2,19 @@
 -- the job that then stands in scratch. Assumes nothing.
 --   Going           going-none: before a script; going-more: one operation more; going-all: behind it
 --   start-stands    rows and places written over full tables: the start of a job stands there
-use mathlib.Core.Path.{_≡_, sym, ap, subst, _∙_}
-use mathlib.Core.Bool.{_&&_}
+use mathlib.Core.Path.{_≡_, sym, ap, ap₂, subst, _∙_}
 use mathlib.Core.List.{List}
-use Prim.Native.Nat.{ℕ, suc, _+_, _*_, _<_, _≤_}
+use Prim.Native.Nat.{ℕ, suc, _+_, _<_, _≤_}
 use native.Mathlib.Omega.{arith}
 use native.Mathlib.Numerals.{add-one}
-use lib.Dec.{eqb, leb}
 use lib.ListN.{length, replicate}
-use borrow.Author.Tests.{eqb-true}
-use Rattle.rules.specs.Limits.{most-boards, most-ops, most-attached, most-inbox, slot-limit, ops-at}
-use Rattle.rules.specs.Sheet.{Sheet, Op, op, op-in, board, P-of, N-of, P-in, N-in, rank-of, sheet-in, counts-before, inbox-start, inbox-total}
-use Rattle.rules.specs.Refusal.{board-good, op-good, room-for}
+use Rattle.rules.specs.Limits.{slot-limit}
+use Rattle.rules.specs.Sheet.{Sheet, op, board, P-of, N-of, P-in, N-in, rank-of, sheet-in, counts-before, inbox-total}
+use Rattle.rules.specs.Refusal.{op-good, room-for}
 use Rattle.rules.specs.Job.{started}
-use Rattle.laws.specs.Tests.{and-left}
 use Rattle.laws.specs.Ranks.{counts-more}
 use Rattle.laws.specs.Fields.{fields-slot}
 use Rattle.laws.specs.Laid.{Laid}
-use Rattle.laws.specs.Decoded.{P-decoded, N-decoded, op-decoded}
 use Rattle.invariant.specs.sheet.Valid.{Valid, good-first}
 use Rattle.invariant.specs.preserve.Orders.{start-reached}
 use Rattle.state.specs.declared.Control.{Control}
@@ -27,7 +22,7 @@ use Rattle.state.specs.Controls.{no-control}
 use Rattle.state.specs.Decodes.{Decodes, decodes-as}
 use Rattle.state.specs.Start.{started-bytes, started-decodes}
 use Rattle.simulation.specs.Represents.{Represents}
-use Rattle.setup.specs.SetupTables.{Latest, latest-none, latest-more, last-after, Filled, filled-more, filled-all, op-put}
+use Rattle.setup.specs.SetupTables.{Slotted, Latest, latest-none, latest-more, last-after, Filled, filled-more, filled-all, op-put}
 
 -- before operation i of board r's script, which ends at `end`
 pub record Going (s : Sheet) (r i end : ℕ) (c last : List ℕ) : Type 0 where
@@ -38,14 +33,14 @@ pub record Going (s : Sheet) (r i end : ℕ) (c last : List ℕ) : Type 0 where
   pub latest : Latest s r i last
 
 pub going-none : (s : Sheet) → Valid s → (r i n : ℕ) (c : List ℕ) → r < P-of s → i ≡ board s r .first → n ≡ board s r .count →
-    Filled s c (counts-before s r) → Going s r i (i + n) c (replicate 32 0)
+    Filled s c (counts-before s r) → Going s r i (i + n) c (replicate slot-limit 0)
 going-none s g r i n c l e f F =
     record {
       low = omega arith;
       high = omega arith;
       ends = omega arith;
       filled = subst (λ (k : ℕ). Filled s c k) (sym (e ∙ good-first s g r l)) F;
-      latest = subst (λ (k : ℕ). Latest s r k (replicate 32 0)) (sym e) (latest-none s g r l);
+      latest = subst (λ (k : ℕ). Latest s r k (replicate slot-limit 0)) (sym e) (latest-none s g r l);
     }
 
 pub going-all : (s : Sheet) → Valid s → {r i end : ℕ} {c last : List ℕ} → r < P-of s → Going s r i end c last → end ≤ i → Filled s c (counts-before s (r + 1))
@@ -54,61 +49,51 @@ going-all s g {r} {i} {end} {c} {last} l G h =
     (let all : i ≡ counts-before s (suc r) = omega (arith, G .high, G .ends, good-first s g r l, counts-more s r l) in all ∙ ap (λ (k : ℕ). counts-before s k) (sym (add-one r)))
     (G .filled)
 
--- ONE OPERATION, as the bytes have it
-module _ {bs : List ℕ} (l : Laid bs) (g : Valid (sheet-in bs)) {r i end p : ℕ} {c last : List ℕ} (h : r < P-in bs) (e : p ≡ P-in bs)
+-- ONE OPERATION
+module _ {bs : List ℕ} (l : Laid bs) (g : Valid (sheet-in bs)) {r i end : ℕ} {c last : List ℕ} (h : r < P-of (sheet-in bs))
     (G : Going (sheet-in bs) r i end c last) (u : i < end) where
   abbrev s : Sheet
   s = sheet-in bs
 
-  abbrev at : ℕ
-  at = ops-at p + 16 * i
-
-  rank-small : r < P-of s
-  rank-small = omega (arith, P-decoded bs)
-
-  pub going-rank : r < most-boards
-  going-rank = omega (arith, l .few-boards)
-
   inside : i < N-of s
-  inside = omega (arith, G .ends, g .script-inside r rank-small)
+  inside = omega (arith, G .ends, g .script-inside r h)
 
-  pub going-few : i < most-ops
-  going-few = omega (arith, inside, g .ops-few)
-
-  op-read : op-in bs at ≡ op s i
-  op-read = ap (λ (k : ℕ). op-in bs (ops-at k + 16 * i)) e ∙ sym (op-decoded bs i (omega (arith, inside, N-decoded bs)))
-
-  pub going-bytes : at + 15 < length bs
-  going-bytes = omega (arith, l .whole, inside, N-decoded bs)
-
-  slot-small : op s i .slot < slot-limit
+  pub going-slotted : Slotted bs i
   unfolding op-good
-  slot-small = fields-slot (P-of s) (s .comms) (room-for s i) (op s i) (g .ops-good i inside)
-
-  pub going-slot : op-in bs at .slot < slot-limit
-  going-slot = subst (λ (o : Op). o .slot < slot-limit) (sym op-read) slot-small
+  going-slotted =
+      record {
+        laid = l;
+        inside = inside;
+        slot-small = fields-slot (P-of s) (s .comms) (room-for s i) (op s i) (g .ops-good i inside);
+      }
 
   ranked : rank-of s i ≡ r
-  ranked = g .script-ranked r i rank-small (G .low) (omega (arith, G .ends))
+  ranked = g .script-ranked r i h (G .low) (omega (arith, G .ends))
 
-  pub going-more : {d late : List ℕ} → d ≡ op-put (op-in bs at) i r last c → late ≡ last-after (op-in bs at) i last → Going s r (i + 1) end d late
+  pub going-more : {d late : List ℕ} → d ≡ op-put (op s i) i r last c → late ≡ last-after (op s i) i last →
+      Going s r (i + 1) end d late
   going-more a b =
       record {
         low = omega (arith, G .low);
         high = omega arith;
         ends = G .ends;
         filled =
-            subst (λ (z : List ℕ). Filled s z (i + 1)) (sym (a ∙ ap (λ (o : Op). op-put o i r last c) op-read))
-            (filled-more s g r i last c (G .filled) (G .latest) inside ranked slot-small);
+            subst (λ (z : List ℕ). Filled s z (i + 1)) (sym a)
+            (filled-more s g r i last c (G .filled) (G .latest) inside ranked (going-slotted .slot-small));
         latest =
-            subst (λ (z : List ℕ). Latest s r (i + 1) z) (sym (b ∙ ap (λ (o : Op). last-after o i last) op-read))
-            (latest-more s r i last (G .latest) ranked slot-small);
+            subst (λ (z : List ℕ). Latest s r (i + 1) z) (sym b)
+            (latest-more s r i last (G .latest) ranked (going-slotted .slot-small));
       }
 
--- THE START: `b` is scratch with full tables, `d` that with rows and places
-pub start-stands : {bs b d : List ℕ} {t : Control} {p n : ℕ} → Laid bs → Valid (sheet-in bs) → Filled (sheet-in bs) b (N-of (sheet-in bs)) →
-    p ≡ P-in bs → n ≡ N-in bs → d ≡ started-bytes b p n → t ≡ no-control → (lent : List ℕ) → inbox-total (sheet-in bs) ≤ length lent →
-    Represents bs lent d t (started (sheet-in bs) lent)
+-- THE START, whatever inboxes are lent
+abbrev pub Starts : (bs c : List ℕ) → Control → Type 0
+Starts bs c t =
+    (lent : List ℕ) → inbox-total (sheet-in bs) ≤ length lent → Represents bs lent c t (started (sheet-in bs) lent)
+
+-- `b` is scratch with full tables, `d` that with rows and places
+pub start-stands : {bs b d : List ℕ} {t : Control} {p n : ℕ} → Laid bs → Valid (sheet-in bs) →
+    Filled (sheet-in bs) b (N-of (sheet-in bs)) →
+    p ≡ P-in bs → n ≡ N-in bs → d ≡ started-bytes b p n → t ≡ no-control → Starts bs d t
 start-stands {bs} {b} {d} {t} {p} {n} l g F ep en ed et lent room =
     record {
       laid = l;
@@ -120,7 +105,7 @@ start-stands {bs} {b} {d} {t} {p} {n} l g F ep en ed et lent room =
   where
     written : d ≡ started-bytes b (P-of (sheet-in bs)) (N-of (sheet-in bs))
     written =
-        ed ∙ (ap (λ (k : ℕ). started-bytes b k n) (ep ∙ sym (P-decoded bs)) ∙ ap (λ (k : ℕ). started-bytes b (P-of (sheet-in bs)) k) (en ∙ sym (N-decoded bs)))
+        ed ∙ ap₂ (λ (j k : ℕ). started-bytes b j k) (ep ∙ sym (l .P-is)) (en ∙ sym (l .N-is))
 
     there : Decodes (sheet-in bs) d t (started (sheet-in bs) lent)
     there =

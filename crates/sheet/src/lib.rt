@@ -2,7 +2,6 @@
 // No other crate knows where a field stands or what number a kind has.
 pub mod boards;
 pub mod header;
-pub mod op_bytes;
 pub mod ops;
 
 // What a service answers: number 0 and place 0, or the number of a refusal and its place.

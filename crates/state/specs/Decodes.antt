@@ -12,7 +12,7 @@ use Rattle.rules.specs.Sheet.{Sheet, N-of, P-of, two}
 use Rattle.rules.specs.Job.{Job, Entry, Place, Stop, job, entry, bare-entry, place, entry-at, place-at, with-entries, with-places, with-messages, with-receives, with-memory, with-stop, with-steps}
 use Rattle.rules.specs.Step.{splice, without, with-place, with-state, stopped}
 use Rattle.rules.specs.Report.{low-two, op-row, op-rows}
-use Rattle.words.specs.Splice.{Apart, splice-length, splice-apart, splice-take, splice-take-before}
+use Rattle.laws.specs.Splice.{Apart, splice-length, splice-apart, splice-take, splice-take-before}
 use Rattle.words.specs.Putting.{part-length}
 use Rattle.words.specs.Tab.{drop-at}
 use Rattle.state.specs.declared.Control.{Control}

@@ -13,7 +13,7 @@ use Rattle.rules.specs.Sheet.{Sheet, op, N-of, rank-of, frees-slot, two}
 use Rattle.rules.specs.Step.{splice, waited}
 use Rattle.rules.specs.Report.{low-two}
 use Rattle.laws.specs.Tests.{true-not-false}
-use Rattle.words.specs.Splice.{Apart, splice-apart, splice-below, splice-within}
+use Rattle.laws.specs.Splice.{Apart, splice-apart, splice-below, splice-within}
 use Rattle.words.specs.Two.{two-same, two-put}
 use Rattle.state.specs.Layout.{rank-at, ranks-at, waits-at, word-at}
 

@@ -13,7 +13,7 @@ use Rattle.rules.specs.Sheet.{two}
 use Rattle.rules.specs.Step.{splice, without, first-by}
 use Rattle.rules.specs.Report.{low-two}
 use Rattle.laws.specs.Tests.{true-not-false}
-use Rattle.words.specs.Splice.{Same, splice-apart}
+use Rattle.laws.specs.Splice.{Same, splice-apart}
 use Rattle.words.specs.Two.{two-same, two-within, two-put}
 use Rattle.words.specs.Putting.{part-length, part-at}
 use Rattle.words.specs.Tab.{tab, drop-at, tab-same, tab-snoc, tab-out, tab-at, tab-length}

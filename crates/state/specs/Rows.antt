@@ -9,7 +9,7 @@ use Rattle.rules.specs.Sheet.{two}
 use Rattle.rules.specs.Job.{Entry, entry, bare-entry}
 use Rattle.rules.specs.Step.{splice}
 use Rattle.rules.specs.Report.{low-two, op-row}
-use Rattle.words.specs.Splice.{Same, splice-within, splice-apart}
+use Rattle.laws.specs.Splice.{Same, splice-within, splice-apart}
 use Rattle.words.specs.Two.{two-same, two-within, two-bytes}
 use Rattle.words.specs.Tab.{tab-same, tab-set, tab-at, tab-length}
 use Rattle.state.specs.Layout.{row-at}

@@ -13,7 +13,7 @@ use Rattle.rules.specs.Sheet.{Sheet, N-of, P-of, two}
 use Rattle.rules.specs.Job.{Entry, job, entry, bare-entry, place, started}
 use Rattle.rules.specs.Step.{splice}
 use Rattle.rules.specs.Report.{op-row, op-rows}
-use Rattle.words.specs.Splice.{splice-length, splice-none, splice-within, splice-apart, splice-then, splice-take-before}
+use Rattle.laws.specs.Splice.{splice-length, splice-none, splice-within, splice-apart, splice-then, splice-take-before}
 use Rattle.words.specs.Tab.{tab-snoc, tab-all, replicate-more}
 use Rattle.state.specs.Layout.{row-at, seat-at, places-at}
 use Rattle.state.specs.Decoded.{entry-in, entries-in, place-in, places-in, words-in, Fits-row}

@@ -8,7 +8,7 @@ use lib.ListN.{length, set, length-append}
 use Rattle.rules.specs.Job.{Entry}
 use Rattle.rules.specs.Step.{splice}
 use Rattle.rules.specs.Report.{op-row, op-rows}
-use Rattle.words.specs.Splice.{splice-behind, splice-front}
+use Rattle.laws.specs.Splice.{splice-behind, splice-front}
 use Rattle.state.specs.Layout.{row-at}
 use Rattle.state.specs.Rows.{row-length}
 

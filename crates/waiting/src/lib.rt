@@ -7,12 +7,8 @@ ghost use Prim.Native.Nat.{min};
 ghost use lib.ListN.{length, take};
 ghost use Rattle.rules.specs.Limits.{most-ops};
 ghost use Rattle.waiting.specs.Envelopes.{envelope-fits, fits-receive, earliest-fit, listed};
-
-// What a receive asks for where it takes any source or any tag (document 01, "The sheet, byte by byte").
-pub const ANY: usize = 65535;
-
-// The most operations of a sheet: no waiting list is longer.
-pub const MOST: usize = 1024;
+use limits::ANY;
+use limits::MOST_OPS;
 
 // A message that waits: its source, communicator and tag, and the send that it is of.
 pub struct Envelope {
@@ -98,12 +94,12 @@ pub fn earliest(list: &[Envelope], source: usize, communicator: usize, tag: usiz
 fn waiting_of(count: usize) -> usize
     ensures { λ m. ⌜ m ≡ min count most-ops ⌝ }
 {
-    if count < MOST { count } else { MOST }
+    if count < MOST_OPS { count } else { MOST_OPS }
 }
 
 // The earliest of the first `count` envelopes of an array; of all, where the count exceeds their number.
 pub fn earliest_of(
-    list: [Envelope; MOST],
+    list: [Envelope; MOST_OPS],
     count: usize,
     source: usize,
     communicator: usize,

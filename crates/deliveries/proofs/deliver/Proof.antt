@@ -4,8 +4,8 @@ use mathlib.Core.Path.{_≡_, _∙_, ap}
 use Prim.Native.Nat.{ℕ, _-_}
 use native.Mathlib.Omega.{arith}
 use Rattle.rules.specs.Sheet.{sheet-in, counts-before, P-of}
-use Rattle.laws.specs.Decoded.{P-decoded}
 use Rattle.deliveries.specs.Deliveries.{Filling, filling-none, filling-start, filling-more, memory-is}
+use borrow.Author.Needs.{needs}
 use Rattle.deliveries.proofs.deliver.Statement.{statement}
 use Rattle.deliveries.proofs.deliver.Tie as tie
 
@@ -14,9 +14,6 @@ Inv-loop s c inbox₀ p start₀ r₀ inbox start r = Filling (sheet-in s) c inb
 
 abbrev μ-loop : tie.MeasureT-loop
 μ-loop s c inbox₀ p start₀ r₀ inbox start r = p - r
-
-boards-requires : tie.Need-boards-requires Inv-loop μ-loop
-boards-requires c κs = omega (arith, c .before .before .before .pre .0 .laid .whole)
 
 loop-holds : tie.Need-loop-holds Inv-loop μ-loop
 loop-holds c =
@@ -27,39 +24,32 @@ deliver-script-requires : tie.Need-deliver-script-requires Inv-loop μ-loop
 deliver-script-requires c κs =
     let z = c .before .before .before .before .before .before .before in
     let l = c .before .before .loop in
-    (z .pre .0, omega arith, l .inv .start-is, omega (arith, z .pre .1, l .inv .replaying .size))
-
-inbox-requires : tie.Need-inbox-requires Inv-loop μ-loop
-inbox-requires c κs = (c .before .before .before .before .before .before .before .before .before .before .pre .0 .laid, omega arith)
+    (z .pre .0, omega arith, record { starts = l .inv .start-is; room = omega (arith, z .pre .1, l .inv .replaying .size) })
 
 add-start : tie.Need-add-start Inv-loop μ-loop
-add-start c = omega (arith, filling-start (c .before .before .before .before .before .before .before .before .before .before .before .pre .0 .good) (c .before .before .before .before .before .before .loop .inv) (omega (arith, P-decoded (c .before .before .before .before .before .before .before .before .before .before .before .args .s .now))))
-
-add-r : tie.Need-add-r Inv-loop μ-loop
-add-r c = omega arith
-
-loop-less : tie.Need-loop-less Inv-loop μ-loop
-loop-less c = omega arith
+add-start c =
+    let l = c .before .before .before .before .before .before .loop in
+    let z = c .before .before .before .before .before .before .before .before .before .before .before in
+    omega (arith, filling-start (z .pre .0 .good) (l .inv) (omega arith))
 
 loop-again : tie.Need-loop-again Inv-loop μ-loop
 loop-again c =
+    let script = c .before .before .before .deliver-script in
+    let l = c .before .before .before .before .before .before .loop in
     let z = c .before .before .before .before .before .before .before .before .before .before .before in
     let a = z .args in
-    let l = c .before .before .before .before .before .before .loop in
-    filling-more (sheet-in (a .s .now)) (z .pre .0 .good) (a .c .now) (a .inbox .now) (l .r) (l .start) (l .inbox) (c .before .before .before .deliver-script .last .1 .1 .1 .1 .0) (c .inbox2 .result) (l .inv)
-    (omega (arith, P-decoded (a .s .now))) (c .inbox2 .ensures .is) (c .before .before .before .deliver-script .ensures)
-
-same-length : tie.Need-same-length Inv-loop μ-loop
-same-length c = c .before .loop .inv .replaying .size
+    filling-more (sheet-in (a .s .now)) (z .pre .0 .good) (a .c .now) (a .inbox .now) (l .r) (l .start) (l .inbox)
+    (script .last .1 .1 .1 .1 .0) (c .inbox2 .result) (l .inv) (omega arith) (c .inbox2 .ensures .is) (script .ensures)
 
 returns : tie.Need-returns Inv-loop μ-loop
 returns c =
     let z = c .before .before .before .before .before .before in
     let a = z .args in
     let l = c .before .loop in
-    let last : l .r ≡ P-of (sheet-in (a .s .now)) = omega (arith, P-decoded (a .s .now), l .inv .upper) in
-    memory-is (a .s .now) (a .c .now) (a .inbox .now) (l .inbox) (counts-before (sheet-in (a .s .now)) (l .r)) (l .inv .replaying)
-    (ap (λ (k : ℕ). counts-before (sheet-in (a .s .now)) k) last ∙ z .pre .0 .good .counts-total)
+    let s = sheet-in (a .s .now) in
+    let last : l .r ≡ P-of s = omega (arith, l .inv .upper) in
+    memory-is (a .s .now) (a .c .now) (a .inbox .now) (l .inbox) (counts-before s (l .r)) (l .inv .replaying)
+    (ap (λ (k : ℕ). counts-before s k) last ∙ z .pre .0 .good .counts-total)
 
 pub deliver-spec : {M : Type 1} → statement M
 deliver-spec =
@@ -67,13 +57,13 @@ deliver-spec =
     (tie.spec
     Inv-loop
     μ-loop
-    boards-requires
+    (λ c κs. search needs)
     loop-holds
     deliver-script-requires
-    inbox-requires
+    (λ c κs. search needs)
     add-start
-    add-r
-    loop-less
+    (λ c. omega arith)
+    (λ c. omega arith)
     loop-again
-    same-length
+    (λ c. c .before .loop .inv .replaying .size)
     returns)

@@ -1,28 +1,20 @@
 -- `report::cut_at` meets its contract. Assumes nothing.
-use mathlib.Core.Path.{sym, _∙_, ap}
-use mathlib.Core.Bool.{Bool, cond}
-use borrow.Author.Tests.{eq-eqb, ne-eqb}
-use Rattle.state.specs.Layout.{row-at}
-use Rattle.state.specs.Decoded.{entry-in}
-use Rattle.report.specs.ReportCounts.{cut-row}
+use mathlib.Core.Path.{ap}
+use Prim.Native.Nat.{ℕ}
+use lib.Dec.{eqb}
+use Rattle.report.specs.ReportCounts.{cut-row, bit-of}
 use borrow.Author.Needs.{needs}
 use Rattle.report.proofs.cut_at.Statement.{statement}
 use Rattle.report.proofs.cut_at.Tie as tie
 
-cut-of-requires : tie.Need-cut-of-requires
-cut-of-requires c κs = search needs
-
 returns : tie.Need-returns
 unfolding cut-row
-returns c =
-    let a = c .before .before .before .args in
-    sym (ap (λ (b : Bool). cond b 1 0) (eq-eqb (entry-in (a .c .now) (row-at (a .i)) .cut) 1 (sym (c .before .cut-of .ensures .is) ∙ c .if1 .taken)))
-
-returns-2 : tie.Need-returns-2
-unfolding cut-row
-returns-2 c =
-    let a = c .before .before .before .args in
-    sym (ap (λ (b : Bool). cond b 1 0) (ne-eqb (entry-in (a .c .now) (row-at (a .i)) .cut) 1 (λ h. c .if1 .left (c .before .cut-of .ensures .is ∙ h))))
+returns c = bit-of (ap (λ (v : ℕ). eqb v 1) (c .before .cut-of .ensures .is)) (c .bit .ensures)
 
 pub cut-at-spec : {M : Type 1} → statement M
-cut-at-spec = tie.close (tie.spec cut-of-requires returns returns-2)
+cut-at-spec =
+    tie.close
+    (tie.spec
+    (λ c κs. search needs)
+    (λ c κs. search needs)
+    returns)

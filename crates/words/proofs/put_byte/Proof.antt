@@ -1,7 +1,7 @@
 -- `words::put_byte` meets its contract: one store is a splice of one byte. Assumes nothing.
 use mathlib.Core.List.{[], _∷_}
 use native.Mathlib.Omega.{arith}
-use Rattle.words.specs.Splice.{sets-splice}
+use Rattle.laws.specs.Splice.{sets-splice}
 use borrow.Author.Needs.{needs}
 use Rattle.words.proofs.put_byte.Statement.{statement}
 use Rattle.words.proofs.put_byte.Tie as tie

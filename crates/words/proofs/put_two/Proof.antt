@@ -5,7 +5,7 @@ use native.Mathlib.Omega.{arith}
 use native.Mathlib.Numerals.{add-one}
 use lib.ListN.{length-set, set}
 use Rattle.rules.specs.Report.{low-two}
-use Rattle.words.specs.Splice.{sets-splice}
+use Rattle.laws.specs.Splice.{sets-splice}
 use borrow.Author.Needs.{needs}
 use Rattle.words.proofs.put_two.Statement.{statement}
 use Rattle.words.proofs.put_two.Tie as tie

@@ -4,7 +4,7 @@ use Prim.Native.Nat.{ℕ}
 use native.Mathlib.Omega.{arith}
 use borrow.Author.Needs.{needs}
 use lib.ListN.{length, replicate, length-replicate}
-use Rattle.words.specs.Splice.{splice-whole}
+use Rattle.laws.specs.Splice.{splice-whole}
 use Rattle.words.proofs.zero.Statement.{statement}
 use Rattle.words.proofs.zero.Tie as tie
 

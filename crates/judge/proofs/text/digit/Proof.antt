@@ -8,12 +8,6 @@ use borrow.Author.Needs.{needs}
 use Rattle.judge.proofs.text.digit.Statement.{statement}
 use Rattle.judge.proofs.text.digit.Tie as tie
 
-add-result : tie.Need-add-result
-add-result c = search needs
-
-add-result-2 : tie.Need-add-result-2
-add-result-2 c = search needs
-
 returns : tie.Need-returns
 unfolding digit-of
 returns c = let d = c .before .args .d in sym (ap (λ (t : Bool). cond t (48 + d) (55 + d)) (lt-ltb d 10 (c .if1 .taken)))
@@ -23,4 +17,4 @@ unfolding digit-of
 returns-2 c = let d = c .before .args .d in sym (ap (λ (t : Bool). cond t (48 + d) (55 + d)) (le-ltb d 10 (c .if1 .left)))
 
 pub digit-spec : {M : Type 1} → statement M
-digit-spec = tie.close (tie.spec add-result add-result-2 returns returns-2)
+digit-spec = tie.close (tie.spec (λ c. search needs) (λ c. search needs) returns returns-2)

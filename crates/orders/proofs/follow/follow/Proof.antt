@@ -1,88 +1,52 @@
--- `orders::follow::follow` meets its contract. The loop's invariant: whatever inboxes are lent, the walk has come to index k
--- with a job that stands in scratch. The measure is how much of the order is left. Assumes nothing.
-use mathlib.Core.Path.{_≡_, _∙_, sym, ap, subst}
-use Prim.Native.Nat.{ℕ, _<_, _≤_, _-_}
+-- `orders::follow::follow` meets its contract. The loop's invariant: whatever inboxes are lent, the order is followed up to
+-- index k. The measure is what is left of the order. Assumes nothing.
+use mathlib.Core.Path.{_≡_}
+use Prim.Native.Nat.{_≤_, _-_}
 use native.Mathlib.Omega.{arith}
 use borrow.Author.Needs.{needs}
-use borrow.Author.Tests.{not-true, not-false}
 use lib.ListN.{length}
-use Rattle.orders.specs.Follows.{Reaches-all, reaches-none, standing, reaches-refused, reaches-more, able-there, reaches-all}
+use borrow.Author.Tests.{not-true, not-false}
+use Rattle.orders.specs.Follows.{Reaches, reaches-none, reaches-represented, reaches-refused, reaches-able, reaches-more, reaches-end}
 use Rattle.orders.proofs.follow.follow.Statement.{statement}
 use Rattle.orders.proofs.follow.follow.Tie as tie
-use Rattle.orders.proofs.follow.follow.Reads as reads
-use Rattle.orders.proofs.follow.follow.Lts as lts
-use Rattle.steps.proofs.able.is_able.Reads as is-able-reads
-use Rattle.setup.proofs.start.Reads as start-reads
-use Rattle.steps.proofs.turn.take.Reads as take-reads
-use Rattle.words.proofs.wide.Reads as wide-reads
 
 abbrev Inv-loop : tie.InvT-loop
-Inv-loop s order c₀ t₀ k₀ c t k = (length c ≡ length c₀) × (k ≤ length order) × Reaches-all s order c t k
+Inv-loop s order c₀ t₀ k₀ c t k = (length c ≡ length c₀) × (k ≤ length order) × Reaches s order c t k
 
 abbrev μ-loop : tie.MeasureT-loop
 μ-loop s order c₀ t₀ k₀ c t k = length order - k
 
-start-requires : tie.Need-start-requires Inv-loop μ-loop
-start-requires c κs = c .before .before .before .before .pre
-
 loop-holds : tie.Need-loop-holds Inv-loop μ-loop
 loop-holds c =
+    let start = c .before .before .start in
     let a = c .before .before .before .before .before .before .before .args in
-    (search needs, omega arith, reaches-none (a .s .now) (a .order .now) (c .before .before .start .last .1 .0) (c .before .before .start .result) (c .before .before .start .ensures))
-
-shared-slice-read-wide : tie.Need-shared-slice-read-wide Inv-loop μ-loop
-shared-slice-read-wide c = omega arith
-
-wide-requires : tie.Need-wide-requires Inv-loop μ-loop
-wide-requires c κs = search needs
-
-is-able-requires : tie.Need-is-able-requires Inv-loop μ-loop
-is-able-requires c κs =
-    let a = c .before .before .before .before .before .before .before .before .before .before .before .before .args in
-    let l = c .before .before .before .before .loop in
-    standing (a .s .now) (a .order .now) (l .c) (l .t) (l .k) (l .inv .2)
-
-same-length : tie.Need-same-length Inv-loop μ-loop
-same-length c = search needs
+    (search needs, omega arith, reaches-none (a .s .now) (a .order .now) (start .last .1 .0) (start .result) (start .ensures))
 
 returns : tie.Need-returns Inv-loop μ-loop
 returns c =
-    let a = c .before .before .before .before .before .before .before .before .before .before .before .before .before .before .args in
-    let l = c .before .before .before .before .before .before .loop in
-    reaches-refused (a .s .now) (a .order .now) (l .c) (l .t) (l .k) (c .before .before .before .wide .result) (l .inv .2) (c .before .before .before .before .before .loop-test .taken) (c .before .before .before .wide .ensures .is) (c .before .is-able .result)
-    (c .before .is-able .ensures) (not-true _ (c .if1 .taken))
+    let asked = c .before .is-able in
+    let rank = c .before .before .before in
+    reaches-refused (rank .before .before .before .loop .inv .2) (rank .before .before .loop-test .taken) (rank .wide .ensures .is)
+    (asked .result) (asked .ensures) (not-true _ (c .if1 .taken))
 
 take-requires : tie.Need-take-requires Inv-loop μ-loop
 take-requires c κs =
-    let a = c .before .before .before .before .before .before .before .before .before .before .before .before .before .before .before .args in
-    let l = c .before .before .before .before .before .before .before .loop in
-    able-there (a .s .now) (a .order .now) (l .c) (l .t) (l .k) (c .before .before .before .before .wide .result) (l .inv .2) (c .before .before .before .before .before .before .loop-test .taken) (c .before .before .before .before .wide .ensures .is) (c .before .before .is-able .result)
-    (c .before .before .is-able .ensures) (not-false _ (c .before .if1 .left))
-
-add-k : tie.Need-add-k Inv-loop μ-loop
-add-k c = omega arith
-
-loop-less : tie.Need-loop-less Inv-loop μ-loop
-loop-less c = omega arith
+    let asked = c .before .before .is-able in
+    let rank = c .before .before .before .before in
+    reaches-able (rank .before .before .before .loop .inv .2) (rank .before .before .loop-test .taken) (rank .wide .ensures .is)
+    (asked .result) (asked .ensures) (not-false _ (c .before .if1 .left))
 
 loop-again : tie.Need-loop-again Inv-loop μ-loop
 loop-again c =
-    let a = c .before .before .before .before .before .before .before .before .before .before .before .before .before .before .before .before .before .before .args in
-    let l = c .before .before .before .before .before .before .before .before .before .before .loop in (
+    let taken = c .before .before .take in
+    let asked = c .before .before .before .before .before .is-able in
+    let rank = c .before .before .before .before .before .before .before in (
       search needs,
       omega arith,
-      reaches-more (a .s .now) (a .order .now) (l .c) (l .t) (l .k) (c .before .before .before .before .before .before .before .wide .result) (l .inv .2) (c .before .before .before .before .before .before .before .before .before .loop-test .taken) (c .before .before .before .before .before .before .before .wide .ensures .is)
-          (c .before .before .before .before .before .is-able .result) (c .before .before .before .before .before .is-able .ensures) (not-false _ (c .before .before .before .before .if1 .left)) (c .before .before .take .last .1 .0) (c .before .before .take .result) (c .before .before .take .ensures),
+      reaches-more (rank .before .before .before .loop .inv .2) (rank .before .before .loop-test .taken) (rank .wide .ensures .is)
+          (asked .result) (asked .ensures) (not-false _ (c .before .before .before .before .if1 .left))
+          (taken .last .1 .0) (taken .result) (taken .ensures),
     )
-
-same-length-2 : tie.Need-same-length-2 Inv-loop μ-loop
-same-length-2 c = search needs
-
-returns-2 : tie.Need-returns-2 Inv-loop μ-loop
-returns-2 c =
-    let a = c .before .before .before .before .before .before .before .before .before .args in
-    let l = c .before .loop in
-    reaches-all (a .s .now) (a .order .now) (l .c) (l .t) (l .k) (l .inv .2) (c .loop-test .left)
 
 pub follow-spec : {M : Type 1} → statement M
 follow-spec =
@@ -90,16 +54,16 @@ follow-spec =
     (tie.spec
     Inv-loop
     μ-loop
-    start-requires
+    (λ c κs. search needs)
     loop-holds
-    shared-slice-read-wide
-    wide-requires
-    is-able-requires
-    same-length
+    (λ c. omega arith)
+    (λ c κs. search needs)
+    (λ c κs. reaches-represented (c .before .before .before .before .loop .inv .2))
+    (λ c. search needs)
     returns
     take-requires
-    add-k
-    loop-less
+    (λ c. omega arith)
+    (λ c. omega arith)
     loop-again
-    same-length-2
-    returns-2)
+    (λ c. search needs)
+    (λ c. reaches-end (c .before .loop .inv .2) (c .loop-test .left)))

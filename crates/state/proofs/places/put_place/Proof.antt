@@ -7,7 +7,7 @@ use native.Mathlib.Omega.{arith}
 use Rattle.rules.specs.Job.{place}
 use Rattle.rules.specs.Step.{splice}
 use Rattle.rules.specs.Report.{low-two}
-use Rattle.words.specs.Splice.{splice-then}
+use Rattle.laws.specs.Splice.{splice-then}
 use Rattle.state.specs.Layout.{seat-at}
 use Rattle.state.specs.Decoded.{place-row}
 use Rattle.state.specs.Places.{waiting-bytes}

@@ -3,7 +3,7 @@ use mathlib.Core.Path.{refl}
 use mathlib.Core.List.{[], _∷_}
 use native.Mathlib.Omega.{arith}
 use Rattle.rules.specs.Report.{low-two}
-use Rattle.words.specs.Splice.{splice-then}
+use Rattle.laws.specs.Splice.{splice-then}
 use borrow.Author.Needs.{needs}
 use Rattle.state.proofs.rows.put_front.Statement.{statement}
 use Rattle.state.proofs.rows.put_front.Tie as tie

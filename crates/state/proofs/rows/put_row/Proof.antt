@@ -4,7 +4,7 @@ use mathlib.Core.List.{_∷_, _++_}
 use native.Mathlib.Omega.{arith}
 use Rattle.rules.specs.Job.{entry}
 use Rattle.rules.specs.Report.{low-two, op-row}
-use Rattle.words.specs.Splice.{splice-then}
+use Rattle.laws.specs.Splice.{splice-then}
 use Rattle.state.specs.Layout.{row-at}
 use borrow.Author.Needs.{needs}
 use Rattle.state.proofs.rows.put_row.Statement.{statement}
