@@ -11,10 +11,14 @@ use Rattle.jamturret.proofs.jamturret_follow.Statement.{statement}
 use Rattle.jamturret.proofs.jamturret_follow.Tie as tie
 
 -- the rooms are enough, with the order's own room
-enough : (c : tie.After-refusal) → c .refusal .result .number ≡ 0 →
-    Ready (c .before .before .before .before .before .before .args .sheet .now) (length (c .before .before .before .before .before .before .args .inbox .now)) (length (c .before .before .before .before .before .before .args .report .now))
-    (order-room (N-of (sheet-in (c .before .before .before .before .before .before .args .sheet .now)))) (length (c .before .before .before .before .before .before .args .scratch .now))
-enough c z = own-order (ready _ _ _ _ _ _ _ (c .refusal .ensures) z)
+module _ (c : tie.After-refusal) where
+  abbrev entry : tie.Start
+  entry = c .before .before .before .before .before .before
+
+  enough : c .refusal .result .number ≡ 0 →
+      Ready (entry .args .sheet .now) (length (entry .args .inbox .now)) (length (entry .args .report .now))
+      (order-room (N-of (sheet-in (entry .args .sheet .now)))) (length (entry .args .scratch .now))
+  enough z = own-order (ready _ _ _ _ _ _ _ (c .refusal .ensures) z)
 
 returns : tie.Need-returns
 returns c =
@@ -28,7 +32,7 @@ returns-2 c =
     let f = c .before .before .before .before .before .before .follow in
     let k = c .before .before .before .before .before .before .before .before .before .before .before .before in
     let z = c .before .before .before .before .before .before .before .before .before .before .if1 .left in
-    let a = k .before .before .before .before .before .before .args in
+    let a = entry k .args in
     follow-done (a .sheet .now) (a .order .now) (a .inbox .now) (a .report .now) (a .scratch .now)
     (unrefused _ _ _ _ _ _ _ (k .refusal .ensures) z) (enough k z .roomy)
     (f .result .number) (f .result .place) (f .last .1 .1 .0) (f .last .1 .1 .1 .0) (f .last .1 .1 .1 .1 .0) (f .ensures)

@@ -43,7 +43,9 @@ module _ (c : tie.After-report-size) where
 hex-line-requires : tie.Need-hex-line-requires
 hex-line-requires c κs =
     let k = c .before .before in
-    (omega (arith, long k, k .report-size .ensures .0), omega (arith, long k, k .report-size .ensures .1, c .before .before .before .before .before .before .before .before .before .before .before .before .before .before .before .pre))
+    let e = k .report-size .ensures in
+    let z = k .before .before .before .before .before .before .before .before .before .before .before .before .before in
+    (omega (arith, long k, e .0), omega (arith, long k, e .1, z .pre))
 
 returns-2 : tie.Need-returns-2
 returns-2 c =
