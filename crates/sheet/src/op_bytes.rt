@@ -1,6 +1,5 @@
 // Operations: field readers (document 01, "The sheet, byte by byte"). An operation is named here by the place
 // where its sixteen bytes start.
-ghost use mathlib.Core.Path.{_≡_};
 ghost use Prim.Native.Nat.{_+_, _<_};
 ghost use lib.ListN.{length};
 ghost use Rattle.rules.specs.Sheet.{op-in};
