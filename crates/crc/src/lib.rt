@@ -1,5 +1,4 @@
 // CRC-16 by a constant table of all 256 remainders (document 01, "The sheet, byte by byte").
-ghost use mathlib.Core.Path.{_≡_};
 ghost use Prim.Native.Nat.{_<_};
 ghost use lib.ListN.{length, getD};
 ghost use Rattle.rules.specs.Crc.{crc-from, crc};

@@ -5,11 +5,11 @@ use mathlib.Core.Bool.{Bool, true, false, not, cond}
 use Prim.Native.Nat.{ℕ, zero, suc, _+_, _<_, _≤_, _-_}
 use native.Mathlib.Omega.{arith}
 use native.Mathlib.Decide.{ℕ-discrete}
-use native.Mathlib.Nat.{add-suc, add-zero, zero-add, suc-add}
+use native.Mathlib.Nat.{add-zero, zero-add, suc-add}
 use lib.Dec.{eqb}
 use borrow.Author.Tests.{eq-eqb, ne-eqb, not-true, not-false}
 use Rattle.rules.specs.Refusal.{Refusal, refusal, accepted, or-else, first-broken}
-use Rattle.laws.specs.Tests.{cond-true, cond-false, true-not-false}
+use Rattle.laws.specs.Tests.{cond-true, cond-false}
 
 -- CHAINS: a refusal that accepts is passed over, another is the answer
 pub or-else-passed : (a b : Refusal) → a .number ≡ 0 → or-else a b ≡ b

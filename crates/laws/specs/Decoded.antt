@@ -1,36 +1,36 @@
 -- The tables of a decoded sheet, entry by entry: entry i of a table stands at the table's start plus i times its width.
 -- Assumes nothing.
-use mathlib.Core.Path.{_≡_, refl, sym, _∙_, ap, subst}
-use mathlib.Core.List.{List, [], _∷_}
-use Prim.Native.Nat.{ℕ, zero, suc, _+_, _*_, _<_, _≤_, _-_, min}
+use mathlib.Core.Path.{_≡_, refl, sym, _∙_, ap}
+use mathlib.Core.List.{List}
+use Prim.Native.Nat.{ℕ, zero, suc, _+_, _*_, _<_, _-_, min}
 use native.Mathlib.Omega.{arith}
-use lib.ListN.{length, getD, take, drop, length-take, length-drop}
-use Rattle.rules.specs.Limits.{boards-at, ops-at, payload-at, sheet-size}
-use Rattle.rules.specs.Sheet.{Op, Board, op, board, P-of, N-of, op-in, ops-in, board-in, boards-in, sheet-in, P-in, C-in, N-in, L-in, no-op, no-board}
+use lib.ListN.{length, getD, drop, length-take, length-drop}
+use Rattle.rules.specs.Limits.{boards-at, board-size, op-size, ops-at, payload-at, sheet-size}
+use Rattle.rules.specs.Sheet.{op, board, P-of, N-of, op-in, ops-in, board-in, boards-in, sheet-in, P-in, C-in, N-in, L-in, no-op, no-board}
 
 pub ops-in-length : (bs : List ℕ) (n at : ℕ) → length (ops-in bs n at) ≡ n
 unfolding ops-in
 ops-in-length bs zero at = refl
-ops-in-length bs (suc n) at = ap suc (ops-in-length bs n (at + 16))
+ops-in-length bs (suc n) at = ap suc (ops-in-length bs n (at + op-size))
 
 pub boards-in-length : (bs : List ℕ) (n at : ℕ) → length (boards-in bs n at) ≡ n
 unfolding boards-in
 boards-in-length bs zero at = refl
-boards-in-length bs (suc n) at = ap suc (boards-in-length bs n (at + 8))
+boards-in-length bs (suc n) at = ap suc (boards-in-length bs n (at + board-size))
 
-ops-in-at : (bs : List ℕ) (n at i : ℕ) → i < n → getD (ops-in bs n at) i no-op ≡ op-in bs (at + 16 * i)
+ops-in-at : (bs : List ℕ) (n at i : ℕ) → i < n → getD (ops-in bs n at) i no-op ≡ op-in bs (at + op-size * i)
 unfolding ops-in
 ops-in-at bs zero at i h = absurd (omega arith)
 ops-in-at bs (suc n) at zero h = ap (λ (k : ℕ). op-in bs k) (omega arith)
 ops-in-at bs (suc n) at (suc i) h =
-    ops-in-at bs n (at + 16) i (omega arith) ∙ ap (λ (k : ℕ). op-in bs k) (omega arith)
+    ops-in-at bs n (at + op-size) i (omega arith) ∙ ap (λ (k : ℕ). op-in bs k) (omega arith)
 
-boards-in-at : (bs : List ℕ) (n at i : ℕ) → i < n → getD (boards-in bs n at) i no-board ≡ board-in bs (at + 8 * i)
+boards-in-at : (bs : List ℕ) (n at i : ℕ) → i < n → getD (boards-in bs n at) i no-board ≡ board-in bs (at + board-size * i)
 unfolding boards-in
 boards-in-at bs zero at i h = absurd (omega arith)
 boards-in-at bs (suc n) at zero h = ap (λ (k : ℕ). board-in bs k) (omega arith)
 boards-in-at bs (suc n) at (suc i) h =
-    boards-in-at bs n (at + 8) i (omega arith) ∙ ap (λ (k : ℕ). board-in bs k) (omega arith)
+    boards-in-at bs n (at + board-size) i (omega arith) ∙ ap (λ (k : ℕ). board-in bs k) (omega arith)
 
 module _ (bs : List ℕ) where
   pub P-decoded : P-of (sheet-in bs) ≡ P-in bs
@@ -41,11 +41,11 @@ module _ (bs : List ℕ) where
   unfolding N-of sheet-in
   N-decoded = ops-in-length bs (N-in bs) (ops-at (P-in bs))
 
-  pub op-decoded : (i : ℕ) → i < N-in bs → op (sheet-in bs) i ≡ op-in bs (ops-at (P-in bs) + 16 * i)
+  pub op-decoded : (i : ℕ) → i < N-in bs → op (sheet-in bs) i ≡ op-in bs (ops-at (P-in bs) + op-size * i)
   unfolding op sheet-in
   op-decoded i h = ops-in-at bs (N-in bs) (ops-at (P-in bs)) i h
 
-  pub board-decoded : (r : ℕ) → r < P-in bs → board (sheet-in bs) r ≡ board-in bs (boards-at + 8 * r)
+  pub board-decoded : (r : ℕ) → r < P-in bs → board (sheet-in bs) r ≡ board-in bs (boards-at + board-size * r)
   unfolding board sheet-in
   board-decoded r h = boards-in-at bs (P-in bs) boards-at r h
 
@@ -61,9 +61,9 @@ module _ (bs : List ℕ) where
       ∙ (ap (λ (k : ℕ). min (L-in bs) k) (length-drop (payload-at (P-in bs) (N-in bs)) bs) ∙ omega arith)
 
   -- an operation of the sheet, with P as it was read: its sixteen bytes, which lie inside
-  pub op-by : (i p : ℕ) → i < N-of (sheet-in bs) → p ≡ P-in bs → op-in bs (ops-at p + 16 * i) ≡ op (sheet-in bs) i
+  pub op-by : (i p : ℕ) → i < N-of (sheet-in bs) → p ≡ P-in bs → op-in bs (ops-at p + op-size * i) ≡ op (sheet-in bs) i
   op-by i p l e =
-      ap (λ (k : ℕ). op-in bs (ops-at k + 16 * i)) e ∙ sym (op-decoded i (omega (arith, N-decoded)))
+      ap (λ (k : ℕ). op-in bs (ops-at k + op-size * i)) e ∙ sym (op-decoded i (omega (arith, N-decoded)))
 
-  pub op-within : (i p : ℕ) → i < N-of (sheet-in bs) → p ≡ P-in bs → length bs ≡ sheet-size (P-in bs) (N-in bs) (L-in bs) → ops-at p + 16 * i + 15 < length bs
+  pub op-within : (i p : ℕ) → i < N-of (sheet-in bs) → p ≡ P-in bs → length bs ≡ sheet-size (P-in bs) (N-in bs) (L-in bs) → ops-at p + op-size * i + 15 < length bs
   op-within i p l e w = omega (arith, N-decoded)

@@ -1,6 +1,6 @@
 -- What refusal 6 has settled: the fields of every operation are good. From that, field by field, what the other refusals and the
 -- steps rely on; and how an operation's roles exclude each other. Assumes nothing.
-use mathlib.Core.Path.{_≡_, refl, sym, _∙_, ap, subst}
+use mathlib.Core.Path.{_≡_, refl, sym, _∙_}
 use mathlib.Core.Bool.{Bool, true, false, _&&_, _||_, cond}
 use Prim.Native.Nat.{ℕ, _+_, _<_, _≤_}
 use native.Mathlib.Omega.{arith}
@@ -9,7 +9,7 @@ use borrow.Author.Tests.{ltb-true, leb-true, eqb-true, ne-eqb}
 use Rattle.rules.specs.Limits.{most-length, slot-limit}
 use Rattle.rules.specs.Sheet.{Sheet, Op, op, P-of, N-of, is-send, is-receive, is-nonblocking, names-slot, frees-slot, takes-slot}
 use Rattle.rules.specs.Refusal.{fields-good, wait-good, envelope-good, extent-good, slot-good, room-for, op-good, ops-refusal}
-use Rattle.laws.specs.Tests.{and-left, and-right, true-not-false, cond-true, cond-false}
+use Rattle.laws.specs.Tests.{and-left, and-right, cond-true, cond-false}
 use Rattle.laws.specs.Broken.{broken-passed}
 
 -- of an operation that names a slot

@@ -1,16 +1,16 @@
 -- Which operations of a board hold their slot before operation i, one operation after another: what frees a slot ends the hold
 -- that it names, what takes a slot begins one, everything else stays. `held-by` asks whether a holder passes a test; slots and areas of
 -- refusal 7 are two such tests. Assumes nothing.
-use mathlib.Core.Path.{_≡_, refl, sym, _∙_, ap, ap₂, subst}
-use mathlib.Core.Bool.{Bool, true, false, _&&_, _||_, not, cond, or-assoc, and-assoc, or-false}
-use Prim.Native.Nat.{ℕ, zero, suc, _+_, _-_, _<_, _≤_}
+use mathlib.Core.Path.{_≡_, refl, sym, _∙_, ap, ap₂}
+use mathlib.Core.Bool.{Bool, true, false, _&&_, _||_, not, or-assoc, and-assoc, or-false}
+use Prim.Native.Nat.{ℕ, zero, suc, _+_, _-_, _<_}
 use native.Mathlib.Omega.{arith}
-use native.Mathlib.Nat.{add-zero, add-suc, suc-add}
+use native.Mathlib.Nat.{add-zero}
 use lib.Dec.{ltb, eqb}
 use borrow.Author.Tests.{lt-ltb, eq-eqb, eqb-true, not-true}
 use Rattle.rules.specs.Sheet.{Sheet, op, rank-of, frees-slot, takes-slot}
-use Rattle.rules.specs.Refusal.{freed, holds, some-below, slot-held}
-use Rattle.laws.specs.Tests.{and-left, and-right, and-both, not-so, true-not-false}
+use Rattle.rules.specs.Refusal.{freed, some-below}
+use Rattle.laws.specs.Tests.{and-left, and-right, and-both, true-not-false}
 use Rattle.laws.specs.Below.{below-some, below-equal, below-none}
 
 -- `holds` of rules, for the board of rank r

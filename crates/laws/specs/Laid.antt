@@ -1,7 +1,7 @@
 -- What refusals 1 to 3 have settled of a sheet's bytes: the sizes are in their ranges and the length is theirs, so that every
 -- table lies inside. Readers of the tables ask for it. Assumes nothing.
 use mathlib.Core.Path.{_≡_}
-use mathlib.Core.Bool.{Bool, true, _&&_}
+use mathlib.Core.Bool.{true, _&&_}
 use mathlib.Core.List.{List}
 use Prim.Native.Nat.{ℕ, _≤_}
 use lib.Dec.{leb, eqb}

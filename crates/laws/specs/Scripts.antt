@@ -2,9 +2,9 @@
 -- operation by operation. Two records say how far a search has come; each has a law for its beginning, for one more, for a
 -- refusal and for its end. The rule is any test f of an operation's index, n the number that it is refused with.
 -- Assumes nothing.
-use mathlib.Core.Path.{_≡_, refl, sym, _∙_, ap, subst}
+use mathlib.Core.Path.{_≡_, sym, _∙_, ap, subst}
 use mathlib.Core.Bool.{Bool, true, false, not}
-use Prim.Native.Nat.{ℕ, zero, suc, _+_, _-_, _<_, _≤_}
+use Prim.Native.Nat.{ℕ, _+_, _-_, _<_, _≤_}
 use native.Mathlib.Omega.{arith}
 use native.Mathlib.Numerals.{add-one}
 use Rattle.rules.specs.Sheet.{Sheet, board, P-of, N-of, counts-before, rank-of}

@@ -1,18 +1,17 @@
 -- What refusal 5 has settled besides: the scripts lie one after another and total N, and every inbox lies inside the inbox
 -- memory. Assumes nothing.
-use mathlib.Core.Path.{_≡_, refl, sym, _∙_, ap, subst}
+use mathlib.Core.Path.{_≡_, refl}
 use mathlib.Core.Bool.{Bool, true, false, _&&_, cond}
-use mathlib.Core.List.{List}
-use Prim.Native.Nat.{ℕ, zero, suc, _+_, _<_, _≤_}
+use Prim.Native.Nat.{ℕ, suc, _<_, _≤_}
 use native.Mathlib.Omega.{arith}
 use lib.Dec.{leb, eqb}
 use borrow.Author.Tests.{leb-true, eqb-true}
 use Rattle.rules.specs.Limits.{most-attached, most-inbox}
 use Rattle.rules.specs.Sheet.{Sheet, board, P-of, N-of, counts-before, inbox-start}
 use Rattle.rules.specs.Refusal.{Refusal, refusal, accepted, or-else, first-broken, board-good, boards-refusal}
-use Rattle.laws.specs.Tests.{and-left, and-right, true-not-false}
+use Rattle.laws.specs.Tests.{and-left, and-right}
 use Rattle.laws.specs.Broken.{broken-passed}
-use Rattle.laws.specs.Ranks.{Consecutive, script-before, script-next}
+use Rattle.laws.specs.Ranks.{Consecutive}
 
 pub record Tabled (s : Sheet) : Type 0 where
   pub consecutive : Consecutive s

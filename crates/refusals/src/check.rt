@@ -1,8 +1,6 @@
 // The body of check: refusals 1 to 7, lowest number first, each over the whole sheet (document 01, "When the desk says no").
-ghost use mathlib.Core.Path.{_≡_};
-ghost use lib.ListN.{length};
 ghost use Rattle.rules.specs.Sheet.{sheet-in};
-ghost use Rattle.rules.specs.Refusal.{tables-refusal, sheet-refusal};
+ghost use Rattle.rules.specs.Refusal.{tables-refusal};
 ghost use Rattle.rules.specs.Service.{answers, Check-says};
 ghost use Rattle.laws.specs.Laid.{Laid};
 use crate::boards;

@@ -11,10 +11,10 @@ pub fn sizes_are_good(s: &[u8]) -> bool
     ensures { λ r. ⌜ r ≡ sizes-good (now (s .entry)) ⌝ }
 {
     let p = header::boards(s);
-    let c = header::comms(s);
+    let comms = header::comms(s);
     let n = header::ops(s);
     let l = header::payload(s);
-    (((1 <= p) & (p <= limits::MOST_BOARDS)) & ((1 <= c) & (c <= limits::MOST_COMMS)))
+    (((1 <= p) & (p <= limits::MOST_BOARDS)) & ((1 <= comms) & (comms <= limits::MOST_COMMS)))
         & ((n <= limits::MOST_OPS) & (l <= limits::MOST_PAYLOAD))
 }
 

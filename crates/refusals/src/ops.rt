@@ -13,15 +13,15 @@ use sheet::boards;
 use sheet::header;
 use sheet::ops;
 
-// Peer, communicator and tag of a send or a receive, among p boards and c communicators.
-fn envelope_is_good(s: &[u8], i: usize, p: usize, c: usize) -> bool
+// Peer, communicator and tag of a send or a receive, among p boards and so many communicators.
+fn envelope_is_good(s: &[u8], i: usize, p: usize, comms: usize) -> bool
     requires { ⌜ Laid (now s) × (i < N-of (sheet-in (now s))) ⌝ }
-    ensures { λ b. ⌜ b ≡ envelope-good p c (op (sheet-in (now (s .entry))) i) ⌝ }
+    ensures { λ b. ⌜ b ≡ envelope-good p comms (op (sheet-in (now (s .entry))) i) ⌝ }
 {
     let receive = ops::is_receive(s, i);
     let from = ops::peer(s, i);
     let label = ops::tag(s, i);
-    (((from < p) | (receive & (from == limits::ANY))) & (ops::comm(s, i) < c))
+    (((from < p) | (receive & (from == limits::ANY))) & (ops::comm(s, i) < comms))
         & ((label < limits::TAG_LIMIT) | (receive & (label == limits::ANY)))
 }
 
@@ -50,16 +50,16 @@ fn wait_is_good(s: &[u8], i: usize) -> bool
             & ((ops::long(s, i) == 0) & (ops::slot(s, i) < limits::SLOT_LIMIT)))
 }
 
-// The fields of one operation, among p boards and c communicators, with an area in `room` bytes.
-fn fields_are_good(s: &[u8], i: usize, p: usize, c: usize, room: usize) -> bool
+// The fields of one operation, among p boards and so many communicators, with an area in `room` bytes.
+fn fields_are_good(s: &[u8], i: usize, p: usize, comms: usize, room: usize) -> bool
     requires { ⌜ Laid (now s) × (i < N-of (sheet-in (now s))) ⌝ }
-    ensures { λ b. ⌜ b ≡ fields-good p c room (op (sheet-in (now (s .entry))) i) ⌝ }
+    ensures { λ b. ⌜ b ≡ fields-good p comms room (op (sheet-in (now (s .entry))) i) ⌝ }
 {
     if ops::names_slot(s, i) {
         return wait_is_good(s, i);
     }
     (ops::is_send(s, i) | ops::is_receive(s, i))
-        & (envelope_is_good(s, i, p, c) & extent_is_good(s, i, room))
+        & (envelope_is_good(s, i, p, comms) & extent_is_good(s, i, room))
 }
 
 // A receive's room is its board's inbox, a send's the payload.
@@ -81,13 +81,13 @@ pub fn script_refusal(s: &[u8], r: usize) -> Answer
         (a .number) (a .place) ⌝ }
 {
     let p = header::boards(s);
-    let c = header::comms(s);
+    let comms = header::comms(s);
     let payload = header::payload(s);
     let inbox = boards::inbox(s, r);
     let mut i = boards::first(s, r);
     let end = i + boards::count(s, r);
     while i < end {
-        if !fields_are_good(s, i, p, c, room(s, i, inbox, payload)) {
+        if !fields_are_good(s, i, p, comms, room(s, i, inbox, payload)) {
             return Answer {
                 number: 6,
                 place: i as u64,

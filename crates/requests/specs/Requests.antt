@@ -1,20 +1,20 @@
 -- The table of slots is right before operation i of board r: a slot is taken there exactly where an operation holds it, and an
 -- area is hit exactly where a held receive's is. Then the table's answer is rule 7's. Assumes nothing.
 use mathlib.Core.Path.{_≡_, refl, sym, _∙_, ap, ap₂, subst}
-use mathlib.Core.Bool.{Bool, true, false, _&&_, _||_, not, cond, and-true, and-assoc}
+use mathlib.Core.Bool.{Bool, true, false, _&&_, not, cond, and-true, and-assoc}
 use mathlib.Core.List.{List}
-use Prim.Native.Nat.{ℕ, zero, suc, _+_, _-_, _<_, _≤_}
+use Prim.Native.Nat.{ℕ, suc, _+_, _-_, _<_, _≤_}
 use native.Mathlib.Omega.{arith}
 use native.Mathlib.Decide.{ℕ-discrete}
 use native.Mathlib.Numerals.{add-one}
 use lib.Dec.{ltb, eqb}
 use lib.ListN.{length, getD, set, replicate, length-set, length-replicate, getD-replicate}
 use lib.Seq.{getD-set-same, getD-set-other}
-use borrow.Author.Tests.{eq-eqb, ne-eqb, eqb-true, ltb-true, lt-ltb, le-ltb, not-true, not-false}
-use Rattle.rules.specs.Limits.{absent, slot-limit, most-inbox, most-payload}
-use Rattle.rules.specs.Sheet.{Sheet, Op, op, board, P-of, N-of, rank-of, sheet-in, is-receive, names-slot, frees-slot, takes-slot}
+use borrow.Author.Tests.{eq-eqb, ne-eqb, eqb-true, le-ltb, not-true}
+use Rattle.rules.specs.Limits.{absent, slot-limit}
+use Rattle.rules.specs.Sheet.{Sheet, op, board, P-of, N-of, rank-of, sheet-in, is-receive, names-slot, frees-slot, takes-slot}
 use Rattle.rules.specs.Refusal.{freed, holds, some-below, slot-held, share, area-taken, request-good, room-for}
-use Rattle.laws.specs.Tests.{and-left, and-right, and-both, true-not-false, not-so, same-test, cond-false}
+use Rattle.laws.specs.Tests.{and-left, and-right, and-both, true-not-false, not-so, same-test}
 use Rattle.laws.specs.Below.{Found, below-some, below-found, below-none, below-equal}
 use Rattle.laws.specs.Ranks.{Consecutive, rank-before-script, rank-lies, inbox-start-more}
 use Rattle.laws.specs.Laid.{Laid}

@@ -1,7 +1,7 @@
 -- Refusal 7 by a table of slots: the area of each held slot, and what an operation asks and changes. A free slot has the start
 -- `absent`; a slot held without an area (a send's, or an empty one) has start and end 0, which share nothing.
 -- Assumes nothing.
-use mathlib.Core.Path.{_≡_, refl, _∙_}
+use mathlib.Core.Path.{_≡_}
 use mathlib.Core.Bool.{Bool, true, false, _&&_, not, cond}
 use mathlib.Core.List.{List}
 use Prim.Native.Nat.{ℕ, _+_, _<_}

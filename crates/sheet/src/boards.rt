@@ -1,5 +1,4 @@
 // Board entries by rank: field readers (document 01, "The sheet, byte by byte").
-ghost use mathlib.Core.Path.{_≡_};
 ghost use Prim.Native.Nat.{_+_, _<_};
 ghost use lib.ListN.{length};
 ghost use Rattle.rules.specs.Sheet.{sheet-in, board, P-of};

@@ -1,5 +1,4 @@
 // The header: field readers (document 01, "The sheet, byte by byte").
-ghost use mathlib.Core.Path.{_≡_};
 ghost use Prim.Native.Nat.{_<_};
 ghost use lib.ListN.{length};
 ghost use Rattle.rules.specs.Sheet.{two, P-in, C-in, N-in, L-in};

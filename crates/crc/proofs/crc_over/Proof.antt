@@ -1,11 +1,11 @@
 -- `crc::crc_over` meets its contract. The loop's invariant: the CRC so far, carried on over what is left, is the whole
 -- CRC. The measure is what is left of the length. Assumes nothing.
-use mathlib.Core.Path.{_≡_, refl, _∙_, ap, sym, subst}
+use mathlib.Core.Path.{_≡_, refl, _∙_, ap, sym}
 use mathlib.Core.List.{List, []}
-use Prim.Native.Nat.{ℕ, _≤_, _<_, _-_, _+_, _/_}
+use Prim.Native.Nat.{ℕ, _≤_, _<_, _-_, _/_}
 use native.Mathlib.Omega.{arith}
 use borrow.Author.Needs.{needs}
-use lib.ListN.{length, drop, getD, drop-of-length-le}
+use lib.ListN.{length, drop, drop-of-length-le}
 use lib.Bits.{bitXor, xor-lt}
 use Rattle.rules.specs.Crc.{crc-from}
 use Rattle.laws.specs.CrcStep.{crc-turn}

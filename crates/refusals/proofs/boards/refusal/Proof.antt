@@ -1,6 +1,6 @@
 -- `refusals::boards::refusal` meets its contract. The loop's invariant: the walk has come to board r with its two sums, and has
 -- refused nothing. The measure is how many boards are left. Assumes nothing.
-use mathlib.Core.Path.{_≡_, _∙_, ap}
+use mathlib.Core.Path.{_≡_, ap}
 use mathlib.Core.Bool.{_&&_}
 use Prim.Native.Nat.{ℕ, _+_, _-_}
 use native.Mathlib.Omega.{arith}

@@ -12,10 +12,10 @@ use Rattle.refusals.proofs.ops.script_refusal.Statement.{statement}
 use Rattle.refusals.proofs.ops.script_refusal.Tie as tie
 
 abbrev Inv-loop : tie.InvT-loop
-Inv-loop s r p c payload inbox i₀ end i = Searched (sheet-in s) 6 (op-good (sheet-in s)) r i end
+Inv-loop s r p comms payload inbox i₀ end i = Searched (sheet-in s) 6 (op-good (sheet-in s)) r i end
 
 abbrev μ-loop : tie.MeasureT-loop
-μ-loop s r p c payload inbox i₀ end i = end - i
+μ-loop s r p comms payload inbox i₀ end i = end - i
 
 loop-holds : tie.Need-loop-holds Inv-loop μ-loop
 loop-holds c =

@@ -1,6 +1,5 @@
 -- `refusals::scripts::refusal` meets its contract. The loop's invariant: nothing is refused before the script of board r. The
 -- measure is how many boards are left. Assumes nothing.
-use mathlib.Core.Path.{_≡_}
 use Prim.Native.Nat.{_-_}
 use native.Mathlib.Omega.{arith}
 use Rattle.rules.specs.Sheet.{sheet-in}

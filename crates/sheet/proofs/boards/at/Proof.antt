@@ -1,6 +1,6 @@
 -- `sheet::boards::at` meets its contract: the table stands behind the header. Assumes nothing.
-use mathlib.Core.Path.{_≡_, sym}
-use Prim.Native.Nat.{_+_, _*_, _<_}
+use mathlib.Core.Path.{sym}
+use Prim.Native.Nat.{_+_, _*_}
 use native.Mathlib.Omega.{arith}
 use Rattle.rules.specs.Limits.{boards-at, board-size}
 use Rattle.rules.specs.Sheet.{board, sheet-in}
