@@ -1,5 +1,5 @@
 -- `requests::note` meets its contract: by role, each way leaves what the definition says. Assumes nothing.
-use mathlib.Core.Path.{_≡_}
+use mathlib.Core.Path.{_∙_, _≡_, sym}
 use mathlib.Core.Bool.{true, false}
 use mathlib.Core.List.{List}
 use Prim.Native.Nat.{ℕ}
@@ -24,15 +24,15 @@ module _ (z : tie.Start) where
 returns : tie.Need-returns
 returns c =
     let z = c .before .before .before .before in
-    let frees : frees-slot (o z) ≡ true = cc in
+    let frees : frees-slot (o z) ≡ true = sym (c .before .frees-slot .ensures) ∙ c .if1 .taken in
     let left = after-freed (o z) (starts z) (ends z) frees in
     (cc (left .0), cc (left .1))
 
 returns-2 : tie.Need-returns-2
 returns-2 c =
     let z = c .before .before .before .before .before .before in
-    let frees : frees-slot (o z) ≡ false = cc in
-    let takes : takes-slot (o z) ≡ false = cc (not-true (c .before .takes-slot .result) (c .if2 .taken)) in
+    let frees : frees-slot (o z) ≡ false = sym (c .before .before .before .frees-slot .ensures) ∙ c .before .before .if1 .left in
+    let takes : takes-slot (o z) ≡ false = sym (c .before .takes-slot .ensures) ∙ not-true (c .before .takes-slot .result) (c .if2 .taken) in
     after-same (o z) (starts z) (ends z) frees takes
 
 returns-3 : tie.Need-returns-3
@@ -40,8 +40,8 @@ unfolding has-area
 returns-3 c =
     let z = c .before .before .before .before .before .before .before .before .before .before in
     let test = c .before .before .before .before .before .takes-slot .result in
-    let frees : frees-slot (o z) ≡ false = cc in
-    let takes : takes-slot (o z) ≡ true = cc (not-false test (c .before .before .before .before .if2 .left)) in
+    let frees : frees-slot (o z) ≡ false = sym (c .before .before .before .before .before .before .before .frees-slot .ensures) ∙ c .before .before .before .before .before .before .if1 .left in
+    let takes : takes-slot (o z) ≡ true = sym (c .before .before .before .before .before .takes-slot .ensures) ∙ not-false test (c .before .before .before .before .if2 .left) in
     let area : has-area (o z) ≡ true = cc in
     let left = after-area (o z) (starts z) (ends z) frees takes area in
     (cc (left .0), cc (left .1))
@@ -51,8 +51,8 @@ unfolding has-area
 returns-4 c =
     let z = c .before .before .before .before .before .before .before .before .before .before in
     let test = c .before .before .before .before .before .takes-slot .result in
-    let frees : frees-slot (o z) ≡ false = cc in
-    let takes : takes-slot (o z) ≡ true = cc (not-false test (c .before .before .before .before .if2 .left)) in
+    let frees : frees-slot (o z) ≡ false = sym (c .before .before .before .before .before .before .before .frees-slot .ensures) ∙ c .before .before .before .before .before .before .if1 .left in
+    let takes : takes-slot (o z) ≡ true = sym (c .before .before .before .before .before .takes-slot .ensures) ∙ not-false test (c .before .before .before .before .if2 .left) in
     let area : has-area (o z) ≡ false = cc in
     let left = after-no-area (o z) (starts z) (ends z) frees takes area in
     (cc (left .0), cc (left .1))

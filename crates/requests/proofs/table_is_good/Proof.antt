@@ -1,5 +1,5 @@
 -- `requests::table_is_good` meets its contract: by role, each way is the definition's. Assumes nothing.
-use mathlib.Core.Path.{_≡_}
+use mathlib.Core.Path.{_∙_, _≡_, sym}
 use mathlib.Core.Bool.{true, false, _&&_}
 use mathlib.Core.List.{List}
 use Prim.Native.Nat.{ℕ}
@@ -24,14 +24,14 @@ returns : tie.Need-returns
 unfolding slot-taken
 returns c =
     let z = c .before .before .before .before .before in
-    let names : names-slot (o z) ≡ true = cc in
+    let names : names-slot (o z) ≡ true = sym (c .before .names-slot .ensures) ∙ c .if1 .taken in
     cc (good-named (o z) (starts z) (ends z) names)
 
 returns-2 : tie.Need-returns-2
 unfolding slot-taken
 returns-2 c =
     let z = c .before .before .before .before .before .before .before in
-    let names : names-slot (o z) ≡ false = cc in
+    let names : names-slot (o z) ≡ false = sym (c .before .before .before .names-slot .ensures) ∙ c .before .before .if1 .left in
     let takes : (takes-slot (o z) && slot-taken (starts z) (o z .slot)) ≡ true = cc in
     good-not-free (o z) (starts z) (ends z) names takes
 
@@ -39,7 +39,7 @@ returns-3 : tie.Need-returns-3
 unfolding slot-taken has-area
 returns-3 c =
     let z = c .before .before .before .before .before .before .before .before .before .before .before .before in
-    let names : names-slot (o z) ≡ false = cc in
+    let names : names-slot (o z) ≡ false = sym (c .before .before .before .before .before .before .before .before .names-slot .ensures) ∙ c .before .before .before .before .before .before .before .if1 .left in
     let takes : (takes-slot (o z) && slot-taken (starts z) (o z .slot)) ≡ false = cc in
     let area : has-area (o z) ≡ true = cc in
     cc (good-area (o z) (starts z) (ends z) names takes area)
@@ -48,7 +48,7 @@ returns-4 : tie.Need-returns-4
 unfolding slot-taken has-area
 returns-4 c =
     let z = c .before .before .before .before .before .before .before .before .before .before .before in
-    let names : names-slot (o z) ≡ false = cc in
+    let names : names-slot (o z) ≡ false = sym (c .before .before .before .before .before .before .before .names-slot .ensures) ∙ c .before .before .before .before .before .before .if1 .left in
     let takes : (takes-slot (o z) && slot-taken (starts z) (o z .slot)) ≡ false = cc in
     let area : has-area (o z) ≡ false = cc in
     good-no-area (o z) (starts z) (ends z) names takes area
