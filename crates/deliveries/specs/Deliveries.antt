@@ -26,7 +26,7 @@ use Rattle.laws.specs.Tests.{true-not-false}
 use Rattle.laws.specs.Laid.{Laid}
 use Rattle.laws.specs.Ranks.{inbox-start-none, counts-none, inbox-start-more, counts-more}
 use Rattle.laws.specs.Splice.{splice-none}
-use Rattle.invariant.specs.sheet.Valid.{Valid, good-first}
+use Rattle.invariant.specs.sheet.Valid.{Valid, valid-first}
 use Rattle.invariant.specs.Invariant.{replay, replayed}
 use Rattle.invariant.specs.sheet.Extents.{send-inside, send-extent, area-inside}
 use Rattle.state.specs.declared.Control.{Control}
@@ -53,7 +53,7 @@ deliverable bs c t g =
       sent = λ j l receives state.
           let row : entry-in c (row-at j) ≡ entry-at (g .job) j = entry-is (sheet-in bs) c t (g .job) (h .decodes) j l in
           subst (λ (e : Entry). is-send (op (sheet-in bs) (e .partner)) ≡ true) (sym row)
-          (h .reached .stable .receive-met j receives (sym (ap (λ (e : Entry). e .state) row) ∙ state) .sends);
+          (h .reached .stable .receive-pair j receives (sym (ap (λ (e : Entry). e .state) row) ∙ state) .sends);
     }
 
 -- message m goes to receive r
@@ -264,7 +264,7 @@ pub filling-more : (s : Sheet) → Valid s → (c lent : List ℕ) (r start : �
     Filling s c lent r start inbox → r < P-of s → more ≡ board s r .inbox →
     Script-delivered s c r inbox after → Filling s c lent (r + 1) (start + more) after
 filling-more s g c lent r start inbox after more q l e h =
-    let first : board s r .first ≡ counts-before s r = good-first s g r l in
+    let first : board s r .first ≡ counts-before s r = valid-first s g r l in
     let next : r + 1 ≡ suc r = add-one r in
     let sum : counts-before s (r + 1) ≡ counts-before s r + board s r .count = ap (λ (k : ℕ). counts-before s k) next ∙ counts-more s r l in
     let box : inbox-start s (r + 1) ≡ inbox-start s r + board s r .inbox = ap (λ (k : ℕ). inbox-start s k) next ∙ inbox-start-more s r l in

@@ -181,5 +181,5 @@ module _ {s : Sheet} (g : Valid s) {lent : List ℕ} {x : Job} (R : Reached s le
   pub matched-receive : (q : ℕ) → q < N-of s → is-receive (op s q) ≡ true → state-at x q ≡ 3 →
       (partner-at x q < N-of s) × (is-send (op s (partner-at x q)) ≡ true) × (fits-with s (partner-at x q) q ≡ true)
   matched-receive q l h e =
-      let m = R .stable .receive-met q h e in
+      let m = R .stable .receive-pair q h e in
       (send-inside s (partner-at x q) (m .sends), m .sends, m .fit)

@@ -60,7 +60,7 @@ pub record Matched-pair (s : Sheet) (x : Job) (m q : ℕ) : Type 0 where
 pub record Stable (s : Sheet) (arrival : ℕ → ℕ) (x : Job) : Type 0 where
   -- matched operations come in pairs (everyone)
   pub message-pair : (m : ℕ) → is-send (op s m) ≡ true → state-at x m ≡ 3 → Matched-pair s x m (partner-at x m)
-  pub receive-met : (q : ℕ) → is-receive (op s q) ≡ true → state-at x q ≡ 3 → Matched-pair s x (partner-at x q) q
+  pub receive-pair : (q : ℕ) → is-receive (op s q) ≡ true → state-at x q ≡ 3 → Matched-pair s x (partner-at x q) q
   -- no pending message fits a pending receive (None-fit)
   pub none-fit : (m q : ℕ) → Pending-message s x m → Pending-receive s x q → fits-with s m q ≡ true → ⊥
   -- a receive took the earliest message: one that came before and fits was taken by an earlier receive (No-overtaking)

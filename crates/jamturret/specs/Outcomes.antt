@@ -21,7 +21,7 @@ use Rattle.rules.specs.Service.{answers, room-refusal, order-refusal, in-front,
 use Rattle.rules.specs.Service.{follow-refusal, Follow-says, run-refusal, Run-says}
 use Rattle.laws.specs.Laid.{Laid}
 use Rattle.laws.specs.Tabled.{or-else-first, or-else-second}
-use Rattle.invariant.specs.sheet.FromBytes.{unrefused-accepted, accepted-laid, good-from-accepted}
+use Rattle.invariant.specs.sheet.FromBytes.{unrefused-accepted, accepted-laid, valid-from-accepted}
 use Rattle.state.specs.declared.Control.{Control}
 use Rattle.simulation.specs.Represents.{Represents}
 use Rattle.jamturret.specs.Chain.{or-else-here, or-else-behind, number-of, Refused, refused, refused-as, refused-first, refused-second, kept, scratch-kept}
@@ -68,7 +68,7 @@ module _ (bs : List ℕ) (i r o c n p : ℕ) (t : answers (run-refusal bs i r o 
         let a = unrefused-accepted bs unrefused in
         record {
           laid = accepted-laid bs a;
-          good = good-from-accepted bs a;
+          good = valid-from-accepted bs a;
           roomy = roomy (sheet-in bs) i r o c (or-else-second (sheet-refusal bs) (room-refusal (sheet-in bs) i r o c) zero-number);
         }
 

@@ -20,8 +20,8 @@ use Rattle.rules.specs.Report.{report}
 use Rattle.rules.specs.Service.{answers, room-refusal, in-front, kept-or, run-refusal, Run-says}
 use Rattle.laws.specs.Tests.{cond-true}
 use Rattle.laws.specs.Laid.{Laid}
-use Rattle.invariant.specs.sheet.FromBytes.{unrefused-accepted, accepted-laid, good-from-accepted}
-use Rattle.invariant.specs.deliveries.Commute.{ground}
+use Rattle.invariant.specs.sheet.FromBytes.{unrefused-accepted, accepted-laid, valid-from-accepted}
+use Rattle.invariant.specs.deliveries.Commute.{delivery-laws}
 use Rattle.invariant.specs.preserve.Orders.{left-reached}
 use Rattle.promises.specs.claims.RunEnds.{run-ended}
 use Rattle.promises.specs.compare.ReportBytes.{report-length}
@@ -64,7 +64,7 @@ never-short bs e =
     let q = accepted-laid bs a in
     rooms-enough (sheet-in bs) most-inbox most-report most-order scratch-size
     (record {
-      inbox = good-from-accepted bs a .inbox-small;
+      inbox = valid-from-accepted bs a .inbox-small;
       report = omega arith;
       order = omega arith;
       scratch = omega arith;
@@ -98,8 +98,8 @@ module _ (bs i i' r r' o o' c c' : List ℕ) (n p : ℕ) (said : Run-says bs n p
 
   long : length (run s i .end .entries) ≡ N-of s
   long =
-      ap (λ (x : Job). length (x .entries)) (sym (run-ended (given .good) (ground s (given .good)) i (given .roomy .inbox) .same-job))
-      ∙ left-reached (given .good) (ground s (given .good)) (given .roomy .inbox) (run s i .order) .placed .entries-long
+      ap (λ (x : Job). length (x .entries)) (sym (run-ended (given .good) (delivery-laws s (given .good)) i (given .roomy .inbox) .same-job))
+      ∙ left-reached (given .good) (delivery-laws s (given .good)) (given .roomy .inbox) (run s i .order) .placed .entries-long
 
   reported : r' ≡ in-front (report s (run s i .end)) r
   unfolding Run-says kept-or

@@ -150,7 +150,8 @@ unfolding crc-from
 crc-from-more c xs i h = rw (add-one, drop-cons xs i 0)
 
 -- one turn of a loop that goes by a table of remainders: the byte v has been read, and the entry w
-pub crc-turn : (c : ℕ) (xs : List ℕ) (i v w : ℕ) → c < 65536 → i < length xs → v ≡ getD xs i 0 → v < 256 → w ≡ remainder (bitXor (c / 256) v) → (bitXor (c % 256 * 256) w < 65536) × (crc-from c (drop i xs) ≡ crc-from (bitXor (c % 256 * 256) w) (drop (i + 1) xs))
+pub crc-turn : (c : ℕ) (xs : List ℕ) (i v w : ℕ) → c < 65536 → i < length xs → v ≡ getD xs i 0 → v < 256 → w ≡ remainder (bitXor (c / 256) v) → (bitXor (c % 256 * 256) w < 65536) ×
+    (crc-from c (drop i xs) ≡ crc-from (bitXor (c % 256 * 256) w) (drop (i + 1) xs))
 crc-turn c xs i v w h l ev lv ew =
     let same : crc-byte c (getD xs i 0) ≡ bitXor (c % 256 * 256) w =
     ap (λ (n : ℕ). crc-byte c n) (sym ev) ∙ (crc-byte-by-table c v h lv ∙ ap (λ (n : ℕ). bitXor (c % 256 * 256) n) (sym ew)) in

@@ -15,7 +15,7 @@ use Rattle.rules.specs.Job.{started}
 use Rattle.laws.specs.Ranks.{counts-more}
 use Rattle.laws.specs.Fields.{fields-slot}
 use Rattle.laws.specs.Laid.{Laid}
-use Rattle.invariant.specs.sheet.Valid.{Valid, good-first}
+use Rattle.invariant.specs.sheet.Valid.{Valid, valid-first}
 use Rattle.invariant.specs.preserve.Orders.{start-reached}
 use Rattle.state.specs.declared.Control.{Control}
 use Rattle.state.specs.Controls.{no-control}
@@ -39,14 +39,14 @@ going-none s g r i n c l e f F =
       low = omega arith;
       high = omega arith;
       ends = omega arith;
-      filled = subst (λ (k : ℕ). Filled s c k) (sym (e ∙ good-first s g r l)) F;
+      filled = subst (λ (k : ℕ). Filled s c k) (sym (e ∙ valid-first s g r l)) F;
       latest = subst (λ (k : ℕ). Latest s r k (replicate slot-limit 0)) (sym e) (latest-none s g r l);
     }
 
 pub going-all : (s : Sheet) → Valid s → {r i end : ℕ} {c last : List ℕ} → r < P-of s → Going s r i end c last → end ≤ i → Filled s c (counts-before s (r + 1))
 going-all s g {r} {i} {end} {c} {last} l G h =
     subst (λ (k : ℕ). Filled s c k)
-    (let all : i ≡ counts-before s (suc r) = omega (arith, G .high, G .ends, good-first s g r l, counts-more s r l) in all ∙ ap (λ (k : ℕ). counts-before s k) (sym (add-one r)))
+    (let all : i ≡ counts-before s (suc r) = omega (arith, G .high, G .ends, valid-first s g r l, counts-more s r l) in all ∙ ap (λ (k : ℕ). counts-before s k) (sym (add-one r)))
     (G .filled)
 
 -- ONE OPERATION

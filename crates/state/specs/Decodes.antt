@@ -113,7 +113,8 @@ module _ (s : Sheet) (c : List ℕ) (t : Control) (x : Job) (d : Decodes s c t x
       }
 
   -- a splice inside one region changes that part of the job alone
-  rows-spliced : (at : ℕ) (vs : List ℕ) (es : List Entry) → at + length vs ≤ places-at → entries-in (splice c at vs) (N-of s) ≡ es → take (row-at (N-of s)) (splice c at vs) ≡ op-rows es → Decodes s (splice c at vs) t (with-entries es x)
+  rows-spliced : (at : ℕ) (vs : List ℕ) (es : List Entry) → at + length vs ≤ places-at → entries-in (splice c at vs) (N-of s) ≡ es → take (row-at (N-of s)) (splice c at vs) ≡ op-rows es →
+      Decodes s (splice c at vs) t (with-entries es x)
   unfolding with-entries
   rows-spliced at vs es h e k =
       let roomy : scratch-size ≤ length c = d .roomy in
@@ -123,7 +124,8 @@ module _ (s : Sheet) (c : List ℕ) (t : Control) (x : Job) (d : Decodes s c t x
       (words-kept c at vs fits messages-at (t .messages) (d .few-messages) (omega arith) ∙ sym (d .messages-are))
       (words-kept c at vs fits receives-at (t .receives) (d .few-receives) (omega arith) ∙ sym (d .receives-are))
 
-  places-spliced : (at : ℕ) (vs : List ℕ) (ps : List Place) → places-at ≤ at → at + length vs ≤ messages-at → places-in (splice c at vs) (P-of s) ≡ ps → Decodes s (splice c at vs) t (with-places ps x)
+  places-spliced : (at : ℕ) (vs : List ℕ) (ps : List Place) → places-at ≤ at → at + length vs ≤ messages-at → places-in (splice c at vs) (P-of s) ≡ ps → Decodes s (splice c at vs) t
+  (with-places ps x)
   unfolding with-places
   places-spliced at vs ps l h e =
       let roomy : scratch-size ≤ length c = d .roomy in
@@ -228,7 +230,8 @@ module _ (s : Sheet) (c : List ℕ) (t : Control) (x : Job) (d : Decodes s c t x
       ∙ (ap (λ (ms : List ℕ). drop-at k ms) (sym (list-are s c t x d q)) ∙ sym (without-at (list-of q x) k v f))))
 
   -- what is kept beside scratch, and the memory, which is kept nowhere
-  beside : (m : List ℕ) (o : Option Stop) (j k v r i : ℕ) → o ≡ stop-of v r i → j ≡ k → Decodes s c (control (t .messages) (t .receives) k v r i) (job (x .entries) (x .places) (x .messages) (x .receives) m o j)
+  beside : (m : List ℕ) (o : Option Stop) (j k v r i : ℕ) → o ≡ stop-of v r i → j ≡ k → Decodes s c (control (t .messages) (t .receives) k v r i)
+  (job (x .entries) (x .places) (x .messages) (x .receives) m o j)
   unfolding job
   beside m o j k v r i e f =
       record {

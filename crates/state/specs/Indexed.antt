@@ -46,7 +46,8 @@ indexed-kept s c at vs m h l x =
     }
 
 -- FILLING: the ranks of a script, of one operation, and the operation of one wait
-pub ranked-script : (s : Sheet) (c : List ℕ) (i n r : ℕ) → i + n ≤ most-ops → scratch-size ≤ length c → ((j : ℕ) → i ≤ j → j < i + n → rank-of s j ≡ r) → Ranked s c i → Ranked s (splice c (rank-at i) (replicate n r)) (i + n)
+pub ranked-script : (s : Sheet) (c : List ℕ) (i n r : ℕ) → i + n ≤ most-ops → scratch-size ≤ length c → ((j : ℕ) → i ≤ j → j < i + n → rank-of s j ≡ r) → Ranked s c i → Ranked s
+    (splice c (rank-at i) (replicate n r)) (i + n)
 ranked-script s c i n r m h e x j l = go (decLt j i)
   where
     long : length (replicate n r) ≡ n
@@ -83,4 +84,5 @@ module _ (s : Sheet) (c : List ℕ) (i : ℕ) (m : i < most-ops) (h : scratch-si
           (e ∙ ap some (sym (two-put c (word-at waits-at i) k f (omega arith))))
       go (no q) =
           x j (omega arith) w
-          ∙ ap some (sym (two-same (splice c (word-at waits-at i) (low-two k)) c (word-at waits-at j) (splice-apart c (word-at waits-at i) (low-two k) (omega arith) (word-at waits-at j) (word-at waits-at j + 2) (omega arith))))
+          ∙ ap some (sym (two-same (splice c (word-at waits-at i) (low-two k)) c (word-at waits-at j)
+          (splice-apart c (word-at waits-at i) (low-two k) (omega arith) (word-at waits-at j) (word-at waits-at j + 2) (omega arith))))

@@ -121,7 +121,8 @@ places-zero c p m h =
 abbrev pub started-bytes : List ℕ → (p n : ℕ) → List ℕ
 started-bytes c p n = splice (splice c 0 (bare-rows n)) places-at (replicate (8 * p) 0)
 
-pub started-decodes : (s : Sheet) (c inboxes : List ℕ) → N-of s ≤ most-ops → P-of s ≤ most-boards → scratch-size ≤ length c → Indexed s c → Decodes s (started-bytes c (P-of s) (N-of s)) no-control (started s inboxes)
+pub started-decodes : (s : Sheet) (c inboxes : List ℕ) → N-of s ≤ most-ops → P-of s ≤ most-boards → scratch-size ≤ length c → Indexed s c → Decodes s (started-bytes c (P-of s) (N-of s))
+    no-control (started s inboxes)
 unfolding splice started job stop-of words-in Rattle.words.specs.Tab.tab bare-entry entry
 started-decodes s c inboxes n p h x =
     let rows = filled-length (N-of s) (bare-entry 0) in

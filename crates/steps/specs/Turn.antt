@@ -8,7 +8,7 @@ use native.Mathlib.Omega.{arith}
 use Rattle.rules.specs.Sheet.{Sheet, sheet-in, op, only-half}
 use Rattle.rules.specs.Job.{Job, place-at, with-steps}
 use Rattle.rules.specs.Step.{able, next-op, in-waiting-half, ended, initiating, step}
-use Rattle.invariant.specs.deliveries.Commute.{ground}
+use Rattle.invariant.specs.deliveries.Commute.{delivery-laws}
 use Rattle.invariant.specs.preserve.Step.{step-sound}
 use Rattle.invariant.specs.Bounds.{steps-few}
 use Rattle.state.specs.declared.Control.{Control}
@@ -71,7 +71,7 @@ module _ (bs lent c : List ℕ) (t : Control) (x : Job) (d : Represents bs lent 
         laid = d .laid;
         good = d .good;
         room = d .room;
-        reached = step-sound (d .good) (ground s (d .good)) (d .room) (d .reached) r a .reached;
+        reached = step-sound (d .good) (delivery-laws s (d .good)) (d .room) (d .reached) r a .reached;
         decodes =
             subst (λ (z : Control). Decodes s b z (step s r x)) (sym e)
             (subst (λ (k : ℕ). Decodes s b (stepped (t .steps + 1) u) (with-steps k (moved s r x))) count

@@ -6,16 +6,10 @@ use Rattle.account.specs.Accounts.{room-fits, taken-fits, taken-not}
 use Rattle.account.proofs.take.Statement.{statement}
 use Rattle.account.proofs.take.Tie as tie
 
-room-requires : tie.Need-room-requires
-room-requires c κs = search needs
-
 add-used : tie.Need-add-used
 add-used c =
     let a = c .before .before .before .args in
     record { fits = omega (arith, room-fits (a .a) (a .n) (sym (c .before .before .room .ensures) ∙ c .before .if1 .taken)) }
-
-larger-requires : tie.Need-larger-requires
-larger-requires c κs = search needs
 
 returns : tie.Need-returns
 returns c =
@@ -30,4 +24,4 @@ returns-2 c =
     (taken-not (a .a) (a .n) full, sym full)
 
 pub take-spec : {M : Type 1} → statement M
-take-spec = tie.close (tie.spec room-requires add-used larger-requires returns returns-2)
+take-spec = tie.close (tie.spec (λ c κs. search needs) add-used (λ c κs. search needs) returns returns-2)

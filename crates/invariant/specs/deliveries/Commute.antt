@@ -4,7 +4,7 @@
 --   delivered-length    a delivery keeps the length
 --   delivered-at        each byte after a delivery
 --   delivered-swap      two deliveries commute
---   ground              all that the proofs about steps use of bytes and areas
+--   delivery-laws              all that the proofs about steps use of bytes and areas
 -- Assumes nothing.
 use mathlib.Core.Path.{_≡_, refl, sym, ap, _∙_}
 use mathlib.Core.Logic.{inl, inr}
@@ -99,8 +99,8 @@ delivered-swap s g m r k q bs receives receives-too apart room =
     (omega (arith, copied-short s k q))))
 
 -- GROUND
-pub ground : (s : Sheet) → Valid s → Delivery-laws s
-ground s g =
+pub delivery-laws : (s : Sheet) → Valid s → Delivery-laws s
+delivery-laws s g =
     record {
       held-apart =
           λ r q l inside same receives receives-later taken never. held-apart s g r q l inside same taken never receives

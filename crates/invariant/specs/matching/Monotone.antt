@@ -52,7 +52,7 @@ module _ (s : Sheet) (cx : ℕ → ℕ) (x : Job) (cy : ℕ → ℕ) (y : Job) (
   stays-no-earlier m r q below a b l =
       let same : rank-of s q ≡ rank-of s r = fit-one-board s m q r (b .fit) (a .fit) in
       let there : Entered x q = pre q r (omega (arith, a .receive-matched)) l same in
-      let c : Matched-pair s x (partner-at x q) q = X .receive-met q (b .receives) (X .first-posted m r q a (b .receives) l (b .fit)) in
+      let c : Matched-pair s x (partner-at x q) q = X .receive-pair q (b .receives) (X .first-posted m r q a (b .receives) l (b .fit)) in
       let d : partner-at x q ≡ m = pair-message-same (below (partner-at x q) q l c) b in
       let e : r ≡ q = sym (a .to-receive) ∙ sym (ap (λ (z : ℕ). partner-at x z) d) ∙ c .to-receive in
       omega arith
@@ -116,8 +116,8 @@ module _ (s : Sheet) (cx : ℕ → ℕ) (x : Job) (cy : ℕ → ℕ) (y : Job) (
               d (ap (λ (z : ℕ). state-at y z) (sym q) ∙ b .receive-matched)
 
       taken : state-at y r ≡ 3 → Dec (partner-at y r ≡ m) → Matched-pair s y m r
-      taken e (yes q) = subst (λ (z : ℕ). Matched-pair s y z r) q (Y .receive-met r (a .receives) e)
-      taken e (no d) = absurd (stays-no-other m r (partner-at y r) below a (Y .receive-met r (a .receives) e) d)
+      taken e (yes q) = subst (λ (z : ℕ). Matched-pair s y z r) q (Y .receive-pair r (a .receives) e)
+      taken e (no d) = absurd (stays-no-other m r (partner-at y r) below a (Y .receive-pair r (a .receives) e) d)
 
       go : Dec (state-at y r ≡ 3) → Dec (state-at y m ≡ 3) → Matched-pair s y m r
       go (yes e) _ = taken e (ℕ-discrete (partner-at y r) m)

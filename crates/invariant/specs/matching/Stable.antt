@@ -58,10 +58,10 @@ module _ {s : Sheet} {x y : Job} {i : ℕ} {arrival now : ℕ → ℕ} (X : Stab
       ((r : ℕ) → is-receive (op s r) ≡ true → state-at y r ≡ 3 → Matched-pair s y (partner-at y r) r) →
       ((m r : ℕ) → Pending-message s y m → Pending-receive s y r → fits-with s m r ≡ true → ⊥) →
       ((m r : ℕ) → Matched-pair s y m r → First s now y m r ⊎ Matched-pair s x m r) → Stable s now y
-  grow-stable message-pair receive-met none split =
+  grow-stable message-pair receive-pair none split =
       record {
         message-pair = message-pair;
-        receive-met = receive-met;
+        receive-pair = receive-pair;
         none-fit = none;
         first-sent = λ m r k h. first m r (split m r h) .sent k;
         first-posted = λ m r q h. first m r (split m r h) .posted q;
@@ -82,7 +82,7 @@ enter-stable {s} {x} {y} {i} {v} {arrival} {now} X L E no-receive no-message =
     subst (λ (z : ℕ). Matched-pair s y m z) (sym (partner-same same)) (grows-pair G (X .message-pair m p (sym (state-same same) ∙ h))))
     (λ r p h.
     let same = E .other r (enters-differ-now E r h) in
-    subst (λ (z : ℕ). Matched-pair s y z r) (sym (partner-same same)) (grows-pair G (X .receive-met r p (sym (state-same same) ∙ h))))
+    subst (λ (z : ℕ). Matched-pair s y z r) (sym (partner-same same)) (grows-pair G (X .receive-pair r p (sym (state-same same) ∙ h))))
     (λ m r p q f. none m r p q f (ℕ-discrete m i) (ℕ-discrete r i))
     (λ m r h.
     inr (pair-same (sym (E .other m (enters-differ-now E m (h .message-matched))))
@@ -108,7 +108,7 @@ pub match-stable : {s : Sheet} {x y : Job} {m r i : ℕ} {arrival now : ℕ → 
 match-stable {s} {x} {y} {m} {r} {i} {arrival} {now} X L M F =
     grow-stable X L G
     (λ k p h. message-pair k p h (ℕ-discrete k m))
-    (λ q p h. receive-met q p h (ℕ-discrete q r))
+    (λ q p h. receive-pair q p h (ℕ-discrete q r))
     (λ k q p o f. X .none-fit k q (grows-message G k (message-old (M .one) k p) p)
     (grows-receive G q (receive-old (M .one) q o) o) f)
     (λ k q h. split k q (matches-split M k q h))
@@ -124,13 +124,13 @@ match-stable {s} {x} {y} {m} {r} {i} {arrival} {now} X L M F =
         let same = M .other k d (send-receive-differ s k r p (M .receives)) in
         subst (λ (z : ℕ). Matched-pair s y k z) (sym (partner-same same)) (grows-pair G (X .message-pair k p (sym (state-same same) ∙ h)))
 
-    receive-met : (q : ℕ) → is-receive (op s q) ≡ true → state-at y q ≡ 3 → Dec (q ≡ r) → Matched-pair s y (partner-at y q) q
-    receive-met q p h (yes e) =
+    receive-pair : (q : ℕ) → is-receive (op s q) ≡ true → state-at y q ≡ 3 → Dec (q ≡ r) → Matched-pair s y (partner-at y q) q
+    receive-pair q p h (yes e) =
         subst (λ (z : ℕ). Matched-pair s y (partner-at y z) z) (sym e)
         (subst (λ (z : ℕ). Matched-pair s y z r) (sym (matches-pair M .to-message)) (matches-pair M))
-    receive-met q p h (no d) =
+    receive-pair q p h (no d) =
         let same = M .other q (λ e. send-receive-differ s m q (M .sends) p (sym e)) d in
-        subst (λ (z : ℕ). Matched-pair s y z q) (sym (partner-same same)) (grows-pair G (X .receive-met q p (sym (state-same same) ∙ h)))
+        subst (λ (z : ℕ). Matched-pair s y z q) (sym (partner-same same)) (grows-pair G (X .receive-pair q p (sym (state-same same) ∙ h)))
 
     -- what is pending in y is not i, which is matched there
     message-old : (i ≡ m) ⊎ (i ≡ r) → (k : ℕ) → Pending-message s y k → k ≢ i

@@ -102,7 +102,7 @@ module _ {s : Sheet} (g : Valid s) (A : Delivery-laws s) {arrival : ℕ → ℕ}
     (h : Shaped s x) where
   replays-pair : (j : ℕ) → Delivers s x j → Pair s (partner-at x j) j
   replays-pair j d =
-      let met = X .receive-met j (d .0) (d .1) in
+      let met = X .receive-pair j (d .0) (d .1) in
       record {
         message-inside = p .entered-only (partner-at x j) (omega (arith, met .message-matched)) .0;
         receive-inside = p .entered-only j (omega (arith, d .1)) .0;

@@ -93,7 +93,7 @@ module _ {s : Sheet} (g : Valid s) (lent : List ℕ) where
         stable =
             record {
               message-pair = λ m p h. none-entered m (omega arith);
-              receive-met = λ r p h. none-entered r (omega arith);
+              receive-pair = λ r p h. none-entered r (omega arith);
               none-fit = λ m r p q f. none-entered m (p .entered);
               first-sent = λ m r k h p there l f. none-entered k there;
               first-posted = λ m r q h p l f. none-entered m (omega (arith, h .message-matched));

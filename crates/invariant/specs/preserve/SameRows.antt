@@ -35,9 +35,9 @@ module _ {s : Sheet} {x y : Job} (e : Same-rows x y) where
         message-pair =
             λ m p h. subst (λ (z : ℕ). Matched-pair s y m z) (sym (partner-same (e m)))
             (met-on (X .message-pair m p (sym (state-same (e m)) ∙ h)));
-        receive-met =
+        receive-pair =
             λ r p h. subst (λ (z : ℕ). Matched-pair s y z r) (sym (partner-same (e r)))
-            (met-on (X .receive-met r p (sym (state-same (e r)) ∙ h)));
+            (met-on (X .receive-pair r p (sym (state-same (e r)) ∙ h)));
         none-fit =
             λ m r p q. X .none-fit m r (pending-message-same x (sym (state-same (e m))) p)
             (pending-receive-same x (sym (state-same (e r))) q);

@@ -133,9 +133,9 @@ module _ (s : Sheet) (h : tables-refusal s .number ≡ 0) where
 pub accepted-laid : (bs : List ℕ) → Accepted bs → Laid bs
 accepted-laid bs A = laid bs (A .sizes) (A .layout)
 
-pub good-from-accepted : (bs : List ℕ) → Accepted bs → Valid (sheet-in bs)
+pub valid-from-accepted : (bs : List ℕ) → Accepted bs → Valid (sheet-in bs)
 unfolding sheet-in
-good-from-accepted bs A =
+valid-from-accepted bs A =
     record {
       some-board = omega (arith, P-decoded bs, L .some-board);
       boards-few = omega (arith, P-decoded bs, L .few-boards);
@@ -164,4 +164,4 @@ good-from-accepted bs A =
     L = accepted-laid bs A
 
 pub valid-from-bytes : (bs : List ℕ) → passes bs ≡ true → Valid (sheet-in bs)
-valid-from-bytes bs h = good-from-accepted bs (passed-accepted bs h)
+valid-from-bytes bs h = valid-from-accepted bs (passed-accepted bs h)

@@ -1,7 +1,7 @@
 -- What a sheet that passes check is known to be. Everything proved about jobs starts from this record and from nothing else
 -- about the sheet's bytes.
 --   Valid         the parts
---   good-first    a board's first operation is the sum of the counts before it
+--   valid-first    a board's first operation is the sum of the counts before it
 -- Assumes nothing.
 use mathlib.Core.Path.{_≡_}
 use mathlib.Core.Bool.{true, _&&_}
@@ -43,8 +43,8 @@ pub record Valid (s : Sheet) : Type 0 where
   pub inbox-small : inbox-total s ≤ most-inbox
 
 -- scripts lie one after another
-pub good-first : (s : Sheet) → Valid s → (r : ℕ) → r < P-of s → board s r .first ≡ counts-before s r
+pub valid-first : (s : Sheet) → Valid s → (r : ℕ) → r < P-of s → board s r .first ≡ counts-before s r
 unfolding board-good
-good-first s g r l =
+valid-first s g r l =
     eqb-true (board s r .first) (counts-before s r)
     (and-left (eqb (board s r .first) (counts-before s r)) (leb (board s r .attached) most-attached && leb (inbox-start s (suc r)) most-inbox) (g .boards-good r l))

@@ -16,7 +16,7 @@ use Rattle.laws.specs.Tests.{and-left, and-right}
 use Rattle.promises.specs.Statements.{covers, expected-byte}
 use Rattle.invariant.specs.sheet.Valid.{Valid}
 use Rattle.laws.specs.SpliceOrder.{within}
-use Rattle.invariant.specs.deliveries.Commute.{delivered-at, ground}
+use Rattle.invariant.specs.deliveries.Commute.{delivered-at, delivery-laws}
 use Rattle.invariant.specs.Invariant.{state-at, partner-at, replay, replayed, Reached}
 use Rattle.invariant.specs.preserve.Memory.{replayed-length}
 
@@ -36,7 +36,7 @@ module _ (s : Sheet) (g : Valid s) (lent : List ℕ) (x : Job) (R : Reached s le
       go true e =
           let receives = and-left (is-receive (op s j)) (eqb (state-at x j) 3) e in
           let matched = eqb-true (state-at x j) 3 (and-right (is-receive (op s j)) (eqb (state-at x j) 3) e) in
-          delivered-at s g (partner-at x j) j receives bs l (R .stable .receive-met j receives matched .sends) at
+          delivered-at s g (partner-at x j) j receives bs l (R .stable .receive-pair j receives matched .sends) at
       go false e = refl
 
   replayed-is-byte-at : (n at : ℕ) → getD (replayed s x n lent) at 0 ≡ expected-byte n s x lent at
@@ -44,7 +44,7 @@ module _ (s : Sheet) (g : Valid s) (lent : List ℕ) (x : Job) (R : Reached s le
   replayed-is-byte-at zero at = refl
   replayed-is-byte-at (suc n) at =
       replay-is-byte-at n at (replayed s x n lent) (omega
-      (arith, replayed-length g (ground s g) (R .stable) (R .placed) (R .shaped) n lent room))
+      (arith, replayed-length g (delivery-laws s g) (R .stable) (R .placed) (R .shaped) n lent room))
       ∙ ap (λ (z : ℕ). cond (covers s x n at) (message-byte n at) z) (replayed-is-byte-at n at)
 
   pub deliveries-reached : (length (x .memory) ≡ length lent)

@@ -10,7 +10,7 @@ use Rattle.rules.specs.Job.{Job}
 use Rattle.rules.specs.Order.{run, none-able}
 use Rattle.rules.specs.Claims.{left-by, Alike, Given}
 use Rattle.promises.specs.Statements.{Lent, Run-ends, Ends-alike, Follows-alike, Run-alike}
-use Rattle.invariant.specs.deliveries.Commute.{ground}
+use Rattle.invariant.specs.deliveries.Commute.{delivery-laws}
 use Rattle.invariant.specs.preserve.Orders.{left-reached}
 use Rattle.invariant.specs.step.LowestAble.{next-none}
 use Rattle.promises.specs.compare.EveryEnd.{ends-same-positions}
@@ -21,7 +21,7 @@ use Rattle.promises.specs.claims.OneJob.{lent-valid}
 
 pub run-ends : Run-ends
 unfolding Run-ends
-run-ends bs i h = run-ended (lent-valid h) (ground (sheet-in bs) (lent-valid h)) i (h .room)
+run-ends bs i h = run-ended (lent-valid h) (delivery-laws (sheet-in bs) (lent-valid h)) i (h .room)
 
 module _ {bs i : List ℕ} (h : Given bs i) where
   abbrev s : Sheet
@@ -39,7 +39,7 @@ module _ {bs i : List ℕ} (h : Given bs i) where
       Alike s (left-by s a i) (left-by s b i)
   full-alike a b full-a full-b =
       let g = lent-valid lent in
-      let A = ground s g in
+      let A = delivery-laws s g in
       positions-alike g
       (ends-same-positions g A (h .calm-sheet) a b i (h .room) (next-none s g (left-by s a i) full-a) (next-none s g (left-by s b i) full-b)
       (left-reached g A (h .room) a) (left-reached g A (h .room) b))

@@ -51,13 +51,13 @@ module _ {s : Sheet} {lent : List ℕ} {x : Job} (R : Reached s lent x) where
       partner-at x r ≡ m →
       fits-with s m q ≡ true → state-at x q ≡ 3
   overtaking-receives m q r rr rq l e to f =
-      R .stable .first-posted m r q (subst (λ (z : ℕ). Matched-pair s x z r) to (R .stable .receive-met r rr e)) rq l f
+      R .stable .first-posted m r q (subst (λ (z : ℕ). Matched-pair s x z r) to (R .stable .receive-pair r rr e)) rq l f
 
   -- a row by its state and partner
   status : (r : ℕ) → is-receive (op s r) ≡ true → state-at x r ≡ 3 → Status s x (partner-at x r) r
   status r receives e =
       let m = partner-at x r in
-      let met = R .stable .receive-met r receives e in
+      let met = R .stable .receive-pair r receives e in
       record {
         sends = met .sends;
         fit = met .fit;

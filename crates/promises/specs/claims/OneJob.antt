@@ -13,7 +13,7 @@ use Rattle.promises.specs.Statements.{Lent, Deliveries, Verdicts, In-use
 use Rattle.invariant.specs.sheet.Valid.{Valid}
 use Rattle.invariant.specs.sheet.FromBytes.{valid-from-bytes}
 use Rattle.invariant.specs.Invariant.{Reached}
-use Rattle.invariant.specs.deliveries.Commute.{ground}
+use Rattle.invariant.specs.deliveries.Commute.{delivery-laws}
 use Rattle.invariant.specs.preserve.Orders.{start-peak, start-reached, left-reached}
 use Rattle.promises.specs.claims.Deliveries.{deliveries-reached}
 use Rattle.promises.specs.claims.Verdicts.{verdict-reached}
@@ -23,7 +23,7 @@ pub lent-valid : {bs i : List ℕ} → Lent bs i → Valid (sheet-in bs)
 lent-valid {bs} h = valid-from-bytes bs (h .passing)
 
 pub lent-reached : {bs i : List ℕ} (h : Lent bs i) (rs : List ℕ) → Reached (sheet-in bs) i (left-by (sheet-in bs) rs i)
-lent-reached {bs} h rs = left-reached (lent-valid h) (ground (sheet-in bs) (lent-valid h)) (h .room) rs
+lent-reached {bs} h rs = left-reached (lent-valid h) (delivery-laws (sheet-in bs) (lent-valid h)) (h .room) rs
 
 pub deliveries : Deliveries
 unfolding Deliveries
@@ -42,7 +42,7 @@ unfolding Peaks left-by follow
 peaks bs i rs r h =
     omega (
       arith,
-      follow-peak (lent-valid h) (ground (sheet-in bs) (lent-valid h)) (h .room) r 0 rs
+      follow-peak (lent-valid h) (delivery-laws (sheet-in bs) (lent-valid h)) (h .room) r 0 rs
           (start-reached (lent-valid h) i),
       start-peak (lent-valid h) i r,
     )

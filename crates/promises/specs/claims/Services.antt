@@ -23,7 +23,7 @@ use Rattle.promises.specs.compare.ReportBytes.{report-length}
 use Rattle.promises.specs.compare.PeaksAside.{equal-report, equal-none-able}
 use Rattle.invariant.specs.sheet.Valid.{Valid}
 use Rattle.invariant.specs.Invariant.{Reached}
-use Rattle.invariant.specs.deliveries.Commute.{ground}
+use Rattle.invariant.specs.deliveries.Commute.{delivery-laws}
 use Rattle.promises.specs.compare.SamePositions.{Same-positions, positions-equal}
 use Rattle.promises.specs.compare.WholeOrders.{Left-same-positions}
 use Rattle.promises.specs.compare.TwoRooms.{rooms-same-positions, positions-near}
@@ -140,7 +140,7 @@ module _ {bs i j : List ℕ} (a : Lent bs i) (b : Lent bs j) (same : Same-start 
   s = sheet-in bs
 
   two-rooms : Left-same-positions s i j (follow s rs i) (follow s rs j)
-  two-rooms = rooms-same-positions (lent-valid a) (ground s (lent-valid a)) (a .room) (b .room) rs
+  two-rooms = rooms-same-positions (lent-valid a) (delivery-laws s (lent-valid a)) (a .room) (b .room) rs
 
   two-alike : Alike-front s (left-by s rs i) (left-by s rs j)
   unfolding left-by

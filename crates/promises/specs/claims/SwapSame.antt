@@ -19,7 +19,7 @@ use Rattle.promises.specs.Statements.{Lent, Harmless, Swap-general, Swap
 use Rattle.invariant.specs.sheet.Valid.{Valid}
 use Rattle.invariant.specs.deliveries.Laws.{Delivery-laws}
 use Rattle.invariant.specs.Invariant.{Reached}
-use Rattle.invariant.specs.deliveries.Commute.{ground}
+use Rattle.invariant.specs.deliveries.Commute.{delivery-laws}
 use Rattle.promises.specs.compare.WholeOrders.{Left-same-positions, positions-follow, follow-join, follow-two}
 use Rattle.promises.specs.compare.Exchange.{E, swap-able, able-p, able-q, swap-same-positions}
 use Rattle.promises.specs.compare.CalmSheets.{calm-going, calm-not-any-source}
@@ -38,7 +38,7 @@ module _ {bs i : List ℕ} (h : Lent bs i) (before : List ℕ) (p q : ℕ) (d : 
   g = lent-valid h
 
   A : Delivery-laws s
-  A = ground s g
+  A = delivery-laws s g
 
   X : Reached s i x
   X = lent-reached h before

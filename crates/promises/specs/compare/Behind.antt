@@ -77,7 +77,7 @@ module _ {s : Sheet} (g : Valid s) {i j : List ℕ} {x y : Job} (X : Reached s i
           × (partner-at y k ≡ partner-at x k)
       go true w b r = absurd (X .shaped .only-half-unmatched k w e)
       go false w true r =
-          let met = behind-pair (partner-at x k) k (X .stable .receive-met k r e) in
+          let met = behind-pair (partner-at x k) k (X .stable .receive-pair k r e) in
           (met .receive-matched, met .to-message)
       go false w false r =
           let sends = kind-send s g k (X .placed .entered-only k (omega arith) .0) w r in

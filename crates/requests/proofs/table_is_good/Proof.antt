@@ -39,7 +39,8 @@ returns-3 : tie.Need-returns-3
 unfolding slot-taken has-area
 returns-3 c =
     let z = c .before .before .before .before .before .before .before .before .before .before .before .before in
-    let names : names-slot (o z) ≡ false = sym (c .before .before .before .before .before .before .before .before .names-slot .ensures) ∙ c .before .before .before .before .before .before .before .if1 .left in
+    let names : names-slot (o z) ≡ false = sym (c .before .before .before .before .before .before .before .before .names-slot .ensures) ∙
+    c .before .before .before .before .before .before .before .if1 .left in
     let takes : (takes-slot (o z) && slot-taken (starts z) (o z .slot)) ≡ false = cc in
     let area : has-area (o z) ≡ true = cc in
     cc (good-area (o z) (starts z) (ends z) names takes area)

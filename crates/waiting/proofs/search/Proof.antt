@@ -17,26 +17,11 @@ abbrev μ-loop : tie.MeasureT-loop
 loop-holds : tie.Need-loop-holds Inv-loop μ-loop
 loop-holds c = (omega arith, λ j l. absurd (omega arith))
 
-mul-envelope-fits : tie.Need-mul-envelope-fits Inv-loop μ-loop
-mul-envelope-fits c = search needs
-
-shared-slice-read-envelope-fits : tie.Need-shared-slice-read-envelope-fits Inv-loop μ-loop
-shared-slice-read-envelope-fits c = search needs
-
-mul-envelope-fits-2 : tie.Need-mul-envelope-fits-2 Inv-loop μ-loop
-mul-envelope-fits-2 c = search needs
-
 shared-slice-read-envelope-fits-2 : tie.Need-shared-slice-read-envelope-fits-2 Inv-loop μ-loop
 shared-slice-read-envelope-fits-2 c = omega (arith, c .before .before .before .before .before .before .before .pre .0)
 
-mul-envelope-fits-3 : tie.Need-mul-envelope-fits-3 Inv-loop μ-loop
-mul-envelope-fits-3 c = search needs
-
 shared-slice-read-envelope-fits-3 : tie.Need-shared-slice-read-envelope-fits-3 Inv-loop μ-loop
 shared-slice-read-envelope-fits-3 c = omega (arith, c .before .before .before .before .before .before .before .before .pre .1)
-
-envelope-fits-requires : tie.Need-envelope-fits-requires Inv-loop μ-loop
-envelope-fits-requires c κs = search needs
 
 returns : tie.Need-returns Inv-loop μ-loop
 returns c =
@@ -45,12 +30,6 @@ returns c =
     let l = c .before .before .before .before .before .before .loop in
     searched-here (a .sources .now) (a .communicators .now) (a .tags .now) (p .0) (p .1) (a .source) (a .communicator) (a .tag) (l .i)
     (c .before .before .before .before .before .loop-test .taken) (l .inv .1) (c .before .envelope-fits .ensures) (c .if1 .taken)
-
-add-i : tie.Need-add-i Inv-loop μ-loop
-add-i c = search needs
-
-loop-less : tie.Need-loop-less Inv-loop μ-loop
-loop-less c = omega arith
 
 loop-again : tie.Need-loop-again Inv-loop μ-loop
 loop-again c =
@@ -76,15 +55,15 @@ search-spec =
     Inv-loop
     μ-loop
     loop-holds
-    mul-envelope-fits
-    shared-slice-read-envelope-fits
-    mul-envelope-fits-2
+    (λ c. search needs)
+    (λ c. search needs)
+    (λ c. search needs)
     shared-slice-read-envelope-fits-2
-    mul-envelope-fits-3
+    (λ c. search needs)
     shared-slice-read-envelope-fits-3
-    envelope-fits-requires
+    (λ c κs. search needs)
     returns
-    add-i
-    loop-less
+    (λ c. search needs)
+    (λ c. omega arith)
     loop-again
     returns-2)

@@ -30,7 +30,8 @@ loop-again c =
     let a = c .before .before .before .args in
     let l = c .before .before .loop in
     let long = part-length (a .src .now) (a .from) (a .n) (omega arith) in
-    putting-more (a .s .now) (a .at) (take (a .n) (drop (a .from) (a .src .now))) (l .s) (l .i) (l .inv) _ (omega arith) (sym (part-at (a .src .now) (a .from) (a .n) (l .i) (c .before .loop-test .taken)))
+    putting-more (a .s .now) (a .at) (take (a .n) (drop (a .from) (a .src .now))) (l .s) (l .i) (l .inv) _ (omega arith)
+    (sym (part-at (a .src .now) (a .from) (a .n) (l .i) (c .before .loop-test .taken)))
 
 returns : tie.Need-returns Inv-loop μ-loop
 returns c =

@@ -29,7 +29,8 @@ loop-again : tie.Need-loop-again Inv-loop μ-loop
 loop-again c =
     let a = c .before .before .args in
     let l = c .before .loop in
-    putting-more (a .s .now) (a .at) (replicate (a .n) (a .v)) (l .s) (l .i) (l .inv) (a .v) (omega (arith, length-replicate (a .n) (a .v))) (sym (getD-replicate (a .n) (l .i) (a .v) 0 (c .loop-test .taken)))
+    putting-more (a .s .now) (a .at) (replicate (a .n) (a .v)) (l .s) (l .i) (l .inv) (a .v) (omega (arith, length-replicate (a .n) (a .v)))
+    (sym (getD-replicate (a .n) (l .i) (a .v) 0 (c .loop-test .taken)))
 
 returns : tie.Need-returns Inv-loop μ-loop
 returns c =

@@ -11,7 +11,8 @@ returns : tie.Need-returns
 unfolding low-two
 returns c =
     let a = c .before .before .before .before .before .before .before .before .before .args in
-    splice-then (a .s .now) (c .before .before .before .before .before .before .put-two .last .0) (c .before .before .put-two2 .last .0) (a .at) 2 (low-two (a .v)) (low-two (a .w)) (c .before .before .before .before .before .before .put-two .ensures) refl (c .before .before .put-two2 .ensures) (omega arith)
+    splice-then (a .s .now) (c .before .before .before .before .before .before .put-two .last .0) (c .before .before .put-two2 .last .0) (a .at) 2 (low-two (a .v)) (low-two (a .w))
+    (c .before .before .before .before .before .before .put-two .ensures) refl (c .before .before .put-two2 .ensures) (omega arith)
 
 pub put-pair-spec : {M : Type 1} → statement M
 put-pair-spec =

@@ -8,7 +8,8 @@ returns : tie.Need-returns
 returns c =
     λ t s x d q.
     let a = c .before .before .before .before .before .before .before .before .before .args in
-    rows-match s (a .c .now) t x d (a .m) (a .r) (a .cut) (a .source) (a .tag) (a .long) (c .before .before .before .before .before .before .put-sent .last .0) (c .before .before .put-received .last .0) q (c .before .before .before .before .before .before .put-sent .ensures) (c .before .before .put-received .ensures)
+    rows-match s (a .c .now) t x d (a .m) (a .r) (a .cut) (a .source) (a .tag) (a .long) (c .before .before .before .before .before .before .put-sent .last .0)
+    (c .before .before .put-received .last .0) q (c .before .before .before .before .before .before .put-sent .ensures) (c .before .before .put-received .ensures)
 
 pub match-rows-spec : {M : Type 1} → statement M
 match-rows-spec = tie.close (tie.spec (λ c κs. search needs) (λ c κs. search needs) (λ c. search needs) returns)

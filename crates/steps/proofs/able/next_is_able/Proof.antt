@@ -46,7 +46,11 @@ frees-slot-requires c κs =
 waited-at-requires : tie.Need-waited-at-requires
 waited-at-requires c κs =
     let n = inside (c .before .before .before .before .before .before .before .pre) in
-    omega (arith, c .before .before .before .before .before .before .before .pre .represents .decodes .few-ops, c .before .before .before .before .before .before .before .pre .represents .decodes .roomy)
+    omega (
+      arith,
+      c .before .before .before .before .before .before .before .pre .represents .decodes .few-ops,
+      c .before .before .before .before .before .before .before .pre .represents .decodes .roomy,
+    )
 
 state-of-requires : tie.Need-state-of-requires
 state-of-requires c κs =
@@ -61,15 +65,21 @@ returns-2 c =
     let a = c .before .before .before .before .before .before .before .before .before .args in
     ap (λ (v : ℕ). leb 2 v) (c .state-of .ensures .is ∙ ap (λ (j : ℕ). entry-in (a .c .now) (row-at j) .state) (c .before .waited-at .ensures .is))
     ∙ next-freeing (a .s .now) lent (a .c .now) (a .t) x d (a .r) (a .i) n
-    (sym (half-read (a .s .now) lent (a .c .now) (a .t) x d (a .r) (a .i) n (c .before .before .before .before .before .before .waiting-of .result) (c .before .before .before .before .before .is-only-half .result)
-    (c .before .before .before .before .before .before .waiting-of .ensures ∙ waiting-is (a .s .now) lent (a .c .now) (a .t) x d (a .r) (n .there)) (c .before .before .before .before .before .is-only-half .ensures))
+    (sym (half-read (a .s .now) lent (a .c .now) (a .t) x d (a .r) (a .i) n (c .before .before .before .before .before .before .waiting-of .result)
+    (c .before .before .before .before .before .is-only-half .result)
+    (c .before .before .before .before .before .before .waiting-of .ensures ∙ waiting-is (a .s .now) lent (a .c .now) (a .t) x d (a .r) (n .there))
+    (c .before .before .before .before .before .is-only-half .ensures))
     ∙ not-false _ (c .before .before .before .before .if1 .left))
     (sym (c .before .before .before .frees-slot .ensures) ∙ c .before .before .if2 .taken)
 
 state-of-requires-2 : tie.Need-state-of-requires-2
 state-of-requires-2 c κs =
     let n = inside (c .before .before .before .before .before .before .before .pre) in
-    omega (arith, c .before .before .before .before .before .before .before .pre .represents .decodes .few-ops, c .before .before .before .before .before .before .before .pre .represents .decodes .roomy)
+    omega (
+      arith,
+      c .before .before .before .before .before .before .before .pre .represents .decodes .few-ops,
+      c .before .before .before .before .before .before .before .pre .represents .decodes .roomy,
+    )
 
 returns-3 : tie.Need-returns-3
 returns-3 c =
@@ -77,8 +87,10 @@ returns-3 c =
     let a = c .before .before .before .before .before .before .before .before .args in
     ap (λ (v : ℕ). leb 2 v) (c .state-of2 .ensures .is)
     ∙ next-half (a .s .now) lent (a .c .now) (a .t) x d (a .r) (a .i) n
-    (sym (half-read (a .s .now) lent (a .c .now) (a .t) x d (a .r) (a .i) n (c .before .before .before .before .before .waiting-of .result) (c .before .before .before .before .is-only-half .result)
-    (c .before .before .before .before .before .waiting-of .ensures ∙ waiting-is (a .s .now) lent (a .c .now) (a .t) x d (a .r) (n .there)) (c .before .before .before .before .is-only-half .ensures))
+    (sym (half-read (a .s .now) lent (a .c .now) (a .t) x d (a .r) (a .i) n (c .before .before .before .before .before .waiting-of .result)
+    (c .before .before .before .before .is-only-half .result)
+    (c .before .before .before .before .before .waiting-of .ensures ∙ waiting-is (a .s .now) lent (a .c .now) (a .t) x d (a .r) (n .there))
+    (c .before .before .before .before .is-only-half .ensures))
     ∙ not-false _ (c .before .before .before .if1 .left))
     (sym (c .before .before .frees-slot .ensures) ∙ c .before .if2 .left)
 

@@ -63,8 +63,12 @@ match-rows-requires c κs =
 take-requires : tie.Need-take-requires
 take-requires c κs =
     let a = c .before .before .before .before .before .before .before .before .before .before .before .before .args in
-    let p = c .before .before .before .before .before .before .before .before .before .before .before .before .pre .0 in
-    (c .before .before .before .before .before .before .before .before .before .before .before .before .pre .1, few-listed (sheet-in (a .s .now)) (a .c .now) (a .t) (p .job) (p .decodes) (a .list), omega (arith, p .decodes .roomy))
+    let p = c .before .before .before .before .before .before .before .before .before .before .before .before .pre .0 in (
+      c .before .before .before .before .before .before .before .before .before .before .before .before .pre .1,
+      few-listed (sheet-in (a .s .now)) (a .c .now) (a .t) (p .job) (p .decodes)
+          (a .list),
+      omega (arith, p .decodes .roomy),
+    )
 
 -- the match, once the one found has left its list
 module _ (c : tie.After-take) where
@@ -89,15 +93,18 @@ module _ (c : tie.After-take) where
             λ x d o.
             let y : Job = matched-rows s m q (release s m x) in
             let both =
-            both-read (b .args .list) (b .args .i) j m q s x (c .before .before .before .before .before .before .message-in .ensures) (c .before .before .before .before .before .receive-in .ensures) (o .unentered .inside)
+            both-read (b .args .list) (b .args .i) j m q s x (c .before .before .before .before .before .before .message-in .ensures)
+            (c .before .before .before .before .before .receive-in .ensures) (o .unentered .inside)
             (inside (c .before .before .before .before .before .before .before .before) x d o) in
             matched-read (b .args .list) s (b .args .i) j m q x (c .take .last .0) (c .take .result) (c .before .before .before .before .before .before .message-in .ensures)
             (c .before .before .before .before .before .receive-in .ensures) (o .unentered .not-listed)
             (c .take .ensures j s y (c .before .before .before .before .match-rows .ensures .after x d both)
-            (first-at-as (list-of (b .args .list) x) (list-of (b .args .list) y) (b .args .k) j (rows-list s m q x (b .args .list)) (found (c .before .before .before .before .before .before .before .before) x d) (o .first)));
+            (first-at-as (list-of (b .args .list) x) (list-of (b .args .list) y) (b .args .k) j (rows-list s m q x (b .args .list))
+            (found (c .before .before .before .before .before .before .before .before) x d) (o .first)));
       }
 
-  can-finish : (x : Job) → Pairs (b .args .list) (b .args .r) (b .args .i) (b .args .k) (sheet-in (b .args .s .now)) x → Rattle.state.specs.Changes.Can-finish (b .args .r) (sheet-in (b .args .s .now)) (matched-with (b .args .list) (sheet-in (b .args .s .now)) (b .args .i) j x)
+  can-finish : (x : Job) → Pairs (b .args .list) (b .args .r) (b .args .i) (b .args .k) (sheet-in (b .args .s .now)) x → Rattle.state.specs.Changes.Can-finish (b .args .r)
+      (sheet-in (b .args .s .now)) (matched-with (b .args .list) (sheet-in (b .args .s .now)) (b .args .i) j x)
   can-finish x o = paired-can-finish (b .args .list) (sheet-in (b .args .s .now)) (b .args .i) j x (b .args .r) (o .unentered .can-finish)
 
 initiate-requires : tie.Need-initiate-requires
@@ -109,7 +116,8 @@ returns : tie.Need-returns
 returns c =
     let a = c .before .before .before .before .before .before .before .before .before .before .before .before .before .before .before .before .before .before .before .args in
     let s = sheet-in (a .s .now) in
-    simulates-as (λ x o. ap (λ (k : ℕ). initiated s (a .r) (a .i) (matched-with (a .list) s (a .i) k x)) (place (c .before .before .before .before .before .before .before .before .before .before .before .before .before .before)))
+    simulates-as (λ x o. ap (λ (k : ℕ). initiated s (a .r) (a .i) (matched-with (a .list) s (a .i) k x))
+    (place (c .before .before .before .before .before .before .before .before .before .before .before .before .before .before)))
     (in-turn (paired (c .before .before .before .before .before .before)) (can-finish (c .before .before .before .before .before .before)) (c .before .before .initiate .ensures))
 
 pub pair-spec : {M : Type 1} → statement M

@@ -22,9 +22,11 @@ returns c =
       after =
           λ x d o.
           subst (λ (y : Job). Decodes s (c .before .before .finish-one .last .0) (a .t) y)
-          (ended-only s (a .r) (a .i) x (sym (c .before .before .before .before .before .before .before .before .before .is-only-half .ensures) ∙ c .before .before .before .before .before .before .before .before .if1 .taken))
+          (ended-only s (a .r) (a .i) x (sym (c .before .before .before .before .before .before .before .before .before .is-only-half .ensures) ∙
+          c .before .before .before .before .before .before .before .before .if1 .taken))
           (c .before .before .finish-one .ensures (a .t) s (with-state (a .i) 5 x)
-          (c .before .before .before .before .before .before .set-state .ensures (a .t) s x d (c .before .before .before .before .before .before .before .before .before .before .before .before .pre .1)) (state-can-finish s (a .r) (a .i) 5 x o));
+          (c .before .before .before .before .before .before .set-state .ensures (a .t) s x d
+          (c .before .before .before .before .before .before .before .before .before .before .before .before .pre .1)) (state-can-finish s (a .r) (a .i) 5 x o));
     }
 
 returns-2 : tie.Need-returns-2

@@ -30,23 +30,32 @@ Inv-loop s c list count i base k₀ k = (k ≤ count) × ((j : ℕ) → j < k �
 abbrev μ-loop : tie.MeasureT-loop
 μ-loop s c list count i base k₀ k = count - k
 
--- what was read at index k is the k-th of the list
-read : (c : tie.After-word-of Inv-loop μ-loop) → c .word-of .result ≡ two (c .before .before .before .before .before .before .args .c .now) (word-at (base-of (c .before .before .before .before .before .before .args .list)) (c .before .before .loop .k))
-read c = c .word-of .ensures .is ∙ ap (λ (b : ℕ). two (c .before .before .before .before .before .before .args .c .now) (word-at b (c .before .before .loop .k))) (c .before .before .before .base .ensures .0)
+-- WHAT WAS READ at index k
+module _ (c : tie.After-word-of Inv-loop μ-loop) where
+  abbrev z : tie.Start Inv-loop μ-loop
+  z = c .before .before .before .before .before .before
+
+  abbrev k : ℕ
+  k = c .before .before .loop .k
+
+  -- the k-th of the list
+  read : c .word-of .result ≡ two (z .args .c .now) (word-at (base-of (z .args .list)) k)
+  read = c .word-of .ensures .is ∙ ap (λ (b : ℕ). two (z .args .c .now) (word-at b k)) (c .before .before .before .base .ensures .0)
 
 word-of-requires : tie.Need-word-of-requires Inv-loop μ-loop
 word-of-requires c κs = omega (arith, c .before .before .before .before .before .pre .1 .short, c .before .before .base .ensures .1 .high, c .before .before .before .before .before .pre .0 .roomy)
 
 pair-fits-requires : tie.Need-pair-fits-requires Inv-loop μ-loop
 pair-fits-requires c κs =
-    let p = c .before .before .before .before .before .before .pre in
-    let member = p .1 .members (c .before .before .loop .k) (c .before .loop-test .taken) in
-    (p .0, p .2, subst (λ (n : ℕ). n < N-of (sheet-in (c .before .before .before .before .before .before .args .s .now))) (sym (read c)) member)
+    let p = z c .pre in
+    let member = p .1 .members (k c) (c .before .loop-test .taken) in
+    (p .0, p .2, subst (λ (n : ℕ). n < N-of (sheet-in (z c .args .s .now))) (sym (read c)) member)
 
 -- what the test answered, of the k-th of the list
-tested : (c : tie.After-pair-fits Inv-loop μ-loop) → test (c .before .before .before .before .before .before .before .args .s .now) (c .before .before .before .before .before .before .before .args .c .now) (c .before .before .before .before .before .before .before .args .list) (c .before .before .before .before .before .before .before .args .i) (c .before .before .before .loop .k) ≡ c .pair-fits .result
+tested : (c : tie.After-pair-fits Inv-loop μ-loop) →
+    test (z (c .before) .args .s .now) (z (c .before) .args .c .now) (z (c .before) .args .list) (z (c .before) .args .i) (k (c .before)) ≡ c .pair-fits .result
 tested c =
-    let a = c .before .before .before .before .before .before .before .args in
+    let a = z (c .before) .args in
     sym (c .pair-fits .ensures ∙ ap (λ (n : ℕ). pair-fits (a .list) (sheet-in (a .s .now)) (a .i) n) (read (c .before)))
 
 returns : tie.Need-returns Inv-loop μ-loop
