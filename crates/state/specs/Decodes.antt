@@ -125,7 +125,7 @@ module _ (s : Sheet) (c : List ℕ) (t : Control) (x : Job) (d : Decodes s c t x
       (words-kept c at vs fits receives-at (t .receives) (d .few-receives) (omega arith) ∙ sym (d .receives-are))
 
   places-spliced : (at : ℕ) (vs : List ℕ) (ps : List Place) → places-at ≤ at → at + length vs ≤ messages-at → places-in (splice c at vs) (P-of s) ≡ ps → Decodes s (splice c at vs) t
-  (with-places ps x)
+      (with-places ps x)
   unfolding with-places
   places-spliced at vs ps l h e =
       let roomy : scratch-size ≤ length c = d .roomy in
@@ -231,7 +231,7 @@ module _ (s : Sheet) (c : List ℕ) (t : Control) (x : Job) (d : Decodes s c t x
 
   -- what is kept beside scratch, and the memory, which is kept nowhere
   beside : (m : List ℕ) (o : Option Stop) (j k v r i : ℕ) → o ≡ stop-of v r i → j ≡ k → Decodes s c (control (t .messages) (t .receives) k v r i)
-  (job (x .entries) (x .places) (x .messages) (x .receives) m o j)
+      (job (x .entries) (x .places) (x .messages) (x .receives) m o j)
   unfolding job
   beside m o j k v r i e f =
       record {
