@@ -51,14 +51,5 @@ pub crc-over-spec : {M : Type 1} → statement M
 crc-over-spec =
     tie.close
     (tie.spec
-    Inv-loop
-    μ-loop
-    loop-holds
-    (λ c. search needs)
-    (λ c κs. search needs)
-    (λ c. search needs)
-    entry-requires
-    (λ c. search needs)
-    (λ c. search needs)
-    loop-again
-    returns)
+    Inv-loop μ-loop loop-holds (λ c. search needs) (λ c κs. search needs) (λ c. search needs) entry-requires
+    (λ c. search needs) (λ c. search needs) loop-again returns)

@@ -55,15 +55,5 @@ pub deliver-spec : {M : Type 1} → statement M
 deliver-spec =
     tie.close
     (tie.spec
-    Inv-loop
-    μ-loop
-    (λ c κs. search needs)
-    loop-holds
-    deliver-script-requires
-    (λ c κs. search needs)
-    add-start
-    (λ c. omega arith)
-    (λ c. omega arith)
-    loop-again
-    (λ c. c .before .loop .inv .replaying .size)
-    returns)
+    Inv-loop μ-loop (λ c κs. search needs) loop-holds deliver-script-requires (λ c κs. search needs) add-start
+    (λ c. omega arith) (λ c. omega arith) loop-again (λ c. c .before .loop .inv .replaying .size) returns)

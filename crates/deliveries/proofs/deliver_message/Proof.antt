@@ -52,18 +52,7 @@ pub deliver-message-spec : {M : Type 1} → statement M
 deliver-message-spec =
     tie.close
     (tie.spec
-    (λ c κs. search needs)
-    (λ c κs. search needs)
-    returns
-    (λ c κs. search needs)
-    (λ c κs. search needs)
-    (λ c. search needs)
-    (λ c κs. search needs)
-    (λ c. omega (arith, room c))
-    (λ c. omega (arith, room c))
-    (λ c. search needs)
-    (λ c. search needs)
-    (λ c. room c)
-    (λ c κs. (first (c .before), omega (arith, message-end (entry (c .before) .pre .0))))
-    (λ c. search needs)
-    returns-2)
+    (λ c κs. search needs) (λ c κs. search needs) returns (λ c κs. search needs) (λ c κs. search needs)
+    (λ c. search needs) (λ c κs. search needs) (λ c. omega (arith, room c)) (λ c. omega (arith, room c))
+    (λ c. search needs) (λ c. search needs) (λ c. room c)
+    (λ c κs. (first (c .before), omega (arith, message-end (entry (c .before) .pre .0)))) (λ c. search needs) returns-2)

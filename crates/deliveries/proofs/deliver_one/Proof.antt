@@ -43,10 +43,5 @@ pub deliver-one-spec : {M : Type 1} → statement M
 deliver-one-spec =
     tie.close
     (tie.spec
-    (λ c κs. search needs)
-    (λ c κs. search needs)
-    (λ c κs. search needs)
-    deliver-message-requires
-    (λ c. search needs)
-    returns
-    returns-2)
+    (λ c κs. search needs) (λ c κs. search needs) (λ c κs. search needs) deliver-message-requires (λ c. search needs)
+    returns returns-2)

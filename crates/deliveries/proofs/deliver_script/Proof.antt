@@ -54,15 +54,5 @@ pub deliver-script-spec : {M : Type 1} → statement M
 deliver-script-spec =
     tie.close
     (tie.spec
-    Inv-loop
-    μ-loop
-    (λ c κs. search needs)
-    (λ c κs. search needs)
-    (λ c. omega arith)
-    loop-holds
-    deliver-one-requires
-    (λ c. omega arith)
-    (λ c. omega arith)
-    loop-again
-    (λ c. c .before .loop .inv .0 .size)
-    returns)
+    Inv-loop μ-loop (λ c κs. search needs) (λ c κs. search needs) (λ c. omega arith) loop-holds deliver-one-requires
+    (λ c. omega arith) (λ c. omega arith) loop-again (λ c. c .before .loop .inv .0 .size) returns)

@@ -41,10 +41,6 @@ pub jamturret-follow-spec : {M : Type 1} → statement M
 jamturret-follow-spec =
     tie.close
     (tie.spec
-    (λ c κs. search needs)
-    returns
+    (λ c κs. search needs) returns
     (λ c κs. enough (c .before .before .before .before .before) (c .before .before .before .if1 .left))
-    (λ c. search needs)
-    (λ c. search needs)
-    (λ c. search needs)
-    returns-2)
+    (λ c. search needs) (λ c. search needs) (λ c. search needs) returns-2)

@@ -25,11 +25,6 @@ pub jamturret-run-spec : {M : Type 1} → statement M
 jamturret-run-spec =
     tie.close
     (tie.spec
-    (λ c κs. search needs)
-    returns
+    (λ c κs. search needs) returns
     (λ c κs. ready _ _ _ _ _ _ _ (c .before .before .before .before .before .before .refusal .ensures) (c .before .before .before .before .if1 .left))
-    (λ c. search needs)
-    (λ c. search needs)
-    (λ c. search needs)
-    (λ c. search needs)
-    returns-2)
+    (λ c. search needs) (λ c. search needs) (λ c. search needs) (λ c. search needs) returns-2)

@@ -64,16 +64,6 @@ pub line-of-spec : {M : Type 1} → statement M
 line-of-spec =
     tie.close
     (tie.spec
-    (λ c. search needs)
-    (λ c. search needs)
-    (λ c. search needs)
-    (λ c. search needs)
-    (λ c κs. search needs)
-    returns
-    report-size-requires
-    (λ c. search needs)
-    (λ c. sym (long (c .before)))
-    hex-line-requires
-    (λ c. search needs)
-    (λ c. search needs)
-    returns-2)
+    (λ c. search needs) (λ c. search needs) (λ c. search needs) (λ c. search needs) (λ c κs. search needs) returns
+    report-size-requires (λ c. search needs) (λ c. sym (long (c .before))) hex-line-requires (λ c. search needs)
+    (λ c. search needs) returns-2)

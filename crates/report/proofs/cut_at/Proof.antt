@@ -12,9 +12,4 @@ unfolding cut-row
 returns c = bit-of (ap (λ (v : ℕ). eqb v 1) (c .before .cut-of .ensures .is)) (c .bit .ensures)
 
 pub cut-at-spec : {M : Type 1} → statement M
-cut-at-spec =
-    tie.close
-    (tie.spec
-    (λ c κs. search needs)
-    (λ c κs. search needs)
-    returns)
+cut-at-spec = tie.close (tie.spec (λ c κs. search needs) (λ c κs. search needs) returns)

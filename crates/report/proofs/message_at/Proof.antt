@@ -13,10 +13,4 @@ unfolding message-row
 returns c = bit-of (ap₂ (λ (b : Bool) (v : ℕ). b && (eqb v 1 || eqb v 2)) (c .before .is-send .ensures) (c .before .before .state-of .ensures .is)) (c .bit .ensures)
 
 pub message-at-spec : {M : Type 1} → statement M
-message-at-spec =
-    tie.close
-    (tie.spec
-    (λ c κs. search needs)
-    (λ c κs. search needs)
-    (λ c κs. search needs)
-    returns)
+message-at-spec = tie.close (tie.spec (λ c κs. search needs) (λ c κs. search needs) (λ c κs. search needs) returns)

@@ -12,10 +12,4 @@ returns-2 : tie.Need-returns-2
 returns-2 c = λ lent x d. lowest-none-able (c .before .before .lowest .ensures lent x d) (omega arith)
 
 pub none-is-able-spec : {M : Type 1} → statement M
-none-is-able-spec =
-    tie.close
-    (tie.spec
-    (λ c κs. search needs)
-    (λ c κs. search needs)
-    returns
-    returns-2)
+none-is-able-spec = tie.close (tie.spec (λ c κs. search needs) (λ c κs. search needs) returns returns-2)

@@ -43,14 +43,5 @@ pub op-rows-spec : {M : Type 1} → statement M
 op-rows-spec =
     tie.close
     (tie.spec
-    Inv-loop
-    μ-loop
-    loop-holds
-    (λ c. search needs)
-    (λ c. search needs)
-    op-row-requires
-    (λ c. search needs)
-    (λ c. search needs)
-    loop-again
-    (λ c. c .before .loop .inv .0 .size)
-    returns)
+    Inv-loop μ-loop loop-holds (λ c. search needs) (λ c. search needs) op-row-requires (λ c. search needs)
+    (λ c. search needs) loop-again (λ c. c .before .loop .inv .0 .size) returns)

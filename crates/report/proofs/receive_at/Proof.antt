@@ -13,10 +13,4 @@ unfolding receive-row
 returns c = bit-of (ap₂ (λ (b : Bool) (v : ℕ). b && (eqb v 1)) (c .before .is-receive .ensures) (c .before .before .state-of .ensures .is)) (c .bit .ensures)
 
 pub receive-at-spec : {M : Type 1} → statement M
-receive-at-spec =
-    tie.close
-    (tie.spec
-    (λ c κs. search needs)
-    (λ c κs. search needs)
-    (λ c κs. search needs)
-    returns)
+receive-at-spec = tie.close (tie.spec (λ c κs. search needs) (λ c κs. search needs) (λ c κs. search needs) returns)

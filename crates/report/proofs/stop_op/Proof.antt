@@ -17,8 +17,4 @@ returns-2 c =
     sym (ap (λ (b : Bool). cond b absent (t .op)) (ne-eqb (t .verdict) 0 (c .if1 .left)))
 
 pub stop-op-spec : {M : Type 1} → statement M
-stop-op-spec =
-    tie.close
-    (tie.spec
-    returns
-    returns-2)
+stop-op-spec = tie.close (tie.spec returns returns-2)

@@ -17,8 +17,4 @@ returns-2 c =
     sym (ap (λ (b : Bool). cond b no-rank (t .rank)) (ne-eqb (t .verdict) 0 (c .if1 .left)))
 
 pub stop-rank-spec : {M : Type 1} → statement M
-stop-rank-spec =
-    tie.close
-    (tie.spec
-    returns
-    returns-2)
+stop-rank-spec = tie.close (tie.spec returns returns-2)

@@ -85,16 +85,5 @@ pub script-refusal-spec : {M : Type 1} → statement M
 script-refusal-spec =
     tie.close
     (tie.spec
-    Inv-loop
-    μ-loop
-    (λ c κs. search needs)
-    (λ c κs. search needs)
-    (λ c. omega arith)
-    loop-holds
-    table-is-good-requires
-    returns
-    note-requires
-    (λ c. omega arith)
-    (λ c. omega arith)
-    loop-again
-    returns-2)
+    Inv-loop μ-loop (λ c κs. search needs) (λ c κs. search needs) (λ c. omega arith) loop-holds table-is-good-requires
+    returns note-requires (λ c. omega arith) (λ c. omega arith) loop-again returns-2)

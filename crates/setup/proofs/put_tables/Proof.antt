@@ -42,13 +42,5 @@ pub put-tables-spec : {M : Type 1} → statement M
 put-tables-spec =
     tie.close
     (tie.spec
-    Inv-loop
-    μ-loop
-    (λ c κs. search needs)
-    loop-holds
-    put-script-requires
-    (λ c. omega arith)
-    (λ c. omega arith)
-    (λ c. (omega arith, omega arith, c .before .before .put-script .ensures))
-    (λ c. c .before .loop .inv .0)
-    returns)
+    Inv-loop μ-loop (λ c κs. search needs) loop-holds put-script-requires (λ c. omega arith) (λ c. omega arith)
+    (λ c. (omega arith, omega arith, c .before .before .put-script .ensures)) (λ c. c .before .loop .inv .0) returns)

@@ -52,18 +52,6 @@ pub search-spec : {M : Type 1} → statement M
 search-spec =
     tie.close
     (tie.spec
-    Inv-loop
-    μ-loop
-    loop-holds
-    (λ c. search needs)
-    (λ c. search needs)
-    (λ c. search needs)
-    shared-slice-read-envelope-fits-2
-    (λ c. search needs)
-    shared-slice-read-envelope-fits-3
-    (λ c κs. search needs)
-    returns
-    (λ c. search needs)
-    (λ c. omega arith)
-    loop-again
-    returns-2)
+    Inv-loop μ-loop loop-holds (λ c. search needs) (λ c. search needs) (λ c. search needs)
+    shared-slice-read-envelope-fits-2 (λ c. search needs) shared-slice-read-envelope-fits-3 (λ c κs. search needs)
+    returns (λ c. search needs) (λ c. omega arith) loop-again returns-2)

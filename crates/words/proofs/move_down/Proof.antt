@@ -52,16 +52,5 @@ pub move-down-spec : {M : Type 1} → statement M
 move-down-spec =
     tie.close
     (tie.spec
-    Inv-loop
-    μ-loop
-    (λ c. search needs)
-    loop-holds
-    (λ c. search needs)
-    slice-read-s
-    (λ c. search needs)
-    slice-write-s
-    (λ c. search needs)
-    (λ c. search needs)
-    loop-again
-    (λ c. search needs)
-    returns)
+    Inv-loop μ-loop (λ c. search needs) loop-holds (λ c. search needs) slice-read-s (λ c. search needs) slice-write-s
+    (λ c. search needs) (λ c. search needs) loop-again (λ c. search needs) returns)

@@ -17,12 +17,5 @@ pub again-spec : {M : Type 1} → statement M
 again-spec =
     tie.close
     (tie.spec
-    (λ c. search needs)
-    slice-aggregate-follow-2
-    (λ c κs. search needs)
-    (λ c. search needs)
-    (λ c. search needs)
-    slice-aggregate-follow-4
-    (λ c κs. search needs)
-    (λ c. search needs)
-    (λ c. search needs))
+    (λ c. search needs) slice-aggregate-follow-2 (λ c κs. search needs) (λ c. search needs) (λ c. search needs)
+    slice-aggregate-follow-4 (λ c κs. search needs) (λ c. search needs) (λ c. search needs))

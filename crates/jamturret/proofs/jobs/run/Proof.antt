@@ -36,10 +36,4 @@ pub run-spec : {M : Type 1} → statement M
 run-spec =
     tie.close
     (tie.spec
-    run-requires
-    finish-requires
-    (λ c. search needs)
-    (λ c. search needs)
-    (λ c. search needs)
-    (λ c. search needs)
-    returns)
+    run-requires finish-requires (λ c. search needs) (λ c. search needs) (λ c. search needs) (λ c. search needs) returns)

@@ -21,10 +21,4 @@ returns-2 c =
     (check-accepts _ (k .result .number) (k .result .place) (k .ensures) (c .before .if1 .left)) (c .short .ensures)
 
 pub refusal-spec : {M : Type 1} → statement M
-refusal-spec =
-    tie.close
-    (tie.spec
-    (λ c κs. search needs)
-    returns
-    short-requires
-    returns-2)
+refusal-spec = tie.close (tie.spec (λ c κs. search needs) returns short-requires returns-2)

@@ -52,18 +52,7 @@ pub follow-spec : {M : Type 1} → statement M
 follow-spec =
     tie.close
     (tie.spec
-    Inv-loop
-    μ-loop
-    (λ c κs. search needs)
-    loop-holds
-    (λ c. omega arith)
-    (λ c κs. search needs)
-    (λ c κs. reaches-represented (c .before .before .before .before .loop .inv .2))
-    (λ c. search needs)
-    returns
-    take-requires
-    (λ c. omega arith)
-    (λ c. omega arith)
-    loop-again
-    (λ c. search needs)
+    Inv-loop μ-loop (λ c κs. search needs) loop-holds (λ c. omega arith) (λ c κs. search needs)
+    (λ c κs. reaches-represented (c .before .before .before .before .loop .inv .2)) (λ c. search needs) returns
+    take-requires (λ c. omega arith) (λ c. omega arith) loop-again (λ c. search needs)
     (λ c. reaches-end (c .before .loop .inv .2) (c .loop-test .left)))

@@ -72,19 +72,11 @@ pub run-spec : {M : Type 1} → statement M
 run-spec =
     tie.close
     (tie.spec
-    Inv-loop
-    μ-loop
-    (λ c κs. search needs)
-    (λ c κs. search needs)
-    (λ c κs. starts-represented (c .before .before .before .before .start .ensures))
-    loop-holds
-    (λ c. omega arith)
+    Inv-loop μ-loop (λ c κs. search needs) (λ c κs. search needs)
+    (λ c κs. starts-represented (c .before .before .before .before .start .ensures)) loop-holds (λ c. omega arith)
     (λ c. omega (arith, c .before .loop .inv .1, entry c .pre .3, room c))
     (λ c κs. running-able (c .before .before .loop .inv .2) (c .before .before .loop .inv .3) (below (c .before)))
     (λ c. omega (arith, room (c .before .before .before .before), entry (c .before .before .before .before) .pre .3))
-    lowest-requires-2
-    (λ c. omega (arith, room (c .before .before .before .before .before .before)))
-    loop-again
-    (λ c. search needs)
-    (λ c. search needs)
+    lowest-requires-2 (λ c. omega (arith, room (c .before .before .before .before .before .before))) loop-again
+    (λ c. search needs) (λ c. search needs)
     (λ c. running-end (c .before .loop .inv .2) (c .before .loop .inv .3) (omega arith)))

@@ -61,20 +61,6 @@ pub refusal-spec : {M : Type 1} → statement M
 refusal-spec =
     tie.close
     (tie.spec
-    Inv-loop
-    μ-loop
-    (λ c κs. search needs)
-    loop-holds
-    (λ c κs. search needs)
-    (λ c. omega arith)
-    (λ c κs. search needs)
-    (λ c κs. search needs)
-    returns
-    (λ c κs. search needs)
-    (λ c. omega arith)
-    (λ c. omega arith)
-    (λ c. omega arith)
-    loop-again
-    (λ c κs. search needs)
-    returns-2
-    returns-3)
+    Inv-loop μ-loop (λ c κs. search needs) loop-holds (λ c κs. search needs) (λ c. omega arith) (λ c κs. search needs)
+    (λ c κs. search needs) returns (λ c κs. search needs) (λ c. omega arith) (λ c. omega arith) (λ c. omega arith)
+    loop-again (λ c κs. search needs) returns-2 returns-3)

@@ -58,4 +58,5 @@ returns-3 c =
 pub tables-spec : {M : Type 1} → statement M
 tables-spec =
     tie.close
-    (tie.spec (λ c κs. search needs) returns refusal-requires-2 returns-2 refusal-requires-3 returns-3)
+    (tie.spec
+    (λ c κs. search needs) returns refusal-requires-2 returns-2 refusal-requires-3 returns-3)

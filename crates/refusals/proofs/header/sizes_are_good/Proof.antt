@@ -11,4 +11,5 @@ returns c = cc
 pub sizes-are-good-spec : {M : Type 1} → statement M
 sizes-are-good-spec =
     tie.close
-    (tie.spec (λ c κs. search needs) (λ c κs. search needs) (λ c κs. search needs) (λ c κs. search needs) returns)
+    (tie.spec
+    (λ c κs. search needs) (λ c κs. search needs) (λ c κs. search needs) (λ c κs. search needs) returns)

@@ -11,4 +11,5 @@ returns c = cc
 pub envelope-is-good-spec : {M : Type 1} → statement M
 envelope-is-good-spec =
     tie.close
-    (tie.spec (λ c κs. search needs) (λ c κs. search needs) (λ c κs. search needs) (λ c κs. search needs) returns)
+    (tie.spec
+    (λ c κs. search needs) (λ c κs. search needs) (λ c κs. search needs) (λ c κs. search needs) returns)

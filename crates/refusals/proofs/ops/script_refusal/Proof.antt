@@ -58,20 +58,6 @@ pub script-refusal-spec : {M : Type 1} → statement M
 script-refusal-spec =
     tie.close
     (tie.spec
-    Inv-loop
-    μ-loop
-    (λ c κs. search needs)
-    (λ c κs. search needs)
-    (λ c κs. search needs)
-    (λ c κs. search needs)
-    (λ c κs. search needs)
-    (λ c κs. search needs)
-    (λ c. omega arith)
-    loop-holds
-    room-requires
-    fields-are-good-requires
-    returns
-    (λ c. omega arith)
-    (λ c. omega arith)
-    loop-again
-    returns-2)
+    Inv-loop μ-loop (λ c κs. search needs) (λ c κs. search needs) (λ c κs. search needs) (λ c κs. search needs)
+    (λ c κs. search needs) (λ c κs. search needs) (λ c. omega arith) loop-holds room-requires fields-are-good-requires
+    returns (λ c. omega arith) (λ c. omega arith) loop-again returns-2)

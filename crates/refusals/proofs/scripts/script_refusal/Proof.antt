@@ -19,9 +19,4 @@ pub script-refusal-spec : {M : Type 1} → statement M
 script-refusal-spec =
     tie.close
     (tie.spec
-    (λ c. search needs)
-    (λ c κs. search needs)
-    (λ c. search needs)
-    script-refusal-requires-2
-    returns
-    returns-2)
+    (λ c. search needs) (λ c κs. search needs) (λ c. search needs) script-refusal-requires-2 returns returns-2)

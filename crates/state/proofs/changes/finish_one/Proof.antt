@@ -32,4 +32,6 @@ returns c =
 
 pub finish-one-spec : {M : Type 1} → statement M
 finish-one-spec =
-    tie.close (tie.spec (λ c κs. search needs) (λ c. search needs) (λ c κs. search needs) (λ c. search needs) returns)
+    tie.close
+    (tie.spec
+    (λ c κs. search needs) (λ c. search needs) (λ c κs. search needs) (λ c. search needs) returns)

@@ -11,4 +11,6 @@ returns c = ap (λ (k : ℕ). eqb k 1) (c .byte-at .ensures .is)
 
 pub waiting-of-spec : {M : Type 1} → statement M
 waiting-of-spec =
-    tie.close (tie.spec (λ c. search needs) (λ c. search needs) (λ c. search needs) (λ c κs. search needs) returns)
+    tie.close
+    (tie.spec
+    (λ c. search needs) (λ c. search needs) (λ c. search needs) (λ c κs. search needs) returns)

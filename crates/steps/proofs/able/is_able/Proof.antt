@@ -87,13 +87,5 @@ pub is-able-spec : {M : Type 1} → statement M
 is-able-spec =
     tie.close
     (tie.spec
-    returns
-    (λ c κs. search needs)
-    returns-2
-    (λ c κs. search needs)
-    (λ c κs. search needs)
-    returns-3
-    (λ c κs. search needs)
-    (λ c. search needs)
-    next-is-able-requires
-    returns-4)
+    returns (λ c κs. search needs) returns-2 (λ c κs. search needs) (λ c κs. search needs) returns-3
+    (λ c κs. search needs) (λ c. search needs) next-is-able-requires returns-4)

@@ -98,12 +98,5 @@ pub next-is-able-spec : {M : Type 1} → statement M
 next-is-able-spec =
     tie.close
     (tie.spec
-    (λ c κs. search needs)
-    is-only-half-requires
-    returns
-    frees-slot-requires
-    waited-at-requires
-    state-of-requires
-    returns-2
-    state-of-requires-2
-    returns-3)
+    (λ c κs. search needs) is-only-half-requires returns frees-slot-requires waited-at-requires state-of-requires
+    returns-2 state-of-requires-2 returns-3)

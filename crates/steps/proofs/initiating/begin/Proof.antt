@@ -167,16 +167,5 @@ pub begin-spec : {M : Type 1} → statement M
 begin-spec =
     tie.close
     (tie.spec
-    is-receive-requires
-    (λ c κs. search needs)
-    (λ c κs. search needs)
-    find-requires
-    pair-requires
-    (λ c. search needs)
-    returns
-    post-requires
-    (λ c. search needs)
-    returns-2
-    leave-requires
-    (λ c. search needs)
-    returns-3)
+    is-receive-requires (λ c κs. search needs) (λ c κs. search needs) find-requires pair-requires (λ c. search needs)
+    returns post-requires (λ c. search needs) returns-2 leave-requires (λ c. search needs) returns-3)

@@ -23,5 +23,4 @@ returns c =
     (λ x o. record { first = o .first; second = o .second }) (c .before .before .put-rows .ensures)
 
 pub match-rows-spec : {M : Type 1} → statement M
-match-rows-spec =
-    tie.close (tie.spec (λ c κs. search needs) put-rows-requires (λ c. search needs) returns)
+match-rows-spec = tie.close (tie.spec (λ c κs. search needs) put-rows-requires (λ c. search needs) returns)

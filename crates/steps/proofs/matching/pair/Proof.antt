@@ -124,12 +124,5 @@ pub pair-spec : {M : Type 1} → statement M
 pair-spec =
     tie.close
     (tie.spec
-    (λ c κs. search needs)
-    word-of-requires
-    (λ c κs. search needs)
-    (λ c κs. search needs)
-    match-rows-requires
-    take-requires
-    initiate-requires
-    (λ c. search needs)
-    returns)
+    (λ c κs. search needs) word-of-requires (λ c κs. search needs) (λ c κs. search needs) match-rows-requires
+    take-requires initiate-requires (λ c. search needs) returns)

@@ -66,12 +66,5 @@ pub release-charge-spec : {M : Type 1} → statement M
 release-charge-spec =
     tie.close
     (tie.spec
-    (λ c κs. search needs)
-    (λ c κs. search needs)
-    attached-requires
-    (λ c κs. search needs)
-    release-requires
-    (λ c. search needs)
-    returns
-    (λ c. search needs)
-    returns-2)
+    (λ c κs. search needs) (λ c κs. search needs) attached-requires (λ c κs. search needs) release-requires
+    (λ c. search needs) returns (λ c. search needs) returns-2)

@@ -82,14 +82,5 @@ pub find-spec : {M : Type 1} → statement M
 find-spec =
     tie.close
     (tie.spec
-    Inv-loop
-    μ-loop
-    (λ c κs. search needs)
-    (λ c. (omega arith, λ j l. absurd (omega arith)))
-    word-of-requires
-    pair-fits-requires
-    returns
-    (λ c. omega arith)
-    (λ c. omega arith)
-    loop-again
-    returns-2)
+    Inv-loop μ-loop (λ c κs. search needs) (λ c. (omega arith, λ j l. absurd (omega arith))) word-of-requires
+    pair-fits-requires returns (λ c. omega arith) (λ c. omega arith) loop-again returns-2)

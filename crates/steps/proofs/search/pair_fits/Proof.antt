@@ -24,4 +24,6 @@ returns-2 c =
 
 pub pair-fits-spec : {M : Type 1} → statement M
 pair-fits-spec =
-    tie.close (tie.spec (λ c. search needs) (λ c κs. search needs) (λ c. search needs) (λ c κs. search needs) returns returns-2)
+    tie.close
+    (tie.spec
+    (λ c. search needs) (λ c κs. search needs) (λ c. search needs) (λ c κs. search needs) returns returns-2)

@@ -93,13 +93,5 @@ pub buffer-or-stop-spec : {M : Type 1} → statement M
 buffer-or-stop-spec =
     tie.close
     (tie.spec
-    (λ c κs. search needs)
-    (λ c κs. search needs)
-    (λ c κs. search needs)
-    (λ c κs. search needs)
-    (λ c. search needs)
-    returns
-    pend-requires
-    initiate-requires
-    (λ c. search needs)
-    returns-2)
+    (λ c κs. search needs) (λ c κs. search needs) (λ c κs. search needs) (λ c κs. search needs) (λ c. search needs)
+    returns pend-requires initiate-requires (λ c. search needs) returns-2)

@@ -134,14 +134,5 @@ pub uncounted-spec : {M : Type 1} → statement M
 uncounted-spec =
     tie.close
     (tie.spec
-    first-requires
-    finished-of-requires
-    (λ c. search needs)
-    waiting-of-requires
-    is-only-half-requires
-    end-half-requires
-    (λ c. search needs)
-    returns
-    begin-requires
-    (λ c. search needs)
-    returns-2)
+    first-requires finished-of-requires (λ c. search needs) waiting-of-requires is-only-half-requires end-half-requires
+    (λ c. search needs) returns begin-requires (λ c. search needs) returns-2)
