@@ -13,7 +13,7 @@ pub fn job(path: &[u8]) {
         os::fail(path);
         return;
     }
-    let mut input = [0u8; 32913];
+    let mut input = [0u8; limits::MOST_SHEET + 1];
     let n = io::read_full(fd, &mut input);
     libc::close(fd);
     io::write_all(1, path);
@@ -23,10 +23,10 @@ pub fn job(path: &[u8]) {
 }
 
 fn run(sheet: &[u8]) {
-    let mut inbox = [90u8; 16384];
-    let mut report = [238u8; 12432];
-    let mut order = [221u8; 2049];
-    let mut scratch = [204u8; 32768];
+    let mut inbox = [90u8; limits::MOST_INBOX];
+    let mut report = [238u8; limits::MOST_REPORT];
+    let mut order = [221u8; limits::MOST_ORDER + 1];
+    let mut scratch = [204u8; limits::SCRATCH_SIZE];
     let ran = jamturret_run(sheet, &mut inbox, &mut report, &mut order, &mut scratch);
     answer(b"  run ", ran.number as u64, ran.place);
     crc(b"  order ", &order);
@@ -48,9 +48,9 @@ fn again(sheet: &[u8], order: &[u8], steps: usize) {
 }
 
 fn follow(name: &[u8], sheet: &[u8], order: &[u8]) {
-    let mut inbox = [90u8; 16384];
-    let mut report = [238u8; 12432];
-    let mut scratch = [204u8; 32768];
+    let mut inbox = [90u8; limits::MOST_INBOX];
+    let mut report = [238u8; limits::MOST_REPORT];
+    let mut scratch = [204u8; limits::SCRATCH_SIZE];
     let followed = jamturret_follow(sheet, order, &mut inbox, &mut report, &mut scratch);
     answer(name, followed.number as u64, followed.place);
     rooms(&inbox, &report, &scratch);
