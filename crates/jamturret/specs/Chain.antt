@@ -1,6 +1,5 @@
 -- Refusals in their order: where sheet or rooms are refused, the whole answer is that refusal's, and nothing is touched.
 -- Assumes nothing.
---   or-else-here, or-else-behind   the first refusal of a chain, or what is behind it
 --   Refused                        the answer is a refusal of the sheet or of a room; refused-first, refused-second: of a chain
 --   kept, scratch-kept             what such a refusal leaves
 use mathlib.Core.Path.{_≡_, sym, _∙_, subst}
@@ -11,15 +10,8 @@ use lib.Dec.{eqb}
 use borrow.Author.Tests.{eq-eqb, ne-eqb}
 use Rattle.rules.specs.Refusal.{Refusal, or-else}
 use Rattle.rules.specs.Service.{answers, kept-or, scratch-left}
+use Rattle.laws.specs.Broken.{or-else-passed, or-else-stopped}
 use Rattle.laws.specs.Tests.{cond-true, cond-false}
-
-pub or-else-here : (a b : Refusal) → (a .number ≡ 0 → ⊥) → or-else a b ≡ a
-unfolding or-else
-or-else-here a b h = cond-false (eqb (a .number) 0) b a (ne-eqb (a .number) 0 h)
-
-pub or-else-behind : (a b : Refusal) → a .number ≡ 0 → or-else a b ≡ b
-unfolding or-else
-or-else-behind a b h = cond-true (eqb (a .number) 0) b a (eq-eqb (a .number) 0 h)
 
 -- an answer is its refusal's number and place
 pub number-of : (f : Refusal) (n p : ℕ) → answers f n p → n ≡ f .number
@@ -44,10 +36,10 @@ pub refused-as : {f g : Refusal} {n p : ℕ} → f ≡ g → Refused g n p → R
 refused-as {f} {g} {n} {p} e q = subst (λ (h : Refusal). Refused h n p) (sym e) q
 
 pub refused-first : {a : Refusal} {n p : ℕ} (b : Refusal) → Refused a n p → Refused (or-else a b) n p
-refused-first {a} b q = refused-as (or-else-here a b (q .refuses)) q
+refused-first {a} b q = refused-as (or-else-stopped a b (q .refuses)) q
 
 pub refused-second : (a : Refusal) {b : Refusal} {n p : ℕ} → a .number ≡ 0 → Refused b n p → Refused (or-else a b) n p
-refused-second a {b} e q = refused-as (or-else-behind a b e) q
+refused-second a {b} e q = refused-as (or-else-passed a b e) q
 
 module _ {f : Refusal} {n p : ℕ} (q : Refused f n p) where
   pub kept : (new old : List ℕ) → old ≡ kept-or (f .number) new old

@@ -19,13 +19,15 @@ use Rattle.rules.specs.Order.{followed, follow, ran, run}
 use Rattle.rules.specs.Report.{report}
 use Rattle.rules.specs.Service.{answers, room-refusal, order-refusal, in-front, kept-or, scratch-left, Check-says}
 use Rattle.rules.specs.Service.{follow-refusal, Follow-says, run-refusal, Run-says}
+use Rattle.laws.specs.Broken.{or-else-passed, or-else-stopped}
 use Rattle.laws.specs.Laid.{Laid}
 use Rattle.laws.specs.Tabled.{or-else-first, or-else-second}
 use Rattle.invariant.specs.sheet.FromBytes.{unrefused-accepted, accepted-laid, valid-from-accepted}
 use Rattle.state.specs.declared.Control.{Control}
 use Rattle.simulation.specs.Represents.{Represents}
-use Rattle.jamturret.specs.Chain.{or-else-here, or-else-behind, number-of, Refused, refused, refused-as, refused-first, refused-second, kept, scratch-kept}
-use Rattle.jamturret.specs.Rooms.{or-else-most, sheet-most, room-most, order-unasked, Roomy, rooms-enough, roomy, Ready}
+use Rattle.jamturret.specs.Chain.{number-of, Refused, refused, refused-as, refused-first, refused-second, kept, scratch-kept}
+use Rattle.jamturret.specs.Rooms.{or-else-most, sheet-most, room-most, order-unasked, Ready}
+use Rattle.laws.specs.Rooms.{Roomy, rooms-enough, roomy}
 
 -- SHEET AND ROOMS, which are asked first: check's answer, or the rooms'
 pub chain-sheet : (bs : List ℕ) (i r o c n p : ℕ) → Check-says bs n p → (n ≡ 0 → ⊥) → answers (run-refusal bs i r o c) n p
@@ -41,7 +43,7 @@ pub chain-rooms : (bs : List ℕ) (i r o c n p : ℕ) → sheet-refusal bs .numb
     answers (run-refusal bs i r o c) n p
 unfolding run-refusal
 chain-rooms bs i r o c n p e t =
-    subst (λ (f : Refusal). answers f n p) (sym (or-else-behind (sheet-refusal bs) (room-refusal (sheet-in bs) i r o c) e)) t
+    subst (λ (f : Refusal). answers f n p) (sym (or-else-passed (sheet-refusal bs) (room-refusal (sheet-in bs) i r o c) e)) t
 
 pub unrefused-laid : (bs : List ℕ) → sheet-refusal bs .number ≡ 0 → Laid bs
 unrefused-laid bs e = accepted-laid bs (unrefused-accepted bs e)
@@ -121,9 +123,9 @@ module _ (bs o i r c : List ℕ) where
       lent = room-refusal (sheet-in bs) (length i) (length r) room (length c)
 
       chain : Dec (sheet-refusal bs .number ≡ 0) → Refused (or-else (sheet-refusal bs) (or-else rooms ordered)) n p
-      chain (no h) = refused-first (or-else rooms ordered) (refused-as (sym (or-else-here (sheet-refusal bs) lent h)) q)
+      chain (no h) = refused-first (or-else rooms ordered) (refused-as (sym (or-else-stopped (sheet-refusal bs) lent h)) q)
       chain (yes e) =
-          let same = or-else-behind (sheet-refusal bs) lent e
+          let same = or-else-passed (sheet-refusal bs) lent e
           ∙ order-unasked (sheet-in bs) (length i) (length r) room (length c) (wide (unrefused-laid bs e)) in
           refused-second (sheet-refusal bs) e (refused-first ordered (refused-as (sym same) q))
 
@@ -139,7 +141,7 @@ module _ (bs o i r c : List ℕ) where
   unfolding Follow-says Follow-does follow-refusal refusal
   follow-done g q n p i-now r-now c-now h =
       let z = ap (λ (f : Refusal). f .number) (rooms-enough (sheet-in bs) (length i) (length r) (order-room (N-of (sheet-in bs))) (length c) q) in
-      let e = or-else-behind (sheet-refusal bs) (or-else rooms ordered) g ∙ or-else-behind rooms ordered z in
+      let e = or-else-passed (sheet-refusal bs) (or-else rooms ordered) g ∙ or-else-passed rooms ordered z in
       rw e (h .0, h .1, h .2, h .3 ∙ zeroed-left (follow (sheet-in bs) o i .refused-at))
 
 -- RUN, past sheet and rooms
@@ -172,5 +174,5 @@ module _ (bs i r o c : List ℕ) where
       Run-says bs n p i i-now r r-now o o-now c c-now
   unfolding Run-says Run-does run-refusal refusal kept-or scratch-left
   run-done g q n p i-now r-now o-now c-now h =
-      let e = or-else-behind (sheet-refusal bs) run-rooms g ∙ rooms-enough (sheet-in bs) (length i) (length r) (length o) (length c) q in
+      let e = or-else-passed (sheet-refusal bs) run-rooms g ∙ rooms-enough (sheet-in bs) (length i) (length r) (length o) (length c) q in
       rw e h

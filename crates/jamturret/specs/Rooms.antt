@@ -1,8 +1,7 @@
 -- Refusal 8: the rooms that a caller lends, test by test (document 01, "When the desk says no"); and which numbers a refusal of
 -- a sheet or of a room can have. Assumes nothing.
 --   sheet-most, room-most   7 and 8 at the most
---   short-inbox ..          the first short room is the answer; rooms-enough: none is
---   Roomy, roomy            what rooms that are not refused are
+--   order-unasked           follow is lent no room for an order
 --   Ready                   a sheet that passes check, and such rooms
 use mathlib.Core.Path.{_≡_, sym, _∙_, ap}
 use mathlib.Core.Bool.{Bool, true, false, not, cond}
@@ -19,6 +18,7 @@ use Rattle.rules.specs.Refusal.{tables-refusal, sizes-good, layout-good, crc-go
 use Rattle.rules.specs.Service.{room-refusal}
 use Rattle.laws.specs.Tests.{cond-true, cond-false}
 use Rattle.laws.specs.Laid.{Laid}
+use Rattle.laws.specs.Rooms.{Roomy, size, behind-inbox, behind-report, behind-order}
 use Rattle.invariant.specs.sheet.Valid.{Valid}
 
 -- NUMBERS that a refusal can have
@@ -57,92 +57,20 @@ sheet-most bs =
     (broken-most 5 7 (board-good s) (P-of s) 0 (omega arith)) (cond-most 7 (eqb (counts-before s (P-of s)) (N-of s)) accepted (refusal 5 (P-of s)) (omega arith) (omega arith)))
     (or-else-most 7 (ops-refusal s) (requests-refusal s) (broken-most 6 7 _ (N-of s) 0 (omega arith)) (broken-most 7 7 _ (N-of s) 0 (omega arith)))))))
 
--- what rooms that are not refused are
-pub record Roomy (s : Sheet) (i r o c : ℕ) : Type 0 where
-  pub inbox : inbox-total s ≤ i
-  pub report : report-size (P-of s) (N-of s) ≤ r
-  pub order : order-room (N-of s) ≤ o
-  pub scratch : scratch-size ≤ c
-
 -- a sheet that passes check, and such rooms
 pub record Ready (bs : List ℕ) (i r o c : ℕ) : Type 0 where
   pub laid : Laid bs
   pub good : Valid (sheet-in bs)
   pub roomy : Roomy (sheet-in bs) i r o c
 
--- ROOMS, the first short one
-module _ (s : Sheet) (i r o c : ℕ) where
-  abbrev size : ℕ
-  size = report-size (P-of s) (N-of s)
-
-  -- the tests behind the inbox's, the report's and the order's
-  abbrev behind-order : Refusal
-  behind-order = cond (ltb c scratch-size) (refusal 8 4) accepted
-
-  abbrev behind-report : Refusal
-  behind-report = cond (ltb o (order-room (N-of s))) (refusal 8 3) behind-order
-
-  abbrev behind-inbox : Refusal
-  behind-inbox = cond (ltb r size) (refusal 8 2) behind-report
-
-  pub room-most : room-refusal s i r o c .number ≤ 8
-  unfolding room-refusal refusal
-  room-most =
-      cond-most 8 (ltb i (inbox-total s)) (refusal 8 1) behind-inbox (omega arith)
-      (cond-most 8 (ltb r size) (refusal 8 2) behind-report (omega arith)
-      (cond-most 8 (ltb o (order-room (N-of s))) (refusal 8 3) behind-order (omega arith)
-      (cond-most 8 (ltb c scratch-size) (refusal 8 4) accepted (omega arith) (omega arith))))
-
-  pub short-inbox : i < inbox-total s → room-refusal s i r o c ≡ refusal 8 1
-  unfolding room-refusal
-  short-inbox h = cond-true (ltb i (inbox-total s)) (refusal 8 1) behind-inbox (lt-ltb i (inbox-total s) h)
-
-  module _ (inbox : inbox-total s ≤ i) where
-    at-report : room-refusal s i r o c ≡ behind-inbox
-    unfolding room-refusal
-    at-report = cond-false (ltb i (inbox-total s)) (refusal 8 1) behind-inbox (le-ltb i (inbox-total s) inbox)
-
-    pub short-report : r < size → room-refusal s i r o c ≡ refusal 8 2
-    short-report h = at-report ∙ cond-true (ltb r size) (refusal 8 2) behind-report (lt-ltb r size h)
-
-    module _ (report : size ≤ r) where
-      at-order : room-refusal s i r o c ≡ behind-report
-      at-order = at-report ∙ cond-false (ltb r size) (refusal 8 2) behind-report (le-ltb r size report)
-
-      pub short-order : o < order-room (N-of s) → room-refusal s i r o c ≡ refusal 8 3
-      short-order h = at-order ∙ cond-true (ltb o (order-room (N-of s))) (refusal 8 3) behind-order (lt-ltb o (order-room (N-of s)) h)
-
-      module _ (order : order-room (N-of s) ≤ o) where
-        at-scratch : room-refusal s i r o c ≡ behind-order
-        at-scratch = at-order ∙ cond-false (ltb o (order-room (N-of s))) (refusal 8 3) behind-order (le-ltb o (order-room (N-of s)) order)
-
-        pub short-scratch : c < scratch-size → room-refusal s i r o c ≡ refusal 8 4
-        short-scratch h = at-scratch ∙ cond-true (ltb c scratch-size) (refusal 8 4) accepted (lt-ltb c scratch-size h)
-
-        enough : scratch-size ≤ c → room-refusal s i r o c ≡ accepted
-        enough h = at-scratch ∙ cond-false (ltb c scratch-size) (refusal 8 4) accepted (le-ltb c scratch-size h)
-
-  pub rooms-enough : Roomy s i r o c → room-refusal s i r o c ≡ accepted
-  rooms-enough q = enough (q .inbox) (q .report) (q .order) (q .scratch)
-
-  -- and rooms that are not refused are enough: none of them is the first short one
-  pub roomy : room-refusal s i r o c .number ≡ 0 → Roomy s i r o c
-  unfolding refusal
-  roomy h =
-      let never : (place : ℕ) → room-refusal s i r o c ≡ refusal 8 place → ⊥ = λ place e. omega (arith, ap (λ (f : Refusal). f .number) e) in
-      let no-inbox : i < inbox-total s → ⊥ = λ l. never 1 (short-inbox l) in
-      let inbox : inbox-total s ≤ i = omega arith in
-      let no-report : r < size → ⊥ = λ l. never 2 (short-report inbox l) in
-      let report : size ≤ r = omega arith in
-      let no-order : o < order-room (N-of s) → ⊥ = λ l. never 3 (short-order inbox report l) in
-      let order : order-room (N-of s) ≤ o = omega arith in
-      let no-scratch : c < scratch-size → ⊥ = λ l. never 4 (short-scratch inbox report order l) in
-      record {
-        inbox = inbox;
-        report = report;
-        order = order;
-        scratch = omega arith;
-      }
+-- a room's refusal
+pub room-most : (s : Sheet) (i r o c : ℕ) → room-refusal s i r o c .number ≤ 8
+unfolding room-refusal refusal
+room-most s i r o c =
+    cond-most 8 (ltb i (inbox-total s)) (refusal 8 1) (behind-inbox s i r o c) (omega arith)
+    (cond-most 8 (ltb r (size s i r o c)) (refusal 8 2) (behind-report s i r o c) (omega arith)
+    (cond-most 8 (ltb o (order-room (N-of s))) (refusal 8 3) (behind-order s i r o c) (omega arith)
+    (cond-most 8 (ltb c scratch-size) (refusal 8 4) accepted (omega arith) (omega arith))))
 
 -- follow is lent no room for an order: any room that is long enough is as good as the order's own
 pub order-unasked : (s : Sheet) (i r o c : ℕ) → order-room (N-of s) ≤ o → room-refusal s i r o c ≡ room-refusal s i r (order-room (N-of s)) c

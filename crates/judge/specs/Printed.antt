@@ -18,6 +18,7 @@ use Rattle.rules.specs.Step.{splice}
 use Rattle.rules.specs.Order.{run}
 use Rattle.rules.specs.Report.{report}
 use Rattle.rules.specs.Service.{answers, room-refusal, in-front, kept-or, run-refusal, Run-says}
+use Rattle.laws.specs.Broken.{or-else-passed, or-else-stopped}
 use Rattle.laws.specs.Tests.{cond-true}
 use Rattle.laws.specs.Laid.{Laid}
 use Rattle.invariant.specs.sheet.FromBytes.{unrefused-accepted, accepted-laid, valid-from-accepted}
@@ -26,8 +27,9 @@ use Rattle.invariant.specs.preserve.Orders.{left-reached}
 use Rattle.promises.specs.claims.RunEnds.{run-ended}
 use Rattle.promises.specs.compare.ReportBytes.{report-length}
 use Rattle.promises.specs.claims.Calls.{front-report}
-use Rattle.jamturret.specs.Chain.{or-else-here, or-else-behind, number-of}
-use Rattle.jamturret.specs.Rooms.{rooms-enough, Ready}
+use Rattle.jamturret.specs.Chain.{number-of}
+use Rattle.jamturret.specs.Rooms.{Ready}
+use Rattle.laws.specs.Rooms.{rooms-enough}
 use Rattle.jamturret.specs.Outcomes.{ready}
 use Rattle.judge.specs.Text.{hex-line, hex-line-length}
 
@@ -78,10 +80,10 @@ checks bs n p t = go (ℕ-discrete (sheet-refusal bs .number) 0)
   where
     go : Dec (sheet-refusal bs .number ≡ 0) → (n ≡ sheet-refusal bs .number) × ((n ≡ 0 → ⊥) → p ≡ sheet-refusal bs .place)
     go (no h) =
-        let same = or-else-here (sheet-refusal bs) (rooms-lent bs) h in
+        let same = or-else-stopped (sheet-refusal bs) (rooms-lent bs) h in
         (t .0 ∙ ap (λ (g : Refusal). g .number) same, λ _. t .1 ∙ ap (λ (g : Refusal). g .place) same)
     go (yes e) =
-        let same = or-else-behind (sheet-refusal bs) (rooms-lent bs) e ∙ never-short bs e in
+        let same = or-else-passed (sheet-refusal bs) (rooms-lent bs) e ∙ never-short bs e in
         let none : n ≡ 0 = t .0 ∙ ap (λ (g : Refusal). g .number) same in
         (none ∙ sym e, λ h. absurd (h none))
 

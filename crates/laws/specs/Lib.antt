@@ -16,6 +16,8 @@
 --   WaitingLists  members, order, searches, removal
 --   Splice        bytes put into a list at a place: what is read there, and what stays
 --   SpliceOrder   splices in any order
+--   Rooms         refusal 8: which lent room is short
+--   ReportRows    lengths of a report's rows
 pub mod Tests
 pub mod Below
 pub mod Broken
@@ -32,4 +34,6 @@ pub mod CrcStep
 pub mod Sums
 pub mod WaitingLists
 pub mod Splice
+pub mod Rooms
+pub mod ReportRows
 pub mod SpliceOrder

@@ -34,7 +34,8 @@ use Rattle.laws.specs.Splice.{splice-then}
 use Rattle.simulation.specs.Represents.{Represents}
 use Rattle.steps.specs.Able.{finished-is}
 use Rattle.report.specs.ReportCounts.{message-row, receive-row, cut-row, messages-are, receives-are, cut-are}
-use Rattle.report.specs.ReportRows.{low-of, four, board-row-at, joined, joined-length, row-in, row-in-length, board-rows-joined, board-row-length, op-rows-joined}
+use Rattle.report.specs.ReportRows.{low-of, four, board-row-at, joined, joined-length, row-in, row-in-length, board-rows-joined, op-rows-joined}
+use Rattle.laws.specs.ReportRows.{board-row-length}
 
 -- bytes at the very front
 front-splice : (met vs : List ℕ) → splice met 0 vs ≡ in-front vs met

@@ -17,6 +17,7 @@ use Rattle.rules.specs.Sheet.{Sheet, two}
 use Rattle.rules.specs.Job.{Job}
 use Rattle.rules.specs.Step.{splice}
 use Rattle.rules.specs.Report.{low-two, board-row, board-rows, op-row, op-rows}
+use Rattle.laws.specs.ReportRows.{board-row-length}
 use Rattle.laws.specs.Splice.{splice-none, splice-then, splice-length}
 use Rattle.words.specs.Tab.{tab}
 use Rattle.state.specs.Layout.{row-at}
@@ -85,10 +86,6 @@ pub board-rows-joined : (s : Sheet) (x : Job) (r n : ℕ) → board-rows n r s x
 unfolding board-rows joined
 board-rows-joined s x r zero = refl
 board-rows-joined s x r (suc n) = ap (λ (z : List ℕ). board-row s x r ++ z) (board-rows-joined s x (suc r) n)
-
-pub board-row-length : (s : Sheet) (x : Job) (r : ℕ) → length (board-row s x r) ≡ board-row-size
-unfolding board-row low-two
-board-row-length s x r = refl
 
 -- the operation row that scratch holds of operation i
 unfoldable pub row-in : (c : List ℕ) → (i : ℕ) → List ℕ

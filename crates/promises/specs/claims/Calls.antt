@@ -24,62 +24,14 @@ use Rattle.rules.specs.Order.{follow, run}
 use Rattle.rules.specs.Report.{report}
 use Rattle.rules.specs.Service.{answers, room-refusal, order-refusal, in-front, kept-or, follow-refusal, Follow-says, run-refusal, Run-says}
 use Rattle.rules.specs.Claims.{all-bytes, passes, accepts, left-by}
-use Rattle.laws.specs.Tests.{and-right, cond-true, cond-false}
+use Rattle.laws.specs.Tests.{and-right, cond-true}
+use Rattle.laws.specs.Broken.{or-else-passed, or-else-stopped}
+use Rattle.laws.specs.Rooms.{Roomy, not-eight, rooms-enough}
 use Rattle.promises.specs.Statements.{Follow-call, Run-call}
-
--- a refusal that accepts gives way to the next, one that refuses does not
-or-else-next : (a b : Refusal) → a .number ≡ 0 → or-else a b ≡ b
-unfolding or-else
-or-else-next a b h = cond-true (eqb (a .number) 0) b a (eq-eqb (a .number) 0 h)
-
-or-else-here : (a b : Refusal) → a .number ≢ 0 → or-else a b ≡ a
-unfolding or-else
-or-else-here a b h = cond-false (eqb (a .number) 0) b a (ne-eqb (a .number) 0 h)
 
 passed-number : (bs : List ℕ) → passes bs ≡ true → sheet-refusal bs .number ≡ 0
 unfolding passes
 passed-number bs h = eqb-true (sheet-refusal bs .number) 0 (and-right (all-bytes bs) (eqb (sheet-refusal bs .number) 0) h)
-
--- ROOMS: number 8, or all of them suffice
-record Rooms (s : Sheet) (i r o c : ℕ) : Type 0 where
-  accepts-all : room-refusal s i r o c ≡ accepted
-  inbox : inbox-total s ≤ i
-  report-room : report-size (P-of s) (N-of s) ≤ r
-
-rooms : (s : Sheet) (i r o c : ℕ) → room-refusal s i r o c .number ≢ 8 → Rooms s i r o c
-unfolding room-refusal refusal
-rooms s i r o c h =
-    record {
-      accepts-all = all (ltb i (inbox-total s)) (ltb r size) (ltb o (order-room (N-of s))) (ltb c scratch-size) h;
-      inbox =
-          ltb-false i (inbox-total s) (first (ltb i (inbox-total s)) (ltb r size) (ltb o (order-room (N-of s)))
-          (ltb c scratch-size) h);
-      report-room =
-          ltb-false r size (second (ltb i (inbox-total s)) (ltb r size) (ltb o (order-room (N-of s)))
-          (ltb c scratch-size) h);
-    }
-  where
-    size : ℕ
-    size = report-size (P-of s) (N-of s)
-
-    answer : (a b d e : Bool) → Refusal
-    answer a b d e = cond a (refusal 8 1) (cond b (refusal 8 2) (cond d (refusal 8 3) (cond e (refusal 8 4) accepted)))
-
-    all : (a b d e : Bool) → answer a b d e .number ≢ 8 → answer a b d e ≡ accepted
-    all true b d e n = absurd (n refl)
-    all false true d e n = absurd (n refl)
-    all false false true e n = absurd (n refl)
-    all false false false true n = absurd (n refl)
-    all false false false false n = refl
-
-    first : (a b d e : Bool) → answer a b d e .number ≢ 8 → a ≡ false
-    first true b d e n = absurd (n refl)
-    first false b d e n = refl
-
-    second : (a b d e : Bool) → answer a b d e .number ≢ 8 → b ≡ false
-    second true b d e n = absurd (n refl)
-    second false true d e n = absurd (n refl)
-    second false false d e n = refl
 
 -- the first `size` bytes of a room in whose front a report of that size stands
 pub front-report : (new old : List ℕ) (size : ℕ) → length new ≡ size → take size (in-front new old) ≡ new
@@ -114,21 +66,22 @@ module _ {bs o : List ℕ} (p : passes bs ≡ true) (f : Follow-call bs o) where
 
   after-sheet : follow-number ≡ or-else follow-rooms follow-order
   unfolding follow-refusal
-  after-sheet = or-else-next (sheet-refusal bs) (or-else follow-rooms follow-order) (passed-number bs p)
+  after-sheet = or-else-passed (sheet-refusal bs) (or-else follow-rooms follow-order) (passed-number bs p)
 
-  follow-enough : Rooms (sheet-in bs) (length (f .inbox)) (length (f .report)) (order-room (N-of (sheet-in bs)))
+  follow-enough : Roomy (sheet-in bs) (length (f .inbox)) (length (f .report)) (order-room (N-of (sheet-in bs)))
       (length (f .scratch))
   unfolding answers
   follow-enough =
-      rooms (sheet-in bs) (length (f .inbox)) (length (f .report)) (order-room (N-of (sheet-in bs))) (length (f .scratch))
+      not-eight (sheet-in bs) (length (f .inbox)) (length (f .report)) (order-room (N-of (sheet-in bs))) (length (f .scratch))
       (λ e. f .not-short (follow-told .0 ∙ ap (λ (z : Refusal). z .number)
-      (after-sheet ∙ or-else-here follow-rooms follow-order (λ z. omega arith)) ∙ e))
+      (after-sheet ∙ or-else-stopped follow-rooms follow-order (λ z. omega arith)) ∙ e))
 
   after-rooms : follow-number ≡ follow-order
   unfolding refusal
   after-rooms =
-      after-sheet ∙ or-else-next follow-rooms follow-order
-      (ap (λ (z : Refusal). z .number) (follow-enough .accepts-all))
+      after-sheet ∙ or-else-passed follow-rooms follow-order
+      (ap (λ (z : Refusal). z .number) (rooms-enough (sheet-in bs) (length (f .inbox)) (length (f .report)) (order-room (N-of (sheet-in bs))) (length (f .scratch))
+      follow-enough))
 
   pub follow-answer : Follow-answer f
   unfolding answers
@@ -185,12 +138,13 @@ run-answer {bs} p f =
     run-rooms = room-refusal (sheet-in bs) (length (f .inbox)) (length (f .report)) (length (f .order)) (length (f .scratch))
 
     answer-rooms : answer ≡ run-rooms
-    answer-rooms = or-else-next (sheet-refusal bs) run-rooms (passed-number bs p)
+    answer-rooms = or-else-passed (sheet-refusal bs) run-rooms (passed-number bs p)
 
-    enough : Rooms (sheet-in bs) (length (f .inbox)) (length (f .report)) (length (f .order)) (length (f .scratch))
+    enough : Roomy (sheet-in bs) (length (f .inbox)) (length (f .report)) (length (f .order)) (length (f .scratch))
     enough =
-        rooms (sheet-in bs) (length (f .inbox)) (length (f .report)) (length (f .order)) (length (f .scratch))
+        not-eight (sheet-in bs) (length (f .inbox)) (length (f .report)) (length (f .order)) (length (f .scratch))
         (λ e. f .not-short (f .said .0 .0 ∙ ap (λ (z : Refusal). z .number) answer-rooms ∙ e))
 
     all-zero : answer .number ≡ 0
-    all-zero = ap (λ (z : Refusal). z .number) (answer-rooms ∙ enough .accepts-all)
+    all-zero = ap (λ (z : Refusal). z .number) (answer-rooms
+        ∙ rooms-enough (sheet-in bs) (length (f .inbox)) (length (f .report)) (length (f .order)) (length (f .scratch)) enough)

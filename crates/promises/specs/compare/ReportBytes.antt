@@ -10,6 +10,7 @@ use mathlib.Core.Option.{Option, none, some}
 use Prim.Native.Nat.{ℕ, zero, suc, _+_, _*_}
 use native.Mathlib.Omega.{arith}
 use lib.ListN.{length, set, length-append}
+use Rattle.laws.specs.ReportRows.{board-row-length}
 use Rattle.rules.specs.Limits.{report-header-size, board-row-size, op-row-size, report-size}
 use Rattle.rules.specs.Sheet.{Sheet, P-of, N-of}
 use Rattle.rules.specs.Job.{Job, Entry, Stop, place-at}
@@ -31,10 +32,6 @@ header-length s x = go (x .stop) refl
         ++ (low-two (pending-messages s x) ++ (low-two (pending-receives s x) ++ low-two (cut-messages s x)))))))) ≡ 16
     go none e = refl
     go (some t) e = refl
-
-board-row-length : (s : Sheet) (x : Job) (r : ℕ) → length (board-row s x r) ≡ board-row-size
-unfolding board-row low-two
-board-row-length s x r = refl
 
 board-rows-length : (k r : ℕ) (s : Sheet) (x : Job) → length (board-rows k r s x) ≡ board-row-size * k
 unfolding board-rows

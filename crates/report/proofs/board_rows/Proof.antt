@@ -9,7 +9,8 @@ use Rattle.rules.specs.Sheet.{sheet-in, P-of}
 use Rattle.rules.specs.Step.{splice}
 use Rattle.rules.specs.Report.{board-row}
 use Rattle.orders.specs.Jobs.{Every}
-use Rattle.report.specs.ReportRows.{board-row-length, joined, Rowing, rowing-none, rowing-more}
+use Rattle.report.specs.ReportRows.{joined, Rowing, rowing-none, rowing-more}
+use Rattle.laws.specs.ReportRows.{board-row-length}
 use borrow.Author.Needs.{needs}
 use Rattle.report.proofs.board_rows.Statement.{statement}
 use Rattle.report.proofs.board_rows.Tie as tie

@@ -5,7 +5,7 @@ use native.Mathlib.Omega.{arith}
 use Rattle.rules.specs.Sheet.{sheet-in}
 use Rattle.rules.specs.Refusal.{Refusal, refusal}
 use Rattle.rules.specs.Service.{answers, room-refusal}
-use Rattle.jamturret.specs.Rooms.{short-inbox, short-report, short-order, short-scratch, rooms-enough}
+use Rattle.laws.specs.Rooms.{short-inbox, short-report, short-order, short-scratch, rooms-enough}
 use borrow.Author.Needs.{needs}
 use Rattle.jamturret.proofs.rooms.short.Statement.{statement}
 use Rattle.jamturret.proofs.rooms.short.Tie as tie
