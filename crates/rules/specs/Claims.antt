@@ -4,7 +4,7 @@ use mathlib.Core.Path.{_≡_}
 use mathlib.Core.Bool.{Bool, true, false, _&&_, not, cond}
 use mathlib.Core.List.{List, [], _∷_}
 use Prim.Native.Nat.{ℕ, zero, suc, _+_, _≤_}
-use lib.Dec.{ltb, leb, eqb}
+use lib.Dec.{leb, eqb}
 use lib.ListN.{length, set, take, drop}
 use Rattle.rules.specs.Limits.{any, report-header-size, board-row-size}
 use Rattle.rules.specs.Sheet.{Sheet, Op, Board, sheet-in, P-of, inbox-total, is-receive, is-ready, is-buffered}
@@ -14,13 +14,9 @@ use Rattle.rules.specs.Step.{charge-of, is-none}
 use Rattle.rules.specs.Order.{follow}
 use Rattle.rules.specs.Report.{report}
 
--- a list of bytes that check accepts
-unfoldable pub all-bytes : List ℕ → Bool
-all-bytes [] = true
-all-bytes (x ∷ xs) = ltb x 256 && all-bytes xs
-
+-- a sheet that check accepts. That its numbers are bytes is not asked: no promise needs it
 unfoldable pub passes : List ℕ → Bool
-passes bs = all-bytes bs && eqb (sheet-refusal bs .number) 0
+passes bs = eqb (sheet-refusal bs .number) 0
 
 -- CALM: no receive from any source and no ready send; on each board the charges of all its buffered sends, were none
 -- matched, add up to at most its attached size

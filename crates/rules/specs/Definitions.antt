@@ -41,7 +41,7 @@ unfolding
     Report.report
     Service.answers Service.Check-says Service.room-refusal Service.order-refusal Service.in-front Service.kept-or
     Service.scratch-left Service.follow-refusal Service.Follow-says Service.run-refusal Service.Run-says
-    Claims.all-bytes Claims.passes Claims.is-any-source Claims.none-wild Claims.all-charges Claims.script
+    Claims.passes Claims.is-any-source Claims.none-wild Claims.all-charges Claims.script
     Claims.all-covered Claims.calm Claims.accepts Claims.left-by Claims.rows-without-peaks Claims.without-peaks
     Claims.Alike
     BenchJob.scripts-of BenchJob.lines-of BenchJob.P-drafted BenchJob.N-drafted BenchJob.as-words

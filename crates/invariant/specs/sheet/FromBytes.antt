@@ -14,7 +14,7 @@ use Rattle.rules.specs.Limits.{most-boards, most-comms, most-ops, most-payload,
 use Rattle.rules.specs.Sheet.{Sheet, board, P-of, N-of, rank-of, inbox-start, inbox-total, P-in, C-in, N-in, L-in, sheet-in}
 use Rattle.rules.specs.Refusal.{Refusal, refusal, or-else, first-broken, sizes-good, layout-good, crc-good, board-good, boards-refusal, op-good}
 use Rattle.rules.specs.Refusal.{ops-refusal, request-good, requests-refusal, tables-refusal, sheet-refusal}
-use Rattle.rules.specs.Claims.{all-bytes, passes}
+use Rattle.rules.specs.Claims.{passes}
 use Rattle.laws.specs.Tests.{and-left, and-right}
 use Rattle.laws.specs.Broken.{broken-passed}
 use Rattle.laws.specs.Decoded.{P-decoded, N-decoded, payload-decoded}
@@ -68,8 +68,7 @@ unrefused-accepted bs h =
 
 pub passed-accepted : (bs : List ℕ) → passes bs ≡ true → Accepted bs
 unfolding passes
-passed-accepted bs h =
-    unrefused-accepted bs (eqb-true (sheet-refusal bs .number) 0 (and-right (all-bytes bs) (eqb (sheet-refusal bs .number) 0) h))
+passed-accepted bs h = unrefused-accepted bs (eqb-true (sheet-refusal bs .number) 0 h)
 
 -- at least one communicator, which `Laid` leaves out
 sizes-comm : (bs : List ℕ) → sizes-good bs ≡ true → 1 ≤ C-in bs

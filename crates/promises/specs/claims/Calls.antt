@@ -23,15 +23,15 @@ use Rattle.rules.specs.Step.{is-none}
 use Rattle.rules.specs.Order.{follow, run}
 use Rattle.rules.specs.Report.{report}
 use Rattle.rules.specs.Service.{answers, room-refusal, order-refusal, in-front, kept-or, follow-refusal, Follow-says, run-refusal, Run-says}
-use Rattle.rules.specs.Claims.{all-bytes, passes, accepts, left-by}
-use Rattle.laws.specs.Tests.{and-right, cond-true}
+use Rattle.rules.specs.Claims.{passes, accepts, left-by}
+use Rattle.laws.specs.Tests.{cond-true}
 use Rattle.laws.specs.Broken.{or-else-passed, or-else-stopped}
 use Rattle.laws.specs.Rooms.{Roomy, not-eight, rooms-enough}
 use Rattle.promises.specs.Statements.{Follow-call, Run-call}
 
 passed-number : (bs : List ℕ) → passes bs ≡ true → sheet-refusal bs .number ≡ 0
 unfolding passes
-passed-number bs h = eqb-true (sheet-refusal bs .number) 0 (and-right (all-bytes bs) (eqb (sheet-refusal bs .number) 0) h)
+passed-number bs h = eqb-true (sheet-refusal bs .number) 0 h
 
 -- the first `size` bytes of a room in whose front a report of that size stands
 pub front-report : (new old : List ℕ) (size : ℕ) → length new ≡ size → take size (in-front new old) ≡ new
