@@ -29,9 +29,9 @@ use Rattle.laws.specs.Splice.{splice-none}
 use Rattle.invariant.specs.sheet.Valid.{Valid, valid-first}
 use Rattle.invariant.specs.Invariant.{replay, replayed}
 use Rattle.invariant.specs.sheet.Extents.{send-inside, send-extent, area-inside}
+use Rattle.rules.specs.Report.{entry-in}
 use Rattle.state.specs.declared.Control.{Control}
 use Rattle.state.specs.Layout.{row-at}
-use Rattle.state.specs.Decoded.{entry-in}
 use Rattle.state.specs.Decodes.{entry-is}
 use Rattle.simulation.specs.Represents.{Represents, Represented}
 

@@ -6,6 +6,7 @@
 --   Same, Apart, splice-apart                  a splice changes nothing that is apart from it
 --   splice-none, splice-join, splice-then, splice-more, splice-whole    no byte, splices side by side, one byte more, all bytes
 --   splice-take, splice-take-before            the first bytes of a list, with the splice among them or behind them
+--   splice-drop                                what stands behind the splice
 --   splice-front, splice-behind                a list in two parts, with the splice over the first or in the second
 -- Assumes nothing.
 use mathlib.Core.Path.{_≡_, refl, sym, _∙_, ap, subst}
@@ -15,7 +16,7 @@ use native.Mathlib.Omega.{arith}
 use native.Mathlib.Nat.{zero-add}
 use native.Mathlib.Decide.{decLt}
 use lib.ListN.{length, getD, take, drop, set, length-append, length-take, length-drop, List·getD-append}
-use lib.Seq.{sets, sets-eq, length-take-le, getD-take, getD-drop, getD-append-add, drop-length, take-set-lt, take-append-le, take-take, drop-append-seam}
+use lib.Seq.{sets, sets-eq, length-take-le, getD-take, getD-drop, getD-append-add, drop-length, take-set-lt, take-append-le, take-take, drop-append-seam, ext-getD}
 use Rattle.rules.specs.Step.{splice}
 
 -- a splice is a run of stores
@@ -155,6 +156,13 @@ unfolding splice
 splice-take-before c n at vs h l =
     let size = length-take-le at c l in
     take-append-le n (take at c) (vs ++ drop (at + length vs) c) (omega arith) ∙ take-take n at c h
+
+-- what stands behind a splice
+pub splice-drop : (c : List ℕ) (at : ℕ) (vs : List ℕ) (n : ℕ) → at + length vs ≤ n → n ≤ length c → drop n (splice c at vs) ≡ drop n c
+splice-drop c at vs n h l =
+    ext-getD 0 (drop n (splice c at vs)) (drop n c)
+    (length-drop n (splice c at vs) ∙ ap (λ (k : ℕ). k - n) (splice-length c at vs (omega arith)) ∙ sym (length-drop n c))
+    (λ j k. getD-drop n (splice c at vs) j 0 ∙ splice-above c at vs (omega arith) (n + j) (omega arith) ∙ sym (getD-drop n c j 0))
 
 -- a list in two parts, with the splice over the first or in the second
 pub splice-front : (u w vs : List ℕ) → length vs ≡ length u → splice (u ++ w) 0 vs ≡ vs ++ w

@@ -1,128 +1,217 @@
--- What is promised of job sheets, in the order of document 01: demand 2 (how boards step), run, demand 3 (orders), and
--- demand 3 of the services. Each claim stands in plain words and then in antt, over `rules` only. Theorems.antt proves each
--- under its name in small letters. Assumes nothing: these are statements.
+-- What is promised of job sheets, in the order of document 01: demand 2 (how boards step), run, demand 3 (orders). Each claim
+-- stands in plain words and then in antt, over `rules` only. ServiceStatements has the same of the services. Theorems proves
+-- each under its name in small letters. Assumes nothing: these are statements.
 use mathlib.Core.Path.{_≡_}
 use mathlib.Core.Logic.{_≢_, _↔_}
 use mathlib.Core.Bool.{Bool, true, false, _&&_, cond}
 use mathlib.Core.List.{List, [], _∷_, _++_}
-use mathlib.Core.Option.{none, some}
+use mathlib.Core.Option.{Option, none, some}
 use Prim.Native.Nat.{ℕ, zero, suc, _+_, _-_, _≤_, _<_, max}
 use lib.Dec.{ltb, leb, eqb}
-use lib.ListN.{length, getD, take}
-use Rattle.rules.specs.Limits.{absent, report-size, order-room}
-use Rattle.rules.specs.Sheet.{Sheet, op, sheet-in, P-of, N-of, rank-of, inbox-total, is-send, is-receive}
-use Rattle.rules.specs.Job.{Job, Stop, entry, entry-at, place-at, started}
+use lib.ListN.{length, getD, drop}
+use Rattle.rules.specs.Limits.{absent, order-room}
+use Rattle.rules.specs.Sheet.{Sheet, op, board, sheet-in, P-of, N-of, rank-of, inbox-total, is-send, is-receive, is-buffered, is-ready}
+use Rattle.rules.specs.Job.{Job, Entry, Stop, entry, entry-at, place-at, started, with-stop, with-steps}
 use Rattle.rules.specs.Step.{able, step, next-op, in-waiting-half, is-finished, fits-with, is-cut, copied, area-start, charge-of}
 use Rattle.rules.specs.Order.{follow, run, none-able}
 use Rattle.rules.specs.Report.{verdict-of}
-use Rattle.rules.specs.Claims.{passes, calm, is-any-source, accepts, left-by, without-peaks, Alike, Given}
-use Rattle.rules.specs.Service.{Follow-says, Run-says}
+use Rattle.rules.specs.Claims.{passes, is-any-source, accepts, left-by, Alike, Given}
 
--- What every claim is given: bytes that pass check, and inbox room enough. Nothing is asked of the order: the claims hold of
+-- What every claim is given: a sheet that passes check, and inbox room enough. Nothing is asked of the order: the claims hold of
 -- what the steps before a refusal left, too.
 pub record Lent (bs i : List ℕ) : Type 0 where
   pub passing : passes bs ≡ true
   pub room : inbox-total (sheet-in bs) ≤ length i
 
+-- What is told of a job: by the job itself (told-by), or by the bytes of its report (ServiceStatements: told-in). A claim that
+-- speaks of what is told is stated once, and holds of both.
+pub record Told : Type 0 where
+  pub verdict : ℕ
+  pub stop : Option Stop
+  -- the row of an operation
+  pub row : ℕ → Entry
+  -- of a board: operations finished, buffer in use and peak, whether it is finished, whether it is able
+  pub finished : ℕ → ℕ
+  pub in-use : ℕ → ℕ
+  pub peak : ℕ → ℕ
+  pub is-done : ℕ → Bool
+  pub is-able : ℕ → Bool
+
+unfoldable pub told-by : Sheet → Job → Told
+told-by s x =
+    record {
+      verdict = verdict-of (x .stop) s x;
+      stop = x .stop;
+      row = λ i. entry-at x i;
+      finished = λ r. place-at x r .finished;
+      in-use = λ r. place-at x r .in-use;
+      peak = λ r. place-at x r .peak;
+      is-done = λ r. is-finished s x r;
+      is-able = λ r. able s x r;
+    }
+
+-- a claim about what is told of every job that an order leaves
+abbrev pub Of-jobs : (Sheet → Told → Type 0) → Type 0
+Of-jobs C = (bs i rs : List ℕ) → Lent bs i → C (sheet-in bs) (told-by (sheet-in bs) (left-by (sheet-in bs) rs i))
+
 -- DEMAND 2
 
 -- No fitting pair stays pending: a pending message (state 1 or 2) fits no posted receive that is pending (state 1).
+unfoldable pub No-pair-left : Sheet → Told → Type 0
+No-pair-left s t =
+    (m q : ℕ) → is-send (op s m) ≡ true → is-receive (op s q) ≡ true → 1 ≤ t .row m .state → t .row m .state ≤ 2 →
+    t .row q .state ≡ 1 → fits-with s m q ≡ false
+
 unfoldable pub None-fit : Type 0
-None-fit =
-    (bs i rs : List ℕ) (m r : ℕ) → Lent bs i →
-    let s = sheet-in bs in
-    let x = left-by s rs i in
-    is-send (op s m) ≡ true → is-receive (op s r) ≡ true → 1 ≤ entry-at x m .state → entry-at x m .state ≤ 2 →
-    entry-at x r .state ≡ 1 → fits-with s m r ≡ false
+None-fit = Of-jobs No-pair-left
 
--- No receive takes a message past an earlier one of the same sender that fits it: where message m is matched with receive r,
--- an earlier send k of m's board that fits r is matched too, with an earlier receive.
+-- No receive takes a message past an earlier one of the same sender that fits it: where message m is matched with receive q,
+-- an earlier send k of m's board that fits q is matched too, with an earlier receive.
+unfoldable pub Sends-in-order : Sheet → Told → Type 0
+Sends-in-order s t =
+    (m k q : ℕ) → is-send (op s m) ≡ true → is-send (op s k) ≡ true → k < m → rank-of s k ≡ rank-of s m →
+    t .row m .state ≡ 3 → t .row m .partner ≡ q → fits-with s k q ≡ true →
+    (t .row k .state ≡ 3) × (t .row k .partner < q)
+
 unfoldable pub No-overtaking : Type 0
-No-overtaking =
-    (bs i rs : List ℕ) (m k r : ℕ) → Lent bs i →
-    let s = sheet-in bs in
-    let x = left-by s rs i in
-    is-send (op s m) ≡ true → is-send (op s k) ≡ true → k < m → rank-of s k ≡ rank-of s m →
-    entry-at x m .state ≡ 3 → entry-at x m .partner ≡ r → fits-with s k r ≡ true →
-    (entry-at x k .state ≡ 3) × (entry-at x k .partner < r)
+No-overtaking = Of-jobs Sends-in-order
 
--- No message is taken by a later receive past an earlier pending one of the same board that fits: where message m is matched
--- with receive r, an earlier receive q of r's board that m fits is matched too.
+-- No message is taken by a later receive past an earlier one that it fits: where message m is matched with receive q, an earlier
+-- receive p that m fits is matched too, and with an earlier message where that has the same sender.
+unfoldable pub Receives-in-order : Sheet → Told → Type 0
+Receives-in-order s t =
+    (m p q : ℕ) → is-receive (op s q) ≡ true → is-receive (op s p) ≡ true → p < q → t .row q .state ≡ 3 →
+    t .row q .partner ≡ m → fits-with s m p ≡ true →
+    (t .row p .state ≡ 3) × (rank-of s (t .row p .partner) ≡ rank-of s m → t .row p .partner < m)
+
 unfoldable pub No-overtaking-receives : Type 0
-No-overtaking-receives =
-    (bs i rs : List ℕ) (m q r : ℕ) → Lent bs i →
+No-overtaking-receives = Of-jobs Receives-in-order
+
+-- Arrival decides, and not rank: of two messages that fit a receive, from whatever senders, the one that arrived first is taken
+-- first. Where a beginning of the order enters k and not m, m ends matched with receive q and k fits q, then k is matched with
+-- an earlier receive.
+unfoldable pub By-arrival : Type 0
+By-arrival =
+    (bs i before after : List ℕ) (k m q : ℕ) → Lent bs i →
     let s = sheet-in bs in
-    let x = left-by s rs i in
-    is-receive (op s r) ≡ true → is-receive (op s q) ≡ true → q < r → rank-of s q ≡ rank-of s r →
-    entry-at x r .state ≡ 3 → entry-at x r .partner ≡ m → fits-with s m q ≡ true → entry-at x q .state ≡ 3
+    let y = left-by s before i in
+    let x = left-by s (before ++ after) i in
+    is-send (op s k) ≡ true → is-send (op s m) ≡ true → 1 ≤ entry-at y k .state → entry-at y m .state ≡ 0 →
+    entry-at x m .state ≡ 3 → entry-at x m .partner ≡ q → fits-with s k q ≡ true →
+    (entry-at x k .state ≡ 3) × (entry-at x k .partner < q)
 
 -- A message arrives whole or is reported cut. The rows: a matched receive's partner is a send that fits it and names it in
--- turn; the receive's row tells the message's source, tag and full length, and says cut exactly when the message is longer
--- than the capacity.
-pub record Status (s : Sheet) (x : Job) (m r : ℕ) : Type 0 where
+-- turn, and so is a matched send's partner a receive; the receive's row tells the message's source, tag and full length, and
+-- says cut exactly when the message is longer than the capacity.
+pub record Status (s : Sheet) (t : Told) (m q : ℕ) : Type 0 where
   pub sends : is-send (op s m) ≡ true
-  pub fit : fits-with s m r ≡ true
-  pub message-row : entry-at x m ≡ entry 3 0 r absent absent 0
-  pub receive-row : entry-at x r ≡ entry 3 (cond (is-cut s m r) 1 0) m (rank-of s m) (op s m .tag) (op s m .long)
+  pub receives : is-receive (op s q) ≡ true
+  pub fit : fits-with s m q ≡ true
+  pub message-row : t .row m ≡ entry 3 0 q absent absent 0
+  pub receive-row : t .row q ≡ entry 3 (cond (is-cut s m q) 1 0) m (rank-of s m) (op s m .tag) (op s m .long)
+
+unfoldable pub Matched-receives : Sheet → Told → Type 0
+Matched-receives s t = (q : ℕ) → is-receive (op s q) ≡ true → t .row q .state ≡ 3 → Status s t (t .row q .partner) q
+
+unfoldable pub Matched-sends : Sheet → Told → Type 0
+Matched-sends s t = (m : ℕ) → is-send (op s m) ≡ true → t .row m .state ≡ 3 → Status s t m (t .row m .partner)
 
 unfoldable pub Statuses : Type 0
-Statuses =
-    (bs i rs : List ℕ) (r : ℕ) → Lent bs i →
-    let s = sheet-in bs in
-    let x = left-by s rs i in
-    is-receive (op s r) ≡ true → entry-at x r .state ≡ 3 → Status s x (entry-at x r .partner) r
+Statuses = Of-jobs Matched-receives
+
+unfoldable pub Send-statuses : Type 0
+Send-statuses = Of-jobs Matched-sends
 
 -- The bytes: the delivery of a matched receive covers the first `copied` bytes of its area (the message's length, or none
 -- where it is cut). A byte of the inboxes is the message's byte of the last receive, in script order, whose delivery covers
--- it; a byte that no delivery covers is as it was lent. The inboxes keep their length.
-unfoldable pub covers : Sheet → Job → (r at : ℕ) → Bool
-covers s x r at =
-    (is-receive (op s r) && eqb (entry-at x r .state) 3)
-    && (leb (area-start s r) at && ltb at (area-start s r + copied s (entry-at x r .partner) r))
+-- it; a byte that no delivery covers is as it was lent. The inboxes keep their length, and what is lent beyond the sheet's own
+-- total its values.
+unfoldable pub covers : Sheet → Told → (q at : ℕ) → Bool
+covers s t q at =
+    (is-receive (op s q) && eqb (t .row q .state) 3)
+    && (leb (area-start s q) at && ltb at (area-start s q + copied s (t .row q .partner) q))
 
-unfoldable pub expected-byte : (n : ℕ) → Sheet → Job → (lent : List ℕ) → (at : ℕ) → ℕ
-expected-byte zero s x i at = getD i at 0
-expected-byte (suc r) s x i at =
-    cond (covers s x r at) (getD (s .payload) (op s (entry-at x r .partner) .offset + (at - area-start s r)) 0)
-    (expected-byte r s x i at)
+unfoldable pub expected-byte : (n : ℕ) → Sheet → Told → (lent : List ℕ) → (at : ℕ) → ℕ
+expected-byte zero s t i at = getD i at 0
+expected-byte (suc q) s t i at =
+    cond (covers s t q at) (getD (s .payload) (op s (t .row q .partner) .offset + (at - area-start s q)) 0)
+    (expected-byte q s t i at)
+
+pub record Delivered (s : Sheet) (t : Told) (lent memory : List ℕ) : Type 0 where
+  pub long : length memory ≡ length lent
+  pub bytes : (at : ℕ) → getD memory at 0 ≡ expected-byte (N-of s) s t lent at
+  pub beyond : drop (inbox-total s) memory ≡ drop (inbox-total s) lent
 
 unfoldable pub Deliveries : Type 0
 Deliveries =
     (bs i rs : List ℕ) → Lent bs i →
     let s = sheet-in bs in
     let x = left-by s rs i in
-    (length (x .memory) ≡ length i) × ((at : ℕ) → getD (x .memory) at 0 ≡ expected-byte (N-of s) s x i at)
+    Delivered s (told-by s x) i (x .memory)
 
 -- Verdicts: exactly one of 0 to 4 is given, each exactly when it should be. Deadlock: nothing stopped the job, some board is
 -- unfinished, and none is able.
-pub record Verdict-exact (s : Sheet) (x : Job) (v : ℕ) : Type 0 where
+pub record Verdict-exact (s : Sheet) (t : Told) (v : ℕ) : Type 0 where
   pub known : v ≤ 4
-  pub still-able : (v ≡ 0) ↔ ((r : ℕ) × (able s x r ≡ true))
-  pub finished : (v ≡ 1) ↔ ((x .stop ≡ none) × ((r : ℕ) → r < P-of s → is-finished s x r ≡ true))
+  pub still-able : (v ≡ 0) ↔ ((r : ℕ) × (t .is-able r ≡ true))
+  pub finished : (v ≡ 1) ↔ ((t .stop ≡ none) × ((r : ℕ) → r < P-of s → t .is-done r ≡ true))
   pub deadlock :
-      (v ≡ 2) ↔ ((x .stop ≡ none) × ((r : ℕ) × (r < P-of s) × (is-finished s x r ≡ false)) × ((r : ℕ) → able s x r ≡ false))
-  pub overflow : (v ≡ 3) ↔ ((t : Stop) × (x .stop ≡ some t) × (t .verdict ≡ 3))
-  pub not-ready : (v ≡ 4) ↔ ((t : Stop) × (x .stop ≡ some t) × (t .verdict ≡ 4))
+      (v ≡ 2) ↔ ((t .stop ≡ none) × ((r : ℕ) × (r < P-of s) × (t .is-done r ≡ false)) × ((r : ℕ) → t .is-able r ≡ false))
+  pub overflow : (v ≡ 3) ↔ ((p : Stop) × (t .stop ≡ some p) × (p .verdict ≡ 3))
+  pub not-ready : (v ≡ 4) ↔ ((p : Stop) × (t .stop ≡ some p) × (p .verdict ≡ 4))
+
+unfoldable pub Exact : Sheet → Told → Type 0
+Exact s t = Verdict-exact s t (t .verdict)
 
 unfoldable pub Verdicts : Type 0
-Verdicts =
-    (bs i rs : List ℕ) → Lent bs i →
-    let s = sheet-in bs in
-    let x = left-by s rs i in
-    Verdict-exact s x (verdict-of (x .stop) s x)
+Verdicts = Of-jobs Exact
+
+-- Why a job stopped: its stop operation is the next one of its stop rank, a send that is not entered and that fits no posted
+-- receive; overflow exactly if it is a buffered send whose charge does not fit beside what is in use, not ready exactly if it is
+-- a ready send.
+pub record Stop-reason (s : Sheet) (t : Told) (p : Stop) : Type 0 where
+  pub rank-small : p .rank < P-of s
+  pub unfinished : t .finished (p .rank) < board s (p .rank) .count
+  pub next : p .at-op ≡ board s (p .rank) .first + t .finished (p .rank)
+  pub sends : is-send (op s (p .at-op)) ≡ true
+  pub not-entered : t .row (p .at-op) .state ≡ 0
+  pub none-posted : (q : ℕ) → is-receive (op s q) ≡ true → t .row q .state ≡ 1 → fits-with s (p .at-op) q ≡ false
+  pub overflow :
+      (p .verdict ≡ 3) ↔ ((is-buffered (op s (p .at-op)) ≡ true)
+      × (board s (p .rank) .attached < t .in-use (p .rank) + charge-of (op s (p .at-op))))
+  pub not-ready : (p .verdict ≡ 4) ↔ (is-ready (op s (p .at-op)) ≡ true)
+
+unfoldable pub Why-stopped : Sheet → Told → Type 0
+Why-stopped s t = (p : Stop) → t .stop ≡ some p → Stop-reason s t p
+
+unfoldable pub Stop-reasons : Type 0
+Stop-reasons = Of-jobs Why-stopped
+
+-- The stopping step changed nothing but stop and steps: a beginning of the order, accepted, led to a job that was not stopped,
+-- the next rank of the order is the stop rank, and the job is that one with the stop and one step more.
+pub record Stopping-step (s : Sheet) (i rs : List ℕ) (p : Stop) : Type 0 where
+  pub before : List ℕ
+  pub after : List ℕ
+  pub order : rs ≡ before ++ (p .rank ∷ after)
+  pub accepted : accepts s before i ≡ true
+  pub going : left-by s before i .stop ≡ none
+  pub changed : left-by s rs i ≡ with-steps (suc (left-by s before i .steps)) (with-stop p (left-by s before i))
+
+unfoldable pub Stopping-steps : Type 0
+Stopping-steps =
+    (bs i rs : List ℕ) (p : Stop) → Lent bs i → left-by (sheet-in bs) rs i .stop ≡ some p → Stopping-step (sheet-in bs) i rs p
 
 -- In use is the sum of the charges of the board's buffered sends that are pending (state 2).
-unfoldable pub pending-charges : (n : ℕ) → Sheet → Job → (r : ℕ) → ℕ
-pending-charges zero s x r = 0
-pending-charges (suc j) s x r =
-    pending-charges j s x r + cond (eqb (rank-of s j) r && eqb (entry-at x j .state) 2) (charge-of (op s j)) 0
+unfoldable pub pending-charges : (n : ℕ) → Sheet → Told → (r : ℕ) → ℕ
+pending-charges zero s t r = 0
+pending-charges (suc j) s t r =
+    pending-charges j s t r + cond (eqb (rank-of s j) r && eqb (t .row j .state) 2) (charge-of (op s j)) 0
+
+unfoldable pub Charged : Sheet → Told → Type 0
+Charged s t = (r : ℕ) → r < P-of s → t .in-use r ≡ pending-charges (N-of s) s t r
 
 unfoldable pub In-use : Type 0
-In-use =
-    (bs i rs : List ℕ) (r : ℕ) → Lent bs i →
-    let s = sheet-in bs in
-    let x = left-by s rs i in
-    r < P-of s → place-at x r .in-use ≡ pending-charges (N-of s) s x r
+In-use = Of-jobs Charged
 
 -- The peak is the most in use after any step so far, 0 before the first.
 unfoldable pub most-in-use : Sheet → (order : List ℕ) → Job → (r : ℕ) → ℕ
@@ -135,6 +224,13 @@ Peaks =
     (bs i rs : List ℕ) (r : ℕ) → Lent bs i →
     let s = sheet-in bs in
     place-at (left-by s rs i) r .peak ≡ most-in-use s rs (started s i) r
+
+-- In use never exceeds the peak, nor the peak the attached size.
+unfoldable pub Within-attached : Sheet → Told → Type 0
+Within-attached s t = (r : ℕ) → r < P-of s → (t .in-use r ≤ t .peak r) × (t .peak r ≤ board s r .attached)
+
+unfoldable pub Buffers-hold : Type 0
+Buffers-hold = Of-jobs Within-attached
 
 -- RUN
 
@@ -188,75 +284,3 @@ Swap-general =
     Harmless s (left-by s before i) p q →
     (follow s (before ++ (p ∷ q ∷ after)) i .refused-at ≡ follow s (before ++ (q ∷ p ∷ after)) i .refused-at)
     × Alike s (left-by s (before ++ (p ∷ q ∷ after)) i) (left-by s (before ++ (q ∷ p ∷ after)) i)
-
--- DEMAND 3 OF THE SERVICES
-
--- A call of follow or of run on a sheet, which answered and left what the service says, and which number 8 does not refuse.
-pub record Follow-call (bs order : List ℕ) : Type 0 where
-  pub number : ℕ
-  pub place : ℕ
-  pub inbox : List ℕ
-  pub inbox-now : List ℕ
-  pub report : List ℕ
-  pub report-now : List ℕ
-  pub scratch : List ℕ
-  pub scratch-now : List ℕ
-  pub said : Follow-says bs order number place inbox inbox-now report report-now scratch scratch-now
-  pub not-short : number ≢ 8
-
-pub record Run-call (bs : List ℕ) : Type 0 where
-  pub number : ℕ
-  pub place : ℕ
-  pub inbox : List ℕ
-  pub inbox-now : List ℕ
-  pub report : List ℕ
-  pub report-now : List ℕ
-  pub order : List ℕ
-  pub order-now : List ℕ
-  pub scratch : List ℕ
-  pub scratch-now : List ℕ
-  pub said : Run-says bs number place inbox inbox-now report report-now order order-now scratch scratch-now
-  pub not-short : number ≢ 8
-
--- inboxes start with the same bytes; lent rooms may be longer, and of different lengths
-unfoldable pub Same-start : (bs i j : List ℕ) → Type 0
-Same-start bs i j = take (inbox-total (sheet-in bs)) i ≡ take (inbox-total (sheet-in bs)) j
-
--- inboxes and reports as the calls left them are equal byte for byte, save the peaks, as far as the sheet's own room goes
-unfoldable pub Left-alike : (bs i r j q : List ℕ) → Type 0
-Left-alike bs i r j q =
-    let s = sheet-in bs in
-    let n = report-size (P-of s) (N-of s) in
-    (take (inbox-total s) i ≡ take (inbox-total s) j)
-    × (without-peaks (P-of s) (take n r) ≡ without-peaks (P-of s) (take n q))
-
--- For every two orders that follow accepts and after which no board is able, follow ends alike.
-unfoldable pub Follows-alike : Type 0
-Follows-alike =
-    (bs a b : List ℕ) (f : Follow-call bs a) (g : Follow-call bs b) → passes bs ≡ true → calm (sheet-in bs) ≡ true →
-    Same-start bs (f .inbox) (g .inbox) → f .number ≡ 0 → g .number ≡ 0 →
-    none-able (sheet-in bs) (left-by (sheet-in bs) a (f .inbox)) ≡ true →
-    none-able (sheet-in bs) (left-by (sheet-in bs) b (g .inbox)) ≡ true →
-    Left-alike bs (f .inbox-now) (f .report-now) (g .inbox-now) (g .report-now)
-
--- And run ends alike with each.
-unfoldable pub Run-alike : Type 0
-Run-alike =
-    (bs a : List ℕ) (f : Follow-call bs a) (g : Run-call bs) → passes bs ≡ true → calm (sheet-in bs) ≡ true →
-    Same-start bs (f .inbox) (g .inbox) → f .number ≡ 0 →
-    none-able (sheet-in bs) (left-by (sheet-in bs) a (f .inbox)) ≡ true →
-    (g .number ≡ 0) × Left-alike bs (f .inbox-now) (f .report-now) (g .inbox-now) (g .report-now)
-
--- For every order and every index in it: where follow accepts the beginning before that index, and the next two ranks differ
--- and are both able there, the order with these two exchanged gets the same number and place, whatever stands after them.
--- With number 0, follow ends alike for both.
-unfoldable pub Follow-swaps : Type 0
-Follow-swaps =
-    (bs before after : List ℕ) (p q : ℕ) (f : Follow-call bs (before ++ (p ∷ q ∷ after)))
-    (g : Follow-call bs (before ++ (q ∷ p ∷ after))) →
-    passes bs ≡ true → calm (sheet-in bs) ≡ true → Same-start bs (f .inbox) (g .inbox) →
-    let s = sheet-in bs in
-    let x = left-by s before (f .inbox) in
-    accepts s before (f .inbox) ≡ true → p ≢ q → able s x p ≡ true → able s x q ≡ true →
-    (f .number ≡ g .number) × (f .place ≡ g .place)
-    × (f .number ≡ 0 → Left-alike bs (f .inbox-now) (f .report-now) (g .inbox-now) (g .report-now))

@@ -1,13 +1,17 @@
--- Each claim of Statements.antt under its name in small letters, proved.
---   demand 2             none-fit, no-overtaking, no-overtaking-receives, statuses (claims.Matching);
---                        deliveries, verdicts, in-use, peaks (claims.OneJob)
+-- Each claim of Statements and ServiceStatements under its name in small letters, proved.
+--   demand 2             none-fit, no-overtaking, no-overtaking-receives, statuses, send-statuses (claims.Matching);
+--                        by-arrival (claims.Arrivals); stop-reasons, stopping-steps (claims.Stops);
+--                        deliveries, verdicts, in-use, peaks, buffers-hold (claims.OneJob)
 --   run, demand 3        run-ends, ends-alike (claims.EndsAlike); swap-general, swap-same (claims.SwapSame)
 --   of the services      follows-alike, run-alike (claims.EndsAlike); follow-swaps (claims.SwapSame)
 -- Assumes nothing.
-use Rattle.promises.specs.Statements.{None-fit, No-overtaking, No-overtaking-receives, Statuses, Deliveries, Verdicts, In-use, Peaks, Run-ends}
-use Rattle.promises.specs.Statements.{Ends-alike, Swap-same, Swap-general, Follows-alike, Run-alike, Follow-swaps}
+use Rattle.promises.specs.Statements.{None-fit, No-overtaking, No-overtaking-receives, By-arrival, Statuses, Send-statuses, Deliveries, Verdicts, Stop-reasons}
+use Rattle.promises.specs.Statements.{Stopping-steps, In-use, Peaks, Buffers-hold, Run-ends, Ends-alike, Swap-same, Swap-general}
+use Rattle.promises.specs.ServiceStatements.{Follows-alike, Run-alike, Follow-swaps}
 use Rattle.promises.specs.claims.Matching
 use Rattle.promises.specs.claims.OneJob
+use Rattle.promises.specs.claims.Arrivals
+use Rattle.promises.specs.claims.Stops
 use Rattle.promises.specs.claims.EndsAlike
 use Rattle.promises.specs.claims.SwapSame
 
@@ -21,8 +25,14 @@ no-overtaking = Matching.no-overtaking
 pub no-overtaking-receives : No-overtaking-receives
 no-overtaking-receives = Matching.no-overtaking-receives
 
+pub by-arrival : By-arrival
+by-arrival = Arrivals.by-arrival
+
 pub statuses : Statuses
 statuses = Matching.statuses
+
+pub send-statuses : Send-statuses
+send-statuses = Matching.send-statuses
 
 pub deliveries : Deliveries
 deliveries = OneJob.deliveries
@@ -30,11 +40,20 @@ deliveries = OneJob.deliveries
 pub verdicts : Verdicts
 verdicts = OneJob.verdicts
 
+pub stop-reasons : Stop-reasons
+stop-reasons = Stops.stop-reasons
+
+pub stopping-steps : Stopping-steps
+stopping-steps = Stops.stopping-steps
+
 pub in-use : In-use
 in-use = OneJob.in-use
 
 pub peaks : Peaks
 peaks = OneJob.peaks
+
+pub buffers-hold : Buffers-hold
+buffers-hold = OneJob.buffers-hold
 
 -- RUN
 pub run-ends : Run-ends

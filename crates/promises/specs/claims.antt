@@ -4,6 +4,8 @@
 --   BufferUse     buffer use and its peak
 --   OneJob        demand 2 of one job
 --   Matching      demand 2 of its matching
+--   Arrivals      arrival decides, across senders
+--   Stops         why a job stopped, and what the stopping step changed
 --   RunEnds       a run ends
 --   Calls         what a call of follow or run has answered
 --   Services      demand 3 of the services, from demand 3 of the orders
@@ -14,6 +16,8 @@ pub mod Verdicts
 pub mod BufferUse
 pub mod OneJob
 pub mod Matching
+pub mod Arrivals
+pub mod Stops
 pub mod RunEnds
 pub mod Calls
 pub mod Services

@@ -12,10 +12,9 @@ use native.Mathlib.Numerals.{add-one}
 use lib.Dec.{eqb}
 use Rattle.rules.specs.Sheet.{Sheet, op, N-of, sheet-in, is-send, is-receive}
 use Rattle.rules.specs.Job.{Job, Entry, entry-at}
-use Rattle.rules.specs.Report.{count-from, is-pending-message, is-pending-receive, pending-messages, pending-receives, cut-messages}
+use Rattle.rules.specs.Report.{count-from, is-pending-message, is-pending-receive, pending-messages, pending-receives, cut-messages, entry-in}
 use Rattle.state.specs.declared.Control.{Control}
 use Rattle.state.specs.Layout.{row-at}
-use Rattle.state.specs.Decoded.{entry-in}
 use Rattle.state.specs.Decodes.{entry-is}
 use Rattle.simulation.specs.Represents.{Represents}
 

@@ -16,12 +16,12 @@ use Rattle.rules.specs.Limits.{report-header-size, board-row-size, op-row-size}
 use Rattle.rules.specs.Sheet.{Sheet, two}
 use Rattle.rules.specs.Job.{Job}
 use Rattle.rules.specs.Step.{splice}
-use Rattle.rules.specs.Report.{low-two, board-row, board-rows, op-row, op-rows}
+use Rattle.rules.specs.Report.{low-two, board-row, board-rows, op-row, op-rows, entry-in}
 use Rattle.laws.specs.ReportRows.{board-row-length}
 use Rattle.laws.specs.Splice.{splice-none, splice-then, splice-length}
 use Rattle.words.specs.Tab.{tab}
 use Rattle.state.specs.Layout.{row-at}
-use Rattle.state.specs.Decoded.{entry-in, entries-in}
+use Rattle.state.specs.Decoded.{entries-in}
 use Rattle.state.specs.Rows.{row-length}
 
 unfoldable pub joined : (ℕ → List ℕ) → (i n : ℕ) → List ℕ

@@ -4,7 +4,8 @@ use mathlib.Core.List.{List, [], _∷_, _++_}
 use mathlib.Core.Option.{Option, none, some}
 use Prim.Native.Nat.{ℕ, zero, suc, _+_, _/_, _%_}
 use lib.Dec.{eqb}
-use Rattle.rules.specs.Sheet.{Sheet, op, P-of, N-of, is-send, is-receive}
+use lib.ListN.{getD}
+use Rattle.rules.specs.Sheet.{Sheet, op, P-of, N-of, is-send, is-receive, two}
 use Rattle.rules.specs.Job.{Job, Entry, Stop, entry-at, place-at}
 use Rattle.rules.specs.Step.{able, is-finished}
 use Rattle.rules.specs.Order.{none-able}
@@ -73,6 +74,18 @@ unfoldable pub op-row : Entry → List ℕ
 op-row e =
     e .state ∷ e .cut ∷ (low-two (e .partner)
     ++ (low-two (e .source) ++ (low-two (e .tag) ++ (low-two (e .long) ++ (0 ∷ 0 ∷ [])))))
+
+-- the row that stands at a place of some bytes, read back
+abbrev pub entry-in : List ℕ → (at : ℕ) → Entry
+entry-in bs at =
+    record {
+      state = getD bs at 0;
+      cut = getD bs (at + 1) 0;
+      partner = two bs (at + 2);
+      source = two bs (at + 4);
+      tag = two bs (at + 6);
+      long = two bs (at + 8);
+    }
 
 unfoldable pub op-rows : List Entry → List ℕ
 op-rows [] = []

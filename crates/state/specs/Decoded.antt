@@ -8,23 +8,12 @@ use lib.Dec.{eqb}
 use lib.ListN.{getD}
 use Rattle.rules.specs.Sheet.{two}
 use Rattle.rules.specs.Job.{Entry, Place, place}
-use Rattle.rules.specs.Report.{low-two}
+use Rattle.rules.specs.Report.{low-two, entry-in}
 use Rattle.words.specs.Tab.{tab}
 use Rattle.state.specs.declared.BoardPlace.{BoardPlace}
 use Rattle.state.specs.Layout.{row-at, seat-at, word-at}
 
--- an operation row, in the report's format
-abbrev pub entry-in : List ℕ → (at : ℕ) → Entry
-entry-in c at =
-    record {
-      state = getD c at 0;
-      cut = getD c (at + 1) 0;
-      partner = two c (at + 2);
-      source = two c (at + 4);
-      tag = two c (at + 6);
-      long = two c (at + 8);
-    }
-
+-- operation rows, in the report's format
 unfoldable pub entries-in : List ℕ → (n : ℕ) → List Entry
 entries-in c n = tab (λ i. entry-in c (row-at i)) 0 n
 
@@ -49,12 +38,6 @@ unfoldable pub words-in : List ℕ → (base n : ℕ) → List ℕ
 words-in c base n = tab (λ k. two c (word-at base k)) 0 n
 
 -- values that fit their bytes
-pub record Fits-row (e : Entry) : Type 0 where
-  pub partner-fits : e .partner < 65536
-  pub source-fits : e .source < 65536
-  pub tag-fits : e .tag < 65536
-  pub long-fits : e .long < 65536
-
 pub record Fits-place (q : Place) : Type 0 where
   pub finished-fits : q .finished < 65536
   pub in-use-fits : q .in-use < 65536

@@ -11,7 +11,8 @@ use Rattle.rules.specs.Limits.{most-ops, most-boards, scratch-size}
 use Rattle.rules.specs.Sheet.{Sheet, N-of, P-of, two}
 use Rattle.rules.specs.Job.{Job, Entry, Place, Stop, job, entry, bare-entry, place, entry-at, place-at, with-entries, with-places, with-messages, with-receives, with-memory, with-stop, with-steps}
 use Rattle.rules.specs.Step.{splice, without, with-place, with-state, stopped}
-use Rattle.rules.specs.Report.{low-two, op-row, op-rows}
+use Rattle.rules.specs.Report.{low-two, op-row, op-rows, entry-in}
+use Rattle.laws.specs.ReportRows.{Fits-row}
 use Rattle.laws.specs.Splice.{Apart, splice-length, splice-apart, splice-take, splice-take-before}
 use Rattle.words.specs.Putting.{part-length}
 use Rattle.words.specs.Tab.{drop-at}
@@ -19,7 +20,7 @@ use Rattle.state.specs.declared.Control.{Control}
 use Rattle.state.specs.declared.Queue.{Queue}
 use Rattle.state.specs.declared.Queue.the-variants.{Messages, Receives}
 use Rattle.state.specs.Layout.{row-at, seat-at, word-at, places-at, messages-at, receives-at, ranks-at}
-use Rattle.state.specs.Decoded.{entry-in, entries-in, place-in, places-in, place-row, words-in, Fits-row, Fits-place}
+use Rattle.state.specs.Decoded.{entries-in, place-in, places-in, place-row, words-in, Fits-place}
 use Rattle.state.specs.Rows.{row-length, entries-same, entries-put, entries-at, entries-length}
 use Rattle.state.specs.Written.{rows-put}
 use Rattle.state.specs.Places.{seat-length, places-same, places-put, places-at-rank}

@@ -12,7 +12,8 @@ use Rattle.rules.specs.Job.{Place, place}
 use Rattle.rules.specs.Step.{splice}
 use Rattle.rules.specs.Report.{low-two}
 use Rattle.laws.specs.Splice.{Same, splice-within, splice-apart}
-use Rattle.words.specs.Two.{two-same, two-within, two-bytes}
+use Rattle.laws.specs.ReportRows.{two-bytes}
+use Rattle.words.specs.Two.{two-same, two-within}
 use Rattle.words.specs.Tab.{tab-same, tab-set, tab-at}
 use Rattle.state.specs.Layout.{seat-at, places-at}
 use Rattle.state.specs.Decoded.{place-in, places-in, place-row, Fits-place}

@@ -8,12 +8,13 @@ use Rattle.rules.specs.Limits.{most-ops, scratch-size}
 use Rattle.rules.specs.Sheet.{two}
 use Rattle.rules.specs.Job.{Entry, entry, bare-entry}
 use Rattle.rules.specs.Step.{splice}
-use Rattle.rules.specs.Report.{low-two, op-row}
+use Rattle.rules.specs.Report.{low-two, op-row, entry-in}
+use Rattle.laws.specs.ReportRows.{Fits-row, two-bytes}
 use Rattle.laws.specs.Splice.{Same, splice-within, splice-apart}
-use Rattle.words.specs.Two.{two-same, two-within, two-bytes}
+use Rattle.words.specs.Two.{two-same, two-within}
 use Rattle.words.specs.Tab.{tab-same, tab-set, tab-at, tab-length}
 use Rattle.state.specs.Layout.{row-at}
-use Rattle.state.specs.Decoded.{entry-in, entries-in, Fits-row}
+use Rattle.state.specs.Decoded.{entries-in}
 
 pub row-length : (e : Entry) → length (op-row e) ≡ 12
 unfolding op-row low-two

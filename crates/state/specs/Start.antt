@@ -12,11 +12,12 @@ use Rattle.rules.specs.Limits.{most-ops, most-boards, scratch-size}
 use Rattle.rules.specs.Sheet.{Sheet, N-of, P-of, two}
 use Rattle.rules.specs.Job.{Entry, job, entry, bare-entry, place, started}
 use Rattle.rules.specs.Step.{splice}
-use Rattle.rules.specs.Report.{op-row, op-rows}
+use Rattle.rules.specs.Report.{op-row, op-rows, entry-in}
+use Rattle.laws.specs.ReportRows.{Fits-row}
 use Rattle.laws.specs.Splice.{splice-length, splice-none, splice-within, splice-apart, splice-then, splice-take-before}
 use Rattle.words.specs.Tab.{tab-snoc, tab-all, replicate-more}
 use Rattle.state.specs.Layout.{row-at, seat-at, places-at}
-use Rattle.state.specs.Decoded.{entry-in, entries-in, place-in, places-in, words-in, Fits-row}
+use Rattle.state.specs.Decoded.{entries-in, place-in, places-in, words-in}
 use Rattle.state.specs.Rows.{row-length, row-put, entries-same}
 use Rattle.state.specs.Indexed.{Indexed, indexed-kept}
 use Rattle.state.specs.Written.{rows-length}

@@ -6,9 +6,8 @@ ghost use lib.ListN.{length};
 ghost use Rattle.rules.specs.Limits.{most-ops, scratch-size, absent};
 ghost use Rattle.rules.specs.Job.{entry, bare-entry};
 ghost use Rattle.rules.specs.Step.{splice};
-ghost use Rattle.rules.specs.Report.{op-row, low-two};
+ghost use Rattle.rules.specs.Report.{op-row, low-two, entry-in};
 ghost use Rattle.state.specs.Layout.{row-at};
-ghost use Rattle.state.specs.Decoded.{entry-in};
 ghost use Rattle.words.specs.Read.{Word, Byte};
 
 // The state of operation i.

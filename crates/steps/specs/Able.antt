@@ -12,9 +12,10 @@ use borrow.Author.Tests.{lt-ltb, le-ltb, le-leb, lt-leb, leb-false, eq-eqb, ne-e
 use Rattle.rules.specs.Sheet.{Sheet, sheet-in, op, board, P-of, N-of, rank-of, two, only-half, takes-slot, frees-slot}
 use Rattle.rules.specs.Job.{Job, Entry, Place, Stop, entry-at, place-at}
 use Rattle.rules.specs.Step.{able, next-op, is-finished, complete, complete-if, waited, waited-below, half-complete, in-waiting-half, is-none}
+use Rattle.rules.specs.Report.{entry-in}
 use Rattle.state.specs.declared.Control.{Control}
 use Rattle.state.specs.Layout.{row-at, seat-at, word-at, waits-at}
-use Rattle.state.specs.Decoded.{entry-in, place-in}
+use Rattle.state.specs.Decoded.{place-in}
 use Rattle.state.specs.Controls.{stop-of}
 use Rattle.state.specs.Decodes.{Decodes, entry-is, place-is}
 use Rattle.simulation.specs.Represents.{Represents, Represented}

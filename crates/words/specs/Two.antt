@@ -2,12 +2,13 @@
 -- Assumes nothing.
 use mathlib.Core.Path.{_≡_, sym, _∙_, ap, ap₂}
 use mathlib.Core.List.{List}
-use Prim.Native.Nat.{ℕ, _+_, _*_, _/_, _%_, _<_, _≤_}
+use Prim.Native.Nat.{ℕ, _+_, _*_, _<_, _≤_}
 use native.Mathlib.Omega.{arith}
 use lib.ListN.{length, getD}
 use Rattle.rules.specs.Sheet.{two}
 use Rattle.rules.specs.Step.{splice}
 use Rattle.rules.specs.Report.{low-two}
+use Rattle.laws.specs.ReportRows.{two-bytes}
 use Rattle.laws.specs.Splice.{Same, splice-within}
 
 pub two-same : (c d : List ℕ) (at : ℕ) → Same at (at + 2) c d → two c at ≡ two d at
@@ -20,10 +21,6 @@ unfolding two
 two-within c at vs h j l =
     let e : (at + j) + 1 ≡ at + (j + 1) = omega arith in
     ap₂ (λ (x y : ℕ). x + 256 * y) (splice-within c at vs h j (omega arith)) (ap (λ (k : ℕ). getD (splice c at vs) k 0) e ∙ splice-within c at vs h (j + 1) l)
-
--- two bytes of a number make the number
-pub two-bytes : (v : ℕ) → v < 65536 → v % 256 + 256 * (v / 256 % 256) ≡ v
-two-bytes v h = omega arith
 
 pub two-low : (v : ℕ) → v < 65536 → two (low-two v) 0 ≡ v
 unfolding two low-two

@@ -40,7 +40,7 @@ copied-most s m r = go (ltb (op s r .long) (op s m .long)) refl
     go true e = (omega arith, omega arith)
     go false e = (ltb-false (op s r .long) (op s m .long) e, omega arith)
 
-copied-short : (s : Sheet) (m r : ℕ) → length (copied-bytes s m r) ≤ op s r .long
+pub copied-short : (s : Sheet) (m r : ℕ) → length (copied-bytes s m r) ≤ op s r .long
 copied-short s m r = omega (arith, length-take (copied s m r) (drop (op s m .offset) (s .payload)), copied-most s m r .0)
 
 pub copied-length : (s : Sheet) → Valid s → (m r : ℕ) → is-send (op s m) ≡ true → length (copied-bytes s m r) ≡ copied s m r

@@ -30,7 +30,7 @@ use Rattle.invariant.specs.matching.RowChanges.{Grows, Enters, Matches, 
 use Rattle.invariant.specs.matching.Stable.{Later, First, enter-stable, match-stable}
 use Rattle.invariant.specs.step.Places.{Next, moved-peak, able-next}
 use Rattle.invariant.specs.step.BufferUse.{Use, use-kept, use-charged, use-released}
-use Rattle.invariant.specs.step.Cases.{Ends-half, Ends-only-half, Posts, Pends, Match-step, Finds, Outcome, ends-half, ends-only-half, posts, pends, matches, stops}
+use Rattle.invariant.specs.step.Cases.{Ends-half, Ends-only-half, Posts, Pends, Match-step, Finds, Cause, Outcome, ends-half, ends-only-half, posts, pends, matches, stops}
 use Rattle.invariant.specs.step.CasesHold.{outcome}
 use Rattle.invariant.specs.preserve.Places.{Ongoing, placed-step}
 use Rattle.invariant.specs.preserve.StepCount.{steps-step}
@@ -318,7 +318,11 @@ module _ {s : Sheet} (g : Valid s) (A : Delivery-laws s) {lent : List ℕ} (room
   sound y r n (pends h) = sound-pends y r n h
   sound y r n (matches m q h) = sound-matches y r n m q h
   sound y r n (stops v h) =
-      subst (λ (z : Job). Extended R z (next-op s x r)) (sym (h .job-is)) (stops-extended R v r n (h .reason) (h .not-waiting))
+      subst (λ (z : Job). Extended R z (next-op s x r)) (sym (h .job-is)) (stops-extended R v r n (known (h .cause)) (h .not-waiting))
+    where
+      known : Cause s x r (next-op s x r) v → (v ≡ 3) ⊎ (v ≡ 4)
+      known (inl e) = inl (e .0)
+      known (inr e) = inr (e .0)
 
   -- an able step keeps the invariant
   pub step-sound : (r : ℕ) → able s x r ≡ true → Extended R (step s r x) (next-op s x r)

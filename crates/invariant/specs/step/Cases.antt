@@ -2,6 +2,7 @@
 -- operation ends, a receive is posted, a send is pending, a message and a receive are matched, the job stops. CasesHold reads
 -- `step` once to find one of them; all other proofs go by `Outcome`.
 --   Ends-half, Ends-only-half, Posts, Pends, Match-step, Stops    the six
+--   Cause                                                         why a send stops the job
 --   Outcome                                                       one of them
 -- Assumes nothing: these are definitions.
 use mathlib.Core.Path.{_≡_}
@@ -10,7 +11,7 @@ use mathlib.Core.Bool.{true, false}
 use mathlib.Core.List.{[], _∷_, _++_}
 use mathlib.Core.Option.{none, some}
 use Prim.Native.Nat.{ℕ, suc}
-use Rattle.rules.specs.Sheet.{Sheet, op, is-send, is-receive, only-half, is-buffered, no-half}
+use Rattle.rules.specs.Sheet.{Sheet, op, is-send, is-receive, only-half, is-buffered, is-ready, no-half}
 use Rattle.rules.specs.Job.{Job, place-at, with-steps}
 use Rattle.rules.specs.Step.{first-message, first-receive, without, delivered, stopped, fits-buffer}
 use Rattle.invariant.specs.Invariant.{unmatched-state}
@@ -82,9 +83,15 @@ pub record Match-step (s : Sheet) (x y : Job) (r i : ℕ) (m q : ℕ) : Type 0 w
   pub receives : y .receives ≡ without q (x .receives)
   pub memory : y .memory ≡ delivered s m q (x .memory)
 
--- a send that fits no posted receive stops the job, with verdict v
+-- a send that fits no posted receive stops the job, with verdict v: overflow, or not ready
+abbrev pub Cause : Sheet → Job → (r i v : ℕ) → Type 0
+Cause s x r i v =
+    ((v ≡ 3) × (is-buffered (op s i) ≡ true) × (fits-buffer s r i x ≡ false)) ⊎ ((v ≡ 4) × (is-ready (op s i) ≡ true))
+
 pub record Stops (s : Sheet) (x y : Job) (r i : ℕ) (v : ℕ) : Type 0 where
-  pub reason : (v ≡ 3) ⊎ (v ≡ 4)
+  pub cause : Cause s x r i v
+  pub is-one : is-send (op s i) ≡ true
+  pub none-fits : first-receive s i (x .receives) ≡ none
   pub not-waiting : place-at x r .waiting ≡ false
   pub job-is : y ≡ with-steps (suc (x .steps)) (stopped v r i x)
 

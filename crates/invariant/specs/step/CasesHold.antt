@@ -27,7 +27,7 @@ use Rattle.invariant.specs.matching.RowChanges.{Enters, Matches}
 use Rattle.invariant.specs.step.Places.{Next, next-fresh, Moved}
 use Rattle.invariant.specs.step.BufferUse.{Use, use-kept, use-charged, use-released, used-kept, used-released, used-charged, used-uncharged}
 use Rattle.invariant.specs.step.BufferUse.{released-places, matched-is, stepped-places, stepped-moved, set-enters}
-use Rattle.invariant.specs.step.Cases.{Finds, Outcome, ends-half, ends-only-half, posts, pends, matches, stops}
+use Rattle.invariant.specs.step.Cases.{Finds, Cause, Outcome, ends-half, ends-only-half, posts, pends, matches, stops}
 
 -- OUTCOMES of a step of board r, which is able, of a job that keeps the invariant
 module _ (s : Sheet) (g : Valid s) (lent : List ℕ) (x : Job) (R : Reached s lent x) (r : ℕ) (n : Next s x r) where
@@ -272,28 +272,30 @@ module _ (s : Sheet) (g : Valid s) (lent : List ℕ) (x : Job) (R : Reached s le
   outcome-unmatched : place-at x r .waiting ≡ false → is-send (op s here) ≡ true → first-receive s here (x .receives) ≡ none →
       Outcome s x (counted (unmatched s r here x)) r here
   unfolding unmatched
-  outcome-unmatched w k e = go (is-ready (op s here)) (is-buffered (op s here)) refl (fits-buffer s r here x) refl
+  outcome-unmatched w k e = go (is-ready (op s here)) refl (is-buffered (op s here)) refl (fits-buffer s r here x) refl
     where
-      stopping : (v : ℕ) → (v ≡ 3) ⊎ (v ≡ 4) → Outcome s x (counted (stopped v r here x)) r here
-      stopping v reason =
+      stopping : (v : ℕ) → Cause s x r here v → Outcome s x (counted (stopped v r here x)) r here
+      stopping v cause =
           stops v
           (record {
-            reason = reason;
+            cause = cause;
+            is-one = k;
+            none-fits = e;
             not-waiting = w;
             job-is = refl;
           })
 
-      go : (a b : Bool) → is-buffered (op s here) ≡ b → (c : Bool) → fits-buffer s r here x ≡ c →
+      go : (a : Bool) → is-ready (op s here) ≡ a → (b : Bool) → is-buffered (op s here) ≡ b → (c : Bool) → fits-buffer s r here x ≡ c →
           Outcome s x
           (counted
           (cond a (stopped 4 r here x)
           (cond b (cond c (initiated s r here (charge s r here (pend-message here 2 x))) (stopped 3 r here x))
           (initiated s r here (pend-message here 1 x)))))
           r here
-      go true b h c f = stopping 4 (inr refl)
-      go false true h true f = outcome-buffered w k h e f
-      go false true h false f = stopping 3 (inl refl)
-      go false false h c f = outcome-standard w k h e
+      go true d b h c f = stopping 4 (inr (refl, d))
+      go false d true h true f = outcome-buffered w k h e f
+      go false d true h false f = stopping 3 (inl (refl, h, f))
+      go false d false h c f = outcome-standard w k h e
 
   outcome-sent : (o : Option ℕ) → first-receive s here (x .receives) ≡ o → place-at x r .waiting ≡ false →
       is-send (op s here) ≡ true →

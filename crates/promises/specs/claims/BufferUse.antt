@@ -14,7 +14,7 @@ use Rattle.rules.specs.Sheet.{Sheet, P-of, N-of, inbox-total}
 use Rattle.rules.specs.Job.{Job, Place, place, place-at}
 use Rattle.rules.specs.Step.{able, step}
 use Rattle.rules.specs.Order.{follow-from, followed}
-use Rattle.promises.specs.Statements.{pending-charges, most-in-use}
+use Rattle.promises.specs.Statements.{told-by, pending-charges, most-in-use}
 use Rattle.invariant.specs.sheet.Valid.{Valid}
 use Rattle.invariant.specs.deliveries.Laws.{Delivery-laws}
 use Rattle.laws.specs.Sums.{sum-below}
@@ -24,13 +24,13 @@ use Rattle.promises.specs.compare.AfterStep.{After, continues, stops-job
 use Rattle.invariant.specs.preserve.Step.{step-sound}
 
 -- IN USE
-charges-summed : (s : Sheet) (x : Job) (r n : ℕ) → sum-below n (charge-in s x r) ≡ pending-charges n s x r
-unfolding sum-below charge-in pending-charges
+charges-summed : (s : Sheet) (x : Job) (r n : ℕ) → sum-below n (charge-in s x r) ≡ pending-charges n s (told-by s x) r
+unfolding sum-below charge-in pending-charges told-by
 charges-summed s x r zero = refl
 charges-summed s x r (suc n) = ap (λ (k : ℕ). k + charge-in s x r n) (charges-summed s x r n)
 
 pub in-use-reached : {s : Sheet} {i : List ℕ} {x : Job} → Reached s i x → (r : ℕ) → r < P-of s →
-    place-at x r .in-use ≡ pending-charges (N-of s) s x r
+    place-at x r .in-use ≡ pending-charges (N-of s) s (told-by s x) r
 in-use-reached {s} {i} {x} R r l = R .in-use-sum r l ∙ charges-summed s x r (N-of s)
 
 -- PEAKS

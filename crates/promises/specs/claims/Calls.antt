@@ -27,7 +27,7 @@ use Rattle.rules.specs.Claims.{passes, accepts, left-by}
 use Rattle.laws.specs.Tests.{cond-true}
 use Rattle.laws.specs.Broken.{or-else-passed, or-else-stopped}
 use Rattle.laws.specs.Rooms.{Roomy, not-eight, rooms-enough}
-use Rattle.promises.specs.Statements.{Follow-call, Run-call}
+use Rattle.promises.specs.ServiceStatements.{Follow-call, Run-call}
 
 passed-number : (bs : List ℕ) → passes bs ≡ true → sheet-refusal bs .number ≡ 0
 unfolding passes

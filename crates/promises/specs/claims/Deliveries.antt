@@ -7,16 +7,18 @@ use mathlib.Core.List.{List}
 use Prim.Native.Nat.{ℕ, zero, suc, _+_, _-_, _≤_}
 use native.Mathlib.Omega.{arith}
 use lib.Dec.{eqb}
-use lib.ListN.{length, getD}
+use lib.ListN.{length, getD, drop}
 use borrow.Author.Tests.{eqb-true}
 use Rattle.rules.specs.Sheet.{Sheet, op, N-of, inbox-total, is-receive}
 use Rattle.rules.specs.Job.{Job}
 use Rattle.rules.specs.Step.{area-start, copied, delivered}
 use Rattle.laws.specs.Tests.{and-left, and-right}
-use Rattle.promises.specs.Statements.{covers, expected-byte}
+use Rattle.promises.specs.Statements.{told-by, covers, expected-byte, Delivered}
 use Rattle.invariant.specs.sheet.Valid.{Valid}
+use Rattle.invariant.specs.sheet.Extents.{area-inside}
+use Rattle.laws.specs.Splice.{splice-drop}
 use Rattle.laws.specs.SpliceOrder.{within}
-use Rattle.invariant.specs.deliveries.Commute.{delivered-at, delivery-laws}
+use Rattle.invariant.specs.deliveries.Commute.{copied-bytes, copied-short, delivered-at, delivery-laws}
 use Rattle.invariant.specs.Invariant.{state-at, partner-at, replay, replayed, Reached}
 use Rattle.invariant.specs.preserve.Memory.{replayed-length}
 
@@ -26,8 +28,8 @@ module _ (s : Sheet) (g : Valid s) (lent : List ℕ) (x : Job) (R : Reached s le
   message-byte j at = getD (s .payload) (op s (partner-at x j) .offset + (at - area-start s j)) 0
 
   replay-is-byte-at : (j at : ℕ) (bs : List ℕ) → inbox-total s ≤ length bs →
-      getD (replay s x j bs) at 0 ≡ cond (covers s x j at) (message-byte j at) (getD bs at 0)
-  unfolding replay covers
+      getD (replay s x j bs) at 0 ≡ cond (covers s (told-by s x) j at) (message-byte j at) (getD bs at 0)
+  unfolding replay covers told-by
   replay-is-byte-at j at bs l = go (is-receive (op s j) && eqb (state-at x j) 3) refl
     where
       go : (b : Bool) → is-receive (op s j) && eqb (state-at x j) 3 ≡ b →
@@ -39,15 +41,38 @@ module _ (s : Sheet) (g : Valid s) (lent : List ℕ) (x : Job) (R : Reached s le
           delivered-at s g (partner-at x j) j receives bs l (R .stable .receive-pair j receives matched .sends) at
       go false e = refl
 
-  replayed-is-byte-at : (n at : ℕ) → getD (replayed s x n lent) at 0 ≡ expected-byte n s x lent at
-  unfolding replayed expected-byte
+  replayed-room : (n : ℕ) → inbox-total s ≤ length (replayed s x n lent)
+  replayed-room n = omega (arith, replayed-length g (delivery-laws s g) (R .stable) (R .placed) (R .shaped) n lent room)
+
+  replayed-is-byte-at : (n at : ℕ) → getD (replayed s x n lent) at 0 ≡ expected-byte n s (told-by s x) lent at
+  unfolding replayed expected-byte told-by
   replayed-is-byte-at zero at = refl
   replayed-is-byte-at (suc n) at =
-      replay-is-byte-at n at (replayed s x n lent) (omega
-      (arith, replayed-length g (delivery-laws s g) (R .stable) (R .placed) (R .shaped) n lent room))
-      ∙ ap (λ (z : ℕ). cond (covers s x n at) (message-byte n at) z) (replayed-is-byte-at n at)
+      replay-is-byte-at n at (replayed s x n lent) (replayed-room n)
+      ∙ ap (λ (z : ℕ). cond (covers s (told-by s x) n at) (message-byte n at) z) (replayed-is-byte-at n at)
 
-  pub deliveries-reached : (length (x .memory) ≡ length lent)
-      × ((at : ℕ) → getD (x .memory) at 0 ≡ expected-byte (N-of s) s x lent at)
+  -- behind the sheet's total nothing is put: an area ends before it
+  replay-beyond : (j : ℕ) (bs : List ℕ) → inbox-total s ≤ length bs → drop (inbox-total s) (replay s x j bs) ≡ drop (inbox-total s) bs
+  unfolding replay delivered
+  replay-beyond j bs l = go (is-receive (op s j) && eqb (state-at x j) 3) refl
+    where
+      go : (b : Bool) → is-receive (op s j) && eqb (state-at x j) 3 ≡ b →
+          drop (inbox-total s) (cond b (delivered s (partner-at x j) j bs) bs) ≡ drop (inbox-total s) bs
+      go true e =
+          let receives = and-left (is-receive (op s j)) (eqb (state-at x j) 3) e in
+          splice-drop bs (area-start s j) (copied-bytes s (partner-at x j) j) (inbox-total s)
+          (omega (arith, area-inside s g j receives, copied-short s (partner-at x j) j)) l
+      go false e = refl
+
+  replayed-beyond : (n : ℕ) → drop (inbox-total s) (replayed s x n lent) ≡ drop (inbox-total s) lent
+  unfolding replayed
+  replayed-beyond zero = refl
+  replayed-beyond (suc n) = replay-beyond n (replayed s x n lent) (replayed-room n) ∙ replayed-beyond n
+
+  pub deliveries-reached : Delivered s (told-by s x) lent (x .memory)
   deliveries-reached =
-      (R .memory-long, λ at. ap (λ (bs : List ℕ). getD bs at 0) (R .memory-replayed) ∙ replayed-is-byte-at (N-of s) at)
+      record {
+        long = R .memory-long;
+        bytes = λ at. ap (λ (bs : List ℕ). getD bs at 0) (R .memory-replayed) ∙ replayed-is-byte-at (N-of s) at;
+        beyond = ap (λ (bs : List ℕ). drop (inbox-total s) bs) (R .memory-replayed) ∙ replayed-beyond (N-of s);
+      }

@@ -9,7 +9,8 @@ use Rattle.rules.specs.Sheet.{Sheet, sheet-in}
 use Rattle.rules.specs.Job.{Job}
 use Rattle.rules.specs.Order.{run, none-able}
 use Rattle.rules.specs.Claims.{left-by, Alike, Given}
-use Rattle.promises.specs.Statements.{Lent, Run-ends, Ends-alike, Follows-alike, Run-alike}
+use Rattle.promises.specs.Statements.{Lent, Run-ends, Ends-alike}
+use Rattle.promises.specs.ServiceStatements.{Follows-alike, Run-alike}
 use Rattle.invariant.specs.deliveries.Commute.{delivery-laws}
 use Rattle.invariant.specs.preserve.Orders.{left-reached}
 use Rattle.invariant.specs.step.LowestAble.{next-none}

@@ -1,7 +1,7 @@
 -- What every order keeps, said of a sheet's bytes and the lent inboxes: bytes that pass give a valid sheet, an order keeps
 -- the invariant, and so the statements about one job hold of whatever an order leaves.
 --   lent-valid, lent-reached     a valid sheet; the invariant of the job that an order leaves
---   deliveries, verdicts, in-use, peaks
+--   deliveries, verdicts, in-use, peaks, buffers-hold
 -- Assumes nothing.
 use mathlib.Core.List.{List}
 use Prim.Native.Nat.{ℕ}
@@ -9,7 +9,7 @@ use native.Mathlib.Omega.{arith}
 use Rattle.rules.specs.Sheet.{sheet-in}
 use Rattle.rules.specs.Order.{follow}
 use Rattle.rules.specs.Claims.{left-by}
-use Rattle.promises.specs.Statements.{Lent, Deliveries, Verdicts, In-use, Peaks}
+use Rattle.promises.specs.Statements.{Lent, told-by, Deliveries, Exact, Verdicts, Charged, In-use, Peaks, Within-attached, Buffers-hold}
 use Rattle.invariant.specs.sheet.Valid.{Valid}
 use Rattle.invariant.specs.sheet.FromBytes.{valid-from-bytes}
 use Rattle.invariant.specs.Invariant.{Reached}
@@ -30,12 +30,12 @@ unfolding Deliveries
 deliveries bs i rs h = deliveries-reached (sheet-in bs) (lent-valid h) i (left-by (sheet-in bs) rs i) (lent-reached h rs) (h .room)
 
 pub verdicts : Verdicts
-unfolding Verdicts
+unfolding Verdicts Exact told-by
 verdicts bs i rs h = verdict-reached (sheet-in bs) (lent-valid h) (left-by (sheet-in bs) rs i) (lent-reached h rs .stop-at)
 
 pub in-use : In-use
-unfolding In-use
-in-use bs i rs r h l = in-use-reached (lent-reached h rs) r l
+unfolding In-use Charged told-by
+in-use bs i rs h r l = in-use-reached (lent-reached h rs) r l
 
 pub peaks : Peaks
 unfolding Peaks left-by follow
@@ -46,3 +46,7 @@ peaks bs i rs r h =
           (start-reached (lent-valid h) i),
       start-peak (lent-valid h) i r,
     )
+
+pub buffers-hold : Buffers-hold
+unfolding Buffers-hold Within-attached told-by
+buffers-hold bs i rs h r l = let R = lent-reached h rs in (R .in-use-peak r, R .peak-attached r l)

@@ -16,8 +16,8 @@ use Rattle.rules.specs.Order.{follow, run, none-able}
 use Rattle.rules.specs.Report.{report}
 use Rattle.rules.specs.Service.{in-front, order-refusal}
 use Rattle.rules.specs.Claims.{passes, calm, accepts, left-by, without-peaks, Alike, Given}
-use Rattle.promises.specs.Statements.{Lent, Ends, Run-ends, Ends-alike, Swap-same, Follow-call, Run-call, Same-start, Left-alike, Follows-alike}
-use Rattle.promises.specs.Statements.{Run-alike, Follow-swaps}
+use Rattle.promises.specs.Statements.{Lent, Ends, Run-ends, Ends-alike, Swap-same}
+use Rattle.promises.specs.ServiceStatements.{Follow-call, Run-call, Same-start, Left-alike, Follows-alike, Run-alike, Follow-swaps}
 use Rattle.laws.specs.SpliceOrder.{Near}
 use Rattle.promises.specs.compare.ReportBytes.{report-length}
 use Rattle.promises.specs.compare.PeaksAside.{equal-report, equal-none-able}

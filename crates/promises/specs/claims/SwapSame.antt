@@ -15,7 +15,8 @@ use Rattle.rules.specs.Step.{able, step}
 use Rattle.rules.specs.Order.{Followed, follow, follow-from}
 use Rattle.rules.specs.Claims.{accepts, left-by, calm, Alike}
 use Rattle.laws.specs.Tests.{true-not-false}
-use Rattle.promises.specs.Statements.{Lent, Harmless, Swap-general, Swap-same, Follow-swaps}
+use Rattle.promises.specs.Statements.{Lent, Harmless, Swap-general, Swap-same}
+use Rattle.promises.specs.ServiceStatements.{Follow-swaps}
 use Rattle.invariant.specs.sheet.Valid.{Valid}
 use Rattle.invariant.specs.deliveries.Laws.{Delivery-laws}
 use Rattle.invariant.specs.Invariant.{Reached}

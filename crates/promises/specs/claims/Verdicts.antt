@@ -17,7 +17,7 @@ use Rattle.rules.specs.Step.{able, is-finished}
 use Rattle.rules.specs.Order.{none-able}
 use Rattle.rules.specs.Report.{all-finished, verdict-of}
 use Rattle.laws.specs.Tests.{and-left, and-right, true-not-false}
-use Rattle.promises.specs.Statements.{Verdict-exact}
+use Rattle.promises.specs.Statements.{told-by, Verdict-exact}
 use Rattle.invariant.specs.sheet.Valid.{Valid}
 use Rattle.invariant.specs.Invariant.{Stopped}
 use Rattle.invariant.specs.step.Places.{able-next}
@@ -79,7 +79,8 @@ module _ (s : Sheet) (g : Valid s) (x : Job) (stop-at : (t : Stop) → x .stop �
       let n = able-next s g x (a .0) (a .1) in
       omega (arith, n .unfinished, leb-true (board s (a .0) .count) (place-at x (a .0) .finished) (h (a .0) (n .rank-small)))
 
-  verdict-finished : x .stop ≡ none → ((r : ℕ) → r < P-of s → is-finished s x r ≡ true) → Verdict-exact s x 1
+  verdict-finished : x .stop ≡ none → ((r : ℕ) → r < P-of s → is-finished s x r ≡ true) → Verdict-exact s (told-by s x) 1
+  unfolding told-by
   verdict-finished e done =
       record {
         known = omega arith;
@@ -94,7 +95,8 @@ module _ (s : Sheet) (g : Valid s) (x : Job) (stop-at : (t : Stop) → x .stop �
     not-done : All-done → ⊥
     not-done h = true-not-false (h .1 (left .0) (left .1)) (left .2)
 
-    verdict-deadlock : ((r : ℕ) → able s x r ≡ false) → Verdict-exact s x 2
+    verdict-deadlock : ((r : ℕ) → able s x r ≡ false) → Verdict-exact s (told-by s x) 2
+    unfolding told-by
     verdict-deadlock stuck =
         record {
           known = omega arith;
@@ -105,7 +107,8 @@ module _ (s : Sheet) (g : Valid s) (x : Job) (stop-at : (t : Stop) → x .stop �
           not-ready = other (λ h. omega arith) (going-not 4 e);
         }
 
-    verdict-able : Some-able → Verdict-exact s x 0
+    verdict-able : Some-able → Verdict-exact s (told-by s x) 0
+    unfolding told-by
     verdict-able a =
         record {
           known = omega arith;
@@ -126,7 +129,8 @@ module _ (s : Sheet) (g : Valid s) (x : Job) (stop-at : (t : Stop) → x .stop �
         let same : h .0 ≡ t = cc in
         ap (λ (z : Stop). z .verdict) (sym same) ∙ h .2
 
-    verdict-stopped : (v : ℕ) → t .verdict ≡ v → (v ≡ 3) ⊎ (v ≡ 4) → Verdict-exact s x v
+    verdict-stopped : (v : ℕ) → t .verdict ≡ v → (v ≡ 3) ⊎ (v ≡ 4) → Verdict-exact s (told-by s x) v
+    unfolding told-by
     verdict-stopped v q reason =
         record {
           known = most reason;
@@ -145,7 +149,7 @@ module _ (s : Sheet) (g : Valid s) (x : Job) (stop-at : (t : Stop) → x .stop �
         early (inl a) w l h = omega arith
         early (inr a) w l h = omega arith
 
-  pub verdict-reached : Verdict-exact s x (verdict-of (x .stop) s x)
+  pub verdict-reached : Verdict-exact s (told-by s x) (verdict-of (x .stop) s x)
   unfolding verdict-of
   verdict-reached = go (x .stop) refl
     where
@@ -153,11 +157,11 @@ module _ (s : Sheet) (g : Valid s) (x : Job) (stop-at : (t : Stop) → x .stop �
       unfinished h = let u = all-finished-not (P-of s) 0 s x h in (u .0, omega (arith, u .2), u .3)
 
       going : x .stop ≡ none → (a : Bool) → all-finished (P-of s) 0 s x ≡ a → (b : Bool) → none-able s x ≡ b →
-          Verdict-exact s x (cond a 1 (cond b 2 0))
+          Verdict-exact s (told-by s x) (cond a 1 (cond b 2 0))
       going e true h b k = verdict-finished e (λ r l. all-finished-every (P-of s) 0 s x h r (omega arith) (omega arith))
       going e false h true k = verdict-deadlock e (unfinished h) (next-none s g x k)
       going e false h false k = verdict-able e (unfinished h) (next-able s x k)
 
-      go : (o : Option Stop) → x .stop ≡ o → Verdict-exact s x (verdict-of o s x)
+      go : (o : Option Stop) → x .stop ≡ o → Verdict-exact s (told-by s x) (verdict-of o s x)
       go none e = going e (all-finished (P-of s) 0 s x) refl (none-able s x) refl
       go (some t) e = verdict-stopped t e (t .verdict) refl (stop-at t e .reason)

@@ -1,11 +1,11 @@
 -- The order of arrival along several steps: what was entered keeps its place, and what enters comes after it. So two jobs
 -- that grew from jobs with one order of arrival have one order, unless they differ among what entered since.
 --   Arrivals-grew          x grew to y
---   arrivals-step          by one step; arrivals-trans: and by one after another
+--   arrivals-none          by no step; arrivals-step: by one step; arrivals-trans: and by one after another
 --   arrivals-same-order    the order of arrival in x is that in y
 --   arrivals-order         the law
 -- Assumes nothing.
-use mathlib.Core.Path.{_≡_, ap, _∙_}
+use mathlib.Core.Path.{_≡_, refl, ap, _∙_}
 use mathlib.Core.Logic.{_≢_}
 use mathlib.Core.Bool.{true}
 use mathlib.Core.List.{List}
@@ -24,6 +24,14 @@ pub record Arrivals-grew {s : Sheet} {i : List ℕ} {x y : Job} (X : Reached s i
   pub on : (j : ℕ) → Entered x j → Entered y j
   pub old : (j : ℕ) → Entered x j → Y .arrival j ≡ X .arrival j
   pub new : (k m : ℕ) → Entered x k → Entered y m → (Entered x m → ⊥) → Y .arrival k < Y .arrival m
+
+pub arrivals-none : {s : Sheet} {i : List ℕ} {x : Job} (X : Reached s i x) → Arrivals-grew X X
+arrivals-none X =
+    record {
+      on = λ j h. h;
+      old = λ j h. refl;
+      new = λ k m h there out. absurd (out there);
+    }
 
 pub arrivals-step : {s : Sheet} {i : List ℕ} {x y : Job} {X : Reached s i x} {n : ℕ} (E : Extended X y n) → Arrivals-grew X (E .reached)
 arrivals-step {s} {i} {x} {y} {X} {n} E =

@@ -8,7 +8,7 @@ use lib.Dec.{leb}
 use borrow.Author.Tests.{not-true, not-false}
 use Rattle.rules.specs.Sheet.{sheet-in, N-of}
 use Rattle.state.specs.Layout.{row-at}
-use Rattle.state.specs.Decoded.{entry-in}
+use Rattle.rules.specs.Report.{entry-in}
 use Rattle.state.specs.declared.Control.{Control}
 use Rattle.steps.specs.Able.{Represented-next, waiting-is, next-below, wait-target, half-read, next-initiating, next-freeing, next-half}
 use borrow.Author.Needs.{needs}

@@ -1,0 +1,154 @@
+-- What is promised of the services: demand 2, said of the bytes that a call of follow or run with number 0 leaves in inbox and
+-- report, and demand 3, said of two calls. The claims are those of Statements. Assumes nothing: these are statements.
+use mathlib.Core.Path.{_≡_}
+use mathlib.Core.Logic.{_≢_}
+use mathlib.Core.Bool.{Bool, true, _&&_, _||_, not, cond}
+use mathlib.Core.List.{List, _∷_, _++_}
+use mathlib.Core.Option.{Option, none, some}
+use Prim.Native.Nat.{ℕ, _+_}
+use lib.Dec.{ltb, eqb}
+use lib.ListN.{getD, take}
+use Rattle.rules.specs.Limits.{report-size}
+use Rattle.rules.specs.Sheet.{Sheet, sheet-in, P-of, N-of, inbox-total, two}
+use Rattle.rules.specs.Job.{Stop, bare-entry}
+use Rattle.rules.specs.Step.{able}
+use Rattle.rules.specs.Order.{none-able}
+use Rattle.rules.specs.Report.{entry-in}
+use Rattle.rules.specs.Claims.{passes, calm, accepts, left-by, without-peaks}
+use Rattle.rules.specs.Service.{Follow-says, Run-says}
+use Rattle.promises.specs.Statements.{Told, No-pair-left, Sends-in-order, Receives-in-order, Matched-receives, Matched-sends, Delivered}
+use Rattle.promises.specs.Statements.{Exact, Why-stopped, Charged, Within-attached}
+
+-- CALLS of follow or of run on a sheet, which answered and left what the service says, and which number 8 does not refuse.
+pub record Follow-call (bs order : List ℕ) : Type 0 where
+  pub number : ℕ
+  pub place : ℕ
+  pub inbox : List ℕ
+  pub inbox-now : List ℕ
+  pub report : List ℕ
+  pub report-now : List ℕ
+  pub scratch : List ℕ
+  pub scratch-now : List ℕ
+  pub said : Follow-says bs order number place inbox inbox-now report report-now scratch scratch-now
+  pub not-short : number ≢ 8
+
+pub record Run-call (bs : List ℕ) : Type 0 where
+  pub number : ℕ
+  pub place : ℕ
+  pub inbox : List ℕ
+  pub inbox-now : List ℕ
+  pub report : List ℕ
+  pub report-now : List ℕ
+  pub order : List ℕ
+  pub order-now : List ℕ
+  pub scratch : List ℕ
+  pub scratch-now : List ℕ
+  pub said : Run-says bs number place inbox inbox-now report report-now order order-now scratch scratch-now
+  pub not-short : number ≢ 8
+
+-- DEMAND 2 OF THE SERVICES
+
+-- What the bytes of a report tell (document 01, "The report"). Row r of the boards stands at report-size r 0, row i of the
+-- operations at report-size P i; a rank or operation that the sheet does not have has no row, and nothing to do.
+unfoldable pub board-row-at : (r : ℕ) → ℕ
+board-row-at r = report-size r 0
+
+unfoldable pub board-figure : Sheet → (report : List ℕ) → (at r : ℕ) → ℕ
+board-figure s b at r = cond (ltb r (P-of s)) (two b (board-row-at r + at)) 0
+
+unfoldable pub board-state-is : (report : List ℕ) → (state r : ℕ) → Bool
+board-state-is b v r = eqb (getD b (board-row-at r + 6) 0) v
+
+unfoldable pub stop-in : (report : List ℕ) → Option Stop
+stop-in b =
+    cond (eqb (getD b 1 0) 255) none
+    (some
+    (record {
+      verdict = getD b 0 0;
+      rank = getD b 1 0;
+      at-op = two b 2;
+    }))
+
+unfoldable pub told-in : Sheet → (report : List ℕ) → Told
+told-in s b =
+    record {
+      verdict = getD b 0 0;
+      stop = stop-in b;
+      row = λ i. cond (ltb i (N-of s)) (entry-in b (report-size (P-of s) i)) (bare-entry 0);
+      finished = λ r. board-figure s b 0 r;
+      in-use = λ r. board-figure s b 2 r;
+      peak = λ r. board-figure s b 4 r;
+      is-done = λ r. not (ltb r (P-of s)) || board-state-is b 2 r;
+      is-able = λ r. ltb r (P-of s) && board-state-is b 1 r;
+    }
+
+-- Inbox and report as a call left them, where the inbox was lent as `lent`: every claim about matches, bytes, buffers and
+-- verdicts holds of what the report tells.
+pub record Reported (s : Sheet) (lent inbox report : List ℕ) : Type 0 where
+  pub none-fit : No-pair-left s (told-in s report)
+  pub sends-in-order : Sends-in-order s (told-in s report)
+  pub receives-in-order : Receives-in-order s (told-in s report)
+  pub matched-receives : Matched-receives s (told-in s report)
+  pub matched-sends : Matched-sends s (told-in s report)
+  pub delivered : Delivered s (told-in s report) lent inbox
+  pub verdict-exact : Exact s (told-in s report)
+  pub why-stopped : Why-stopped s (told-in s report)
+  pub charged : Charged s (told-in s report)
+  pub within-attached : Within-attached s (told-in s report)
+
+-- So it is after every call of follow with number 0, whatever the order.
+unfoldable pub Follow-reports : Type 0
+Follow-reports =
+    (bs order : List ℕ) (f : Follow-call bs order) → f .number ≡ 0 →
+    Reported (sheet-in bs) (f .inbox) (f .inbox-now) (f .report-now)
+
+-- And after every call of run with number 0; and then no board is able, so the verdict is not 0.
+unfoldable pub Run-reports : Type 0
+Run-reports =
+    (bs : List ℕ) (f : Run-call bs) → f .number ≡ 0 →
+    Reported (sheet-in bs) (f .inbox) (f .inbox-now) (f .report-now) × (told-in (sheet-in bs) (f .report-now) .verdict ≢ 0)
+
+-- DEMAND 3 OF THE SERVICES
+
+-- inboxes start with the same bytes; lent rooms may be longer, and of different lengths
+unfoldable pub Same-start : (bs i j : List ℕ) → Type 0
+Same-start bs i j = take (inbox-total (sheet-in bs)) i ≡ take (inbox-total (sheet-in bs)) j
+
+-- inboxes and reports as the calls left them are equal byte for byte, save the peaks, as far as the sheet's own room goes
+unfoldable pub Left-alike : (bs i r j q : List ℕ) → Type 0
+Left-alike bs i r j q =
+    let s = sheet-in bs in
+    let n = report-size (P-of s) (N-of s) in
+    (take (inbox-total s) i ≡ take (inbox-total s) j)
+    × (without-peaks (P-of s) (take n r) ≡ without-peaks (P-of s) (take n q))
+
+-- For every two orders that follow accepts and after which no board is able, follow ends alike.
+unfoldable pub Follows-alike : Type 0
+Follows-alike =
+    (bs a b : List ℕ) (f : Follow-call bs a) (g : Follow-call bs b) → passes bs ≡ true → calm (sheet-in bs) ≡ true →
+    Same-start bs (f .inbox) (g .inbox) → f .number ≡ 0 → g .number ≡ 0 →
+    none-able (sheet-in bs) (left-by (sheet-in bs) a (f .inbox)) ≡ true →
+    none-able (sheet-in bs) (left-by (sheet-in bs) b (g .inbox)) ≡ true →
+    Left-alike bs (f .inbox-now) (f .report-now) (g .inbox-now) (g .report-now)
+
+-- And run ends alike with each.
+unfoldable pub Run-alike : Type 0
+Run-alike =
+    (bs a : List ℕ) (f : Follow-call bs a) (g : Run-call bs) → passes bs ≡ true → calm (sheet-in bs) ≡ true →
+    Same-start bs (f .inbox) (g .inbox) → f .number ≡ 0 →
+    none-able (sheet-in bs) (left-by (sheet-in bs) a (f .inbox)) ≡ true →
+    (g .number ≡ 0) × Left-alike bs (f .inbox-now) (f .report-now) (g .inbox-now) (g .report-now)
+
+-- For every order and every index in it: where follow accepts the beginning before that index, and the next two ranks differ
+-- and are both able there, the order with these two exchanged gets the same number and place, whatever stands after them.
+-- With number 0, follow ends alike for both.
+unfoldable pub Follow-swaps : Type 0
+Follow-swaps =
+    (bs before after : List ℕ) (p q : ℕ) (f : Follow-call bs (before ++ (p ∷ q ∷ after)))
+    (g : Follow-call bs (before ++ (q ∷ p ∷ after))) →
+    passes bs ≡ true → calm (sheet-in bs) ≡ true → Same-start bs (f .inbox) (g .inbox) →
+    let s = sheet-in bs in
+    let x = left-by s before (f .inbox) in
+    accepts s before (f .inbox) ≡ true → p ≢ q → able s x p ≡ true → able s x q ≡ true →
+    (f .number ≡ g .number) × (f .place ≡ g .place)
+    × (f .number ≡ 0 → Left-alike bs (f .inbox-now) (f .report-now) (g .inbox-now) (g .report-now))
