@@ -1,19 +1,27 @@
--- Numbers of a reached job that fit their bytes: operations finished, steps, bytes in use and their peak.
---   finished-few, steps-few, peak-few, in-use-few
+-- Numbers of a reached job that fit their bytes: operations finished, steps, bytes in use and their peak, an operation's row.
+--   finished-few, steps-few, peak-few, in-use-few, row-fits
 -- Assumes nothing.
-use mathlib.Core.Bool.{_&&_}
+use mathlib.Core.Path.{_≡_, refl, sym, ap, subst, _∙_}
+use mathlib.Core.Bool.{Bool, true, false, _&&_, cond}
 use mathlib.Core.List.{List}
 use Prim.Native.Nat.{ℕ, suc, _*_, _≤_, _<_}
 use native.Mathlib.Omega.{arith}
+use native.Mathlib.Decide.{ℕ-discrete}
 use lib.Dec.{eqb, leb}
 use borrow.Author.Tests.{leb-true}
-use Rattle.rules.specs.Limits.{most-ops, most-attached, most-inbox}
-use Rattle.rules.specs.Sheet.{Sheet, board, P-of, counts-before, inbox-start}
-use Rattle.rules.specs.Refusal.{board-good}
-use Rattle.rules.specs.Job.{Job, place-at}
-use Rattle.laws.specs.Tests.{and-left, and-right}
+use Rattle.rules.specs.Limits.{most-ops, most-attached, most-inbox, any, absent}
+use Rattle.rules.specs.Sheet.{Sheet, op, board, P-of, N-of, rank-of, counts-before, inbox-start, is-send, is-receive, only-half}
+use Rattle.rules.specs.Refusal.{board-good, room-for, op-good}
+use Rattle.rules.specs.Job.{Job, entry, bare-entry, entry-at, place-at}
+use Rattle.rules.specs.Step.{is-cut}
+use Rattle.laws.specs.Tests.{and-left, and-right, not-so}
+use Rattle.laws.specs.Fields.{fields-tag}
+use Rattle.laws.specs.ReportRows.{Fits-row}
 use Rattle.invariant.specs.sheet.Valid.{Valid}
-use Rattle.invariant.specs.Invariant.{Reached}
+use Rattle.invariant.specs.Invariant.{state-at, partner-at, row-of, Reached}
+use Rattle.invariant.specs.sheet.Kinds.{kind-send}
+use Rattle.invariant.specs.sheet.Extents.{send-inside, receive-inside, send-extent}
+use Rattle.invariant.specs.preserve.Rows.{row-bare, row-message, row-receive}
 use Rattle.invariant.specs.preserve.StepCount.{steps-bound}
 
 -- an attached buffer is small (number 5)
@@ -38,3 +46,57 @@ module _ {s : Sheet} (g : Valid s) {lent : List ℕ} {x : Job} (R : Reached s le
 
   pub in-use-few : (r : ℕ) → r < P-of s → place-at x r .in-use ≤ most-attached
   in-use-few r l = omega (arith, R .in-use-peak r, peak-few r l)
+
+  -- a row: partner, source, tag and length are those of an operation of the sheet, or absent
+  send-tag : (m : ℕ) → m < N-of s → op s m .tag ≤ any
+  unfolding op-good
+  send-tag m l = fields-tag (P-of s) (s .comms) (room-for s m) (op s m) (g .ops-good m l)
+
+  bare-fits : (v : ℕ) → Fits-row (bare-entry v)
+  unfolding bare-entry entry
+  bare-fits v =
+      record {
+        partner-fits = omega arith;
+        source-fits = omega arith;
+        tag-fits = omega arith;
+        long-fits = omega arith;
+      }
+
+  message-fits : (q : ℕ) → q < N-of s → Fits-row (entry 3 0 q absent absent 0)
+  unfolding entry
+  message-fits q l =
+      record {
+        partner-fits = omega (arith, g .ops-few);
+        source-fits = omega arith;
+        tag-fits = omega arith;
+        long-fits = omega arith;
+      }
+
+  receive-fits : (c m : ℕ) → is-send (op s m) ≡ true → Fits-row (entry 3 c m (rank-of s m) (op s m .tag) (op s m .long))
+  unfolding entry
+  receive-fits c m sends =
+      let l = send-inside s m sends in
+      record {
+        partner-fits = omega (arith, g .ops-few, l);
+        source-fits = omega (arith, g .rank-small m l, g .boards-few);
+        tag-fits = omega (arith, send-tag m l);
+        long-fits = omega (arith, send-extent s g m sends, g .payload-small);
+      }
+
+  pub row-fits : (j : ℕ) → Fits-row (entry-at x j)
+  row-fits j =
+      subst Fits-row (sym (R .shaped .row j))
+      (go (ℕ-discrete (state-at x j) 3) (is-receive (op s j)) refl)
+    where
+      go : Dec (state-at x j ≡ 3) → (b : Bool) → is-receive (op s j) ≡ b → Fits-row (row-of s j (state-at x j) (partner-at x j))
+      go (no d) b e = subst Fits-row (sym (row-bare s j (state-at x j) (partner-at x j) d)) (bare-fits (state-at x j))
+      go (yes t) true e =
+          let m = partner-at x j in
+          subst Fits-row (sym (ap (λ (v : ℕ). row-of s j v m) t ∙ row-receive s j m e))
+          (receive-fits (cond (is-cut s m j) 1 0) m (R .stable .receive-pair j e t .sends))
+      go (yes t) false e =
+          let q = partner-at x j in
+          let inside = R .placed .entered-only j (omega arith) .0 in
+          let half = not-so (only-half (op s j)) (λ o. R .shaped .only-half-unmatched j o t) in
+          let pair = R .stable .message-pair j (kind-send s g j inside half e) t in
+          subst Fits-row (sym (ap (λ (v : ℕ). row-of s j v q) t ∙ row-message s j q e)) (message-fits q (receive-inside s q (pair .receives)))

@@ -1,15 +1,16 @@
 -- What refusal 6 has settled: the fields of every operation are good. From that, field by field, what the other refusals and the
 -- steps rely on; and how an operation's roles exclude each other. Assumes nothing.
 use mathlib.Core.Path.{_≡_, refl, sym, _∙_}
+use mathlib.Core.Logic.{_⊎_, inl, inr}
 use mathlib.Core.Bool.{Bool, true, false, _&&_, _||_, cond}
 use Prim.Native.Nat.{ℕ, _+_, _<_, _≤_}
 use native.Mathlib.Omega.{arith}
 use lib.Dec.{ltb, leb, eqb}
 use borrow.Author.Tests.{ltb-true, leb-true, eqb-true, ne-eqb}
-use Rattle.rules.specs.Limits.{most-length, slot-limit}
+use Rattle.rules.specs.Limits.{most-length, slot-limit, tag-limit, any}
 use Rattle.rules.specs.Sheet.{Sheet, Op, op, P-of, N-of, is-send, is-receive, is-nonblocking, names-slot, frees-slot, takes-slot}
-use Rattle.rules.specs.Refusal.{fields-good, wait-good, envelope-good, extent-good, slot-good, room-for, op-good, ops-refusal}
-use Rattle.laws.specs.Tests.{and-left, and-right, cond-true, cond-false}
+use Rattle.rules.specs.Refusal.{fields-good, wait-good, or-any, envelope-good, extent-good, slot-good, room-for, op-good, ops-refusal}
+use Rattle.laws.specs.Tests.{and-left, and-right, or-cases, cond-true, cond-false}
 use Rattle.laws.specs.Broken.{broken-passed}
 
 -- of an operation that names a slot
@@ -37,6 +38,12 @@ module _ (o : Op) (g : wait-good o ≡ true) where
       let a = eqb-true (o .offset) 0 (and-right tag offset (and-left (tag && offset) (long && slot) q)) in
       let b = eqb-true (o .long) 0 (and-left long slot (and-right (tag && offset) (long && slot) q)) in
       omega arith
+
+  wait-tag : o .tag ≡ 0
+  unfolding wait-good
+  wait-tag =
+      eqb-true (o .tag) 0 (and-left (eqb (o .tag) 0) (eqb (o .offset) 0)
+      (and-left (eqb (o .tag) 0 && eqb (o .offset) 0) (eqb (o .long) 0 && ltb (o .slot) slot-limit) (and-right front back g)))
 
   pub wait-slot : o .slot < slot-limit
   unfolding wait-good
@@ -106,6 +113,23 @@ module _ (p c room : ℕ) (o : Op) (g : fields-good p c room o ≡ true) where
       go : (b : Bool) → names-slot o ≡ b → o .offset + o .long ≤ room
       go true w = omega (arith, wait-empty o (fields-named w))
       go false w = extent-inside room o (fields-extent w)
+
+  -- a tag, any among them
+  pub fields-tag : o .tag ≤ any
+  unfolding envelope-good or-any
+  fields-tag = go (names-slot o) refl
+    where
+      tagged : (ltb (o .tag) tag-limit ≡ true) ⊎ (is-receive o && eqb (o .tag) any ≡ true) → o .tag ≤ any
+      tagged (inl h) = omega (arith, ltb-true (o .tag) tag-limit h)
+      tagged (inr h) = omega (arith, eqb-true (o .tag) any (and-right (is-receive o) (eqb (o .tag) any) h))
+
+      go : (b : Bool) → names-slot o ≡ b → o .tag ≤ any
+      go true w = omega (arith, wait-tag o (fields-named w))
+      go false w =
+          tagged (or-cases (ltb (o .tag) tag-limit) (is-receive o && eqb (o .tag) any)
+          (and-right (or-any o p (o .peer) && ltb (o .comm) c) (or-any o tag-limit (o .tag))
+          (and-left (envelope-good p c o) (extent-good room o)
+          (and-right (is-send o || is-receive o) (envelope-good p c o && extent-good room o) (fields-transfer w)))))
 
 -- ROLES: what frees a slot names it
 pub frees-names : (o : Op) → frees-slot o ≡ true → names-slot o ≡ true

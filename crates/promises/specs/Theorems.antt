@@ -3,17 +3,18 @@
 --                        by-arrival (claims.Arrivals); stop-reasons, stopping-steps (claims.Stops);
 --                        deliveries, verdicts, in-use, peaks, buffers-hold (claims.OneJob)
 --   run, demand 3        run-ends, ends-alike (claims.EndsAlike); swap-general, swap-same (claims.SwapSame)
---   of the services      follows-alike, run-alike (claims.EndsAlike); follow-swaps (claims.SwapSame)
+--   of the services      follow-reports, run-reports (claims.Reported); follows-alike, run-alike (claims.EndsAlike); follow-swaps (claims.SwapSame)
 -- Assumes nothing.
 use Rattle.promises.specs.Statements.{None-fit, No-overtaking, No-overtaking-receives, By-arrival, Statuses, Send-statuses, Deliveries, Verdicts, Stop-reasons}
 use Rattle.promises.specs.Statements.{Stopping-steps, In-use, Peaks, Buffers-hold, Run-ends, Ends-alike, Swap-same, Swap-general}
-use Rattle.promises.specs.ServiceStatements.{Follows-alike, Run-alike, Follow-swaps}
+use Rattle.promises.specs.ServiceStatements.{Follow-reports, Run-reports, Follows-alike, Run-alike, Follow-swaps}
 use Rattle.promises.specs.claims.Matching
 use Rattle.promises.specs.claims.OneJob
 use Rattle.promises.specs.claims.Arrivals
 use Rattle.promises.specs.claims.Stops
 use Rattle.promises.specs.claims.EndsAlike
 use Rattle.promises.specs.claims.SwapSame
+use Rattle.promises.specs.claims.Reported
 
 -- DEMAND 2
 pub none-fit : None-fit
@@ -68,6 +69,13 @@ swap-same = SwapSame.swap-same
 
 pub swap-general : Swap-general
 swap-general = SwapSame.swap-general
+
+-- DEMAND 2 OF THE SERVICES
+pub follow-reports : Follow-reports
+follow-reports = Reported.follow-reports
+
+pub run-reports : Run-reports
+run-reports = Reported.run-reports
 
 -- DEMAND 3 OF THE SERVICES
 pub follows-alike : Follows-alike

@@ -19,7 +19,7 @@ use Rattle.rules.specs.Report.{board-row, board-rows, op-row, op-rows, report}
 use Rattle.rules.specs.Claims.{rows-without-peaks, without-peaks}
 
 -- LENGTHS
-header-length : (s : Sheet) (x : Job) → length (header-bytes s x) ≡ report-header-size
+pub header-length : (s : Sheet) (x : Job) → length (header-bytes s x) ≡ report-header-size
 unfolding header-bytes low-two stop-bytes
 header-length s x = go (x .stop) refl
   where
@@ -33,7 +33,7 @@ header-length s x = go (x .stop) refl
     go none e = refl
     go (some t) e = refl
 
-board-rows-length : (k r : ℕ) (s : Sheet) (x : Job) → length (board-rows k r s x) ≡ board-row-size * k
+pub board-rows-length : (k r : ℕ) (s : Sheet) (x : Job) → length (board-rows k r s x) ≡ board-row-size * k
 unfolding board-rows
 board-rows-length zero r s x = refl
 board-rows-length (suc k) r s x =
@@ -49,7 +49,7 @@ op-row-length : (e : Entry) → length (op-row e) ≡ op-row-size
 unfolding op-row low-two
 op-row-length e = refl
 
-op-rows-length : (es : List Entry) → length (op-rows es) ≡ op-row-size * length es
+pub op-rows-length : (es : List Entry) → length (op-rows es) ≡ op-row-size * length es
 unfolding op-rows
 op-rows-length [] = refl
 op-rows-length (e ∷ es) = omega (arith, length-append (op-row e) (op-rows es), op-row-length e, op-rows-length es)

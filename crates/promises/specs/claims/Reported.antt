@@ -1,0 +1,139 @@
+-- Demand 2 of the services: what a call of follow or run with number 0 has left in inbox and report keeps every claim about
+-- what is told, since the report tells what its job does.
+--   reported          from a job that an order left
+--   follow-passes, run-passes    number 0 says that the sheet passes
+--   follow-reports, run-reports
+-- Assumes nothing.
+use mathlib.Core.Path.{_≡_, sym, ap, subst, _∙_}
+use mathlib.Core.Bool.{true}
+use mathlib.Core.List.{List, _++_}
+use Prim.Native.Nat.{ℕ}
+use lib.ListN.{length, drop}
+use borrow.Author.Tests.{eq-eqb}
+use Rattle.rules.specs.Limits.{order-room}
+use Rattle.rules.specs.Sheet.{sheet-in, N-of}
+use Rattle.rules.specs.Job.{Job}
+use Rattle.rules.specs.Refusal.{sheet-refusal, or-else}
+use Rattle.rules.specs.Step.{able}
+use Rattle.rules.specs.Order.{follow, run, none-able}
+use Rattle.rules.specs.Report.{report}
+use Rattle.rules.specs.Service.{answers, room-refusal, order-refusal, in-front, follow-refusal, Follow-says, run-refusal, Run-says}
+use Rattle.rules.specs.Claims.{passes, left-by}
+use Rattle.laws.specs.Tests.{true-not-false}
+use Rattle.laws.specs.Tabled.{or-else-first}
+use Rattle.invariant.specs.step.LowestAble.{next-none}
+use Rattle.promises.specs.Statements.{Lent, Told, told-by, None-fit, No-overtaking, No-overtaking-receives, Statuses, Send-statuses}
+use Rattle.promises.specs.Statements.{Delivered, Deliveries, Exact, Verdicts, Stop-reasons, In-use, Buffers-hold, Run-ends}
+use Rattle.promises.specs.Statements.{No-pair-left, Sends-in-order, Receives-in-order, Matched-receives, Matched-sends, Why-stopped, Charged, Within-attached}
+use Rattle.promises.specs.ServiceStatements.{Follow-call, Run-call, told-in, Reported, Follow-reports, Run-reports}
+use Rattle.promises.specs.claims.OneJob.{lent-valid, lent-reached, deliveries, verdicts, in-use, buffers-hold}
+use Rattle.promises.specs.claims.Matching.{none-fit, no-overtaking, no-overtaking-receives, statuses, send-statuses}
+use Rattle.promises.specs.claims.Stops.{stop-reasons}
+use Rattle.promises.specs.claims.EndsAlike.{run-ends}
+use Rattle.promises.specs.claims.Calls.{follow-answer, follow-inbox, follow-report, run-answer}
+use Rattle.promises.specs.claims.Reports.{report-tells}
+
+-- A JOB that an order left, its memory in `inbox` and its report at the front of `out`
+module _ {bs i : List ℕ} (h : Lent bs i) (rs : List ℕ) {inbox out : List ℕ} (old : List ℕ)
+    (memory : inbox ≡ left-by (sheet-in bs) rs i .memory)
+    (written : out ≡ in-front (report (sheet-in bs) (left-by (sheet-in bs) rs i)) old) where
+  abbrev x : Job
+  x = left-by (sheet-in bs) rs i
+
+  tells : told-in (sheet-in bs) out ≡ told-by (sheet-in bs) x
+  unfolding in-front
+  tells = ap (told-in (sheet-in bs)) written ∙ report-tells (lent-valid h) (lent-reached h rs) (drop (length (report (sheet-in bs) x)) old)
+
+  -- a claim about what the job tells is one about what the report tells
+  of-report : (C : Told → Type 0) → C (told-by (sheet-in bs) x) → C (told-in (sheet-in bs) out)
+  of-report C c = subst C (sym tells) c
+
+  pub reported : Reported (sheet-in bs) i inbox out
+  unfolding None-fit No-overtaking No-overtaking-receives Statuses Send-statuses Deliveries Verdicts Stop-reasons In-use Buffers-hold
+  reported =
+      record {
+        none-fit = of-report (No-pair-left (sheet-in bs)) (none-fit bs i rs h);
+        sends-in-order = of-report (Sends-in-order (sheet-in bs)) (no-overtaking bs i rs h);
+        receives-in-order = of-report (Receives-in-order (sheet-in bs)) (no-overtaking-receives bs i rs h);
+        matched-receives = of-report (Matched-receives (sheet-in bs)) (statuses bs i rs h);
+        matched-sends = of-report (Matched-sends (sheet-in bs)) (send-statuses bs i rs h);
+        delivered =
+            of-report (λ t. Delivered (sheet-in bs) t i inbox)
+            (subst (λ (z : List ℕ). Delivered (sheet-in bs) (told-by (sheet-in bs) x) i z) (sym memory) (deliveries bs i rs h));
+        verdict-exact = of-report (Exact (sheet-in bs)) (verdicts bs i rs h);
+        why-stopped = of-report (Why-stopped (sheet-in bs)) (stop-reasons bs i rs h);
+        charged = of-report (Charged (sheet-in bs)) (in-use bs i rs h);
+        within-attached = of-report (Within-attached (sheet-in bs)) (buffers-hold bs i rs h);
+      }
+
+  -- where no board is able the verdict is not 0
+  pub full-verdict : none-able (sheet-in bs) x ≡ true → told-in (sheet-in bs) out .verdict ≡ 0 → ⊥
+  unfolding Exact told-by
+  full-verdict full e =
+      let able-one = reported .verdict-exact .still-able .0 e in
+      let one = ap (λ (t : Told). t .is-able (able-one .0)) (sym tells) ∙ able-one .1 in
+      true-not-false one (next-none (sheet-in bs) (lent-valid h) x full (able-one .0))
+
+-- FOLLOW
+module _ {bs o : List ℕ} (f : Follow-call bs o) (success : f .number ≡ 0) where
+  pub follow-passes : passes bs ≡ true
+  unfolding passes Follow-says answers follow-refusal
+  follow-passes =
+      eq-eqb (sheet-refusal bs .number) 0
+      (or-else-first (sheet-refusal bs)
+      (or-else (room-refusal (sheet-in bs) (length (f .inbox)) (length (f .report)) (order-room (N-of (sheet-in bs))) (length (f .scratch)))
+      (order-refusal (follow (sheet-in bs) o (f .inbox) .refused-at)))
+      (sym (f .said .0 .0) ∙ success))
+
+  follow-lent : Lent bs (f .inbox)
+  follow-lent =
+      record {
+        passing = follow-passes;
+        room = follow-answer follow-passes f .inbox-room;
+      }
+
+pub follow-reports : Follow-reports
+unfolding Follow-reports
+follow-reports bs o f e =
+    let p = follow-passes f e in
+    reported (follow-lent f e) o (f .report) (follow-inbox p f e) (follow-report p f e)
+
+-- RUN
+module _ {bs : List ℕ} (f : Run-call bs) (success : f .number ≡ 0) where
+  pub run-passes : passes bs ≡ true
+  unfolding passes Run-says answers run-refusal
+  run-passes =
+      eq-eqb (sheet-refusal bs .number) 0
+      (or-else-first (sheet-refusal bs)
+      (room-refusal (sheet-in bs) (length (f .inbox)) (length (f .report)) (length (f .order)) (length (f .scratch)))
+      (sym (f .said .0 .0) ∙ success))
+
+  run-lent : Lent bs (f .inbox)
+  run-lent =
+      record {
+        passing = run-passes;
+        room = run-answer run-passes f .inbox-room;
+      }
+
+pub run-reports : Run-reports
+unfolding Run-reports Run-ends
+run-reports bs f e =
+    (reported h order (f .report) memory written, full-verdict h order (f .report) memory written full)
+  where
+    h : Lent bs (f .inbox)
+    h = run-lent f e
+
+    order : List ℕ
+    order = run (sheet-in bs) (f .inbox) .order
+
+    same : left-by (sheet-in bs) order (f .inbox) ≡ run (sheet-in bs) (f .inbox) .end
+    same = run-ends bs (f .inbox) h .same-job
+
+    memory : f .inbox-now ≡ left-by (sheet-in bs) order (f .inbox) .memory
+    memory = run-answer (run-passes f e) f .inbox-is ∙ ap (λ (z : Job). z .memory) (sym same)
+
+    written : f .report-now ≡ in-front (report (sheet-in bs) (left-by (sheet-in bs) order (f .inbox))) (f .report)
+    written = run-answer (run-passes f e) f .report-is ∙ ap (λ (z : Job). in-front (report (sheet-in bs) z) (f .report)) (sym same)
+
+    full : none-able (sheet-in bs) (left-by (sheet-in bs) order (f .inbox)) ≡ true
+    full = ap (λ (z : Job). none-able (sheet-in bs) z) same ∙ run-ends bs (f .inbox) h .none-left
