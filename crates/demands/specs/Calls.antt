@@ -1,14 +1,14 @@
 -- From what follow and run ensure of a call to the conclusions of demand 3. Assumes nothing.
---   verdict-byte, none-left    the report's first byte, and that no board is able where it is not 0
---   follow-demands             two calls of follow
---   follow-and-run             a call of follow and one of run
-use mathlib.Core.Path.{_≡_, refl, sym, ap, subst, _∙_}
+--   verdict-byte, none-left    the report's first byte is the verdict; where it is not 0 no board is able
+--   Follow-seen, Run-seen      what a service's contract says of a call
+--   follow-demands             of two calls of follow
+--   follow-and-run             of a call of follow and one of run
+use mathlib.Core.Path.{_≡_, refl, ap, subst, _∙_}
 use mathlib.Core.Logic.{_≢_}
 use mathlib.Core.Bool.{Bool, true, false}
-use mathlib.Core.List.{List, _∷_, _++_}
+use mathlib.Core.List.{List}
 use Prim.Native.Nat.{ℕ}
-use native.Mathlib.Omega.{arith}
-use lib.ListN.{length, getD}
+use lib.ListN.{getD}
 use Rattle.rules.specs.Sheet.{Sheet, sheet-in}
 use Rattle.rules.specs.Job.{Job}
 use Rattle.rules.specs.Order.{none-able}
@@ -16,11 +16,10 @@ use Rattle.rules.specs.Report.{verdict-of, header-bytes, report}
 use Rattle.rules.specs.Service.{in-front, Follow-says, Run-says}
 use Rattle.rules.specs.Claims.{passes, left-by}
 use Rattle.invariant.specs.step.LowestAble.{next-able}
-use Rattle.sheet.specs.declared.Answer.{Answer}
-use Rattle.promises.specs.Statements.{Follow-call, Run-call, Verdicts, Follows-alike, Run-alike, Follow-swaps}
+use Rattle.promises.specs.Statements.{Lent, Follow-call, Run-call, Verdicts, Follows-alike, Run-alike, Follow-swaps}
 use Rattle.promises.specs.Theorems.{verdicts, follows-alike, run-alike, follow-swaps}
 use Rattle.promises.specs.claims.Calls.{follow-answer, follow-report}
-use Rattle.demands.specs.Demands.{Seen, seen, Compared, Ended, Calls-alike, Two-orders, Exchanged, Follow-demands, Follow-and-run}
+use Rattle.demands.specs.Demands.{Seen, Ended, Calls-alike, Two-orders, Exchanged, Follow-demands, Follow-and-run}
 
 -- NO BOARD IS ABLE, by the report
 verdict-byte : (s : Sheet) (x : Job) (old : List ℕ) → getD (in-front (report s x) old) 0 0 ≡ verdict-of (x .stop) s x
@@ -41,15 +40,19 @@ none-left {bs} {o} p f success differs = go (none-able s x) refl
     byte : getD (f .report-now) 0 0 ≡ verdict-of (x .stop) s x
     byte = ap (λ (r : List ℕ). getD r 0 0) (follow-report p f success) ∙ verdict-byte s x (f .report)
 
-    go : (b : Bool) → none-able s x ≡ b → b ≡ true
-    go true e = refl
-    go false e =
-        absurd (differs (byte ∙ verdicts bs (f .inbox) o (record {
+    lent : Lent bs (f .inbox)
+    lent =
+        record {
           passing = p;
           room = follow-answer p f .inbox-room;
-        }) .still-able .1 (next-able s x e)))
+        }
 
--- CALLS: what the contract says of one, in what its caller saw and the rooms beside, and the call as promises has it
+    go : (b : Bool) → none-able s x ≡ b → b ≡ true
+    go true e = refl
+    go false e = absurd (differs (byte ∙ verdicts bs (f .inbox) o lent .still-able .1 (next-able s x e)))
+
+-- CALLS: what a service's contract says of a call, in what the caller saw of it and the other rooms; and the same call as
+-- promises has it, once number 8 does not refuse it
 pub record Follow-seen (bs order : List ℕ) (f : Seen) : Type 0 where
   pub report : List ℕ
   pub scratch : List ℕ
@@ -101,28 +104,29 @@ run-call {bs} {f} h not-short =
     }
 
 -- DEMAND 3
-two-orders : {bs o q : List ℕ} {f g : Seen} → Follow-seen bs o f → Follow-seen bs q g → Two-orders bs f g
-unfolding Two-orders Ended Calls-alike Follows-alike
-two-orders {bs} {o} {q} {f} {g} a b h end-f end-g =
-    let F = follow-call a (h .not-short) in
-    let G = follow-call b (h .not-short-too) in
-    follows-alike bs o q F G (h .passing) (h .calm-sheet) (h .same-start) (end-f .0) (end-g .0)
-    (none-left (h .passing) F (end-f .0) (end-f .1)) (none-left (h .passing) G (end-g .0) (end-g .1))
+module _ {bs one other : List ℕ} {f g : Seen} (a : Follow-seen bs one f) (b : Follow-seen bs other g) where
+  two-orders : Two-orders bs f g
+  unfolding Two-orders Ended Calls-alike Follows-alike
+  two-orders h end-f end-g =
+      let F = follow-call a (h .not-short) in
+      let G = follow-call b (h .not-short-too) in
+      follows-alike bs one other F G (h .passing) (h .calm-sheet) (h .same-start) (end-f .0) (end-g .0)
+      (none-left (h .passing) F (end-f .0) (end-f .1)) (none-left (h .passing) G (end-g .0) (end-g .1))
 
-exchanged : {bs o q : List ℕ} {f g : Seen} → Follow-seen bs o f → Follow-seen bs q g → Exchanged bs o q f g
-unfolding Exchanged Calls-alike Follow-swaps
-exchanged {bs} {o} {q} {f} {g} a b before after j k order-is other-is h =
-    follow-swaps bs before after j k
-    (follow-call (subst (λ (z : List ℕ). Follow-seen bs z f) order-is a) (h .not-short))
-    (follow-call (subst (λ (z : List ℕ). Follow-seen bs z g) other-is b) (h .not-short-too)) (h .passing) (h .calm-sheet)
-    (h .same-start)
+  exchanged : Exchanged bs one other f g
+  unfolding Exchanged Calls-alike Follow-swaps
+  exchanged before after p q one-is other-is h =
+      follow-swaps bs before after p q
+      (follow-call (subst (λ (o : List ℕ). Follow-seen bs o f) one-is a) (h .not-short))
+      (follow-call (subst (λ (o : List ℕ). Follow-seen bs o g) other-is b) (h .not-short-too))
+      (h .passing) (h .calm-sheet) (h .same-start)
 
-pub follow-demands : {bs o q : List ℕ} {f g : Seen} → Follow-seen bs o f → Follow-seen bs q g → Follow-demands bs o q f g
-follow-demands a b =
-    record {
-      end-alike = two-orders a b;
-      exchange = exchanged a b;
-    }
+  pub follow-demands : Follow-demands bs one other f g
+  follow-demands =
+      record {
+        end-alike = two-orders;
+        exchange = exchanged;
+      }
 
 pub follow-and-run : {bs o : List ℕ} {f g : Seen} → Follow-seen bs o f → Run-seen bs g → Follow-and-run bs f g
 unfolding Follow-and-run Ended Calls-alike Run-alike

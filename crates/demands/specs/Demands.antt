@@ -40,8 +40,11 @@ pub record Compared (bs : List ℕ) (f g : Seen) : Type 0 where
 unfoldable pub Ended : Seen → Type 0
 Ended f = (f .answer .number ≡ 0) × (getD (f .report-now) 0 0 ≢ 0)
 
+-- inboxes and reports end equal byte for byte, save the peaks, as far as the sheet's own room goes
 unfoldable pub Calls-alike : (bs : List ℕ) (f g : Seen) → Type 0
 Calls-alike bs f g = Left-alike bs (f .inbox-now) (f .report-now) (g .inbox-now) (g .report-now)
+
+-- DEMAND 3 of two calls of follow on one sheet
 
 -- For every two orders that follow accepts and after which no board is able, follow ends alike.
 unfoldable pub Two-orders : (bs : List ℕ) (f g : Seen) → Type 0
@@ -50,9 +53,9 @@ Two-orders bs f g = Compared bs f g → Ended f → Ended g → Calls-alike bs f
 -- For every order and every index in it: where follow accepts the beginning before that index, and the next two ranks differ
 -- and are both able there, the order with these two exchanged gets the same number and place, whatever stands after them.
 -- With number 0, follow ends alike for both.
-unfoldable pub Exchanged : (bs order other : List ℕ) (f g : Seen) → Type 0
-Exchanged bs order other f g =
-    (before after : List ℕ) (p q : ℕ) → order ≡ before ++ (p ∷ q ∷ after) → other ≡ before ++ (q ∷ p ∷ after) →
+unfoldable pub Exchanged : (bs order exchanged : List ℕ) (f g : Seen) → Type 0
+Exchanged bs order exchanged f g =
+    (before after : List ℕ) (p q : ℕ) → order ≡ before ++ (p ∷ q ∷ after) → exchanged ≡ before ++ (q ∷ p ∷ after) →
     Compared bs f g →
     let s = sheet-in bs in
     let x = left-by s before (f .inbox) in
@@ -60,11 +63,12 @@ Exchanged bs order other f g =
     (f .answer .number ≡ g .answer .number) × (f .answer .place ≡ g .answer .place)
     × (f .answer .number ≡ 0 → Calls-alike bs f g)
 
--- Both, of two calls of follow on one sheet.
-pub record Follow-demands (bs order other : List ℕ) (f g : Seen) : Type 0 where
+pub record Follow-demands (bs one other : List ℕ) (f g : Seen) : Type 0 where
   pub end-alike : Two-orders bs f g
-  pub exchange : Exchanged bs order other f g
+  pub exchange : Exchanged bs one other f g
 
--- And run ends alike with each order that follow accepts and after which no board is able: f is the call of follow, g of run.
+-- DEMAND 3 of a call of follow, f, and one of run, g
+
+-- Run ends alike with every order that follow accepts and after which no board is able.
 unfoldable pub Follow-and-run : (bs : List ℕ) (f g : Seen) → Type 0
 Follow-and-run bs f g = Compared bs f g → Ended f → (g .answer .number ≡ 0) × Calls-alike bs f g

@@ -6,8 +6,9 @@ use Rattle.demands.proofs.follow_and_run.Tie as tie
 
 returns : tie.Need-returns
 returns c =
-    let second = c .before .before .before .before .before .before .before .before .jamturret-run in
-    let k = c .before .before .before .before .before .before .before .before .before .before .before .before .before .before .before .before .before .before .before in
+    let later = c .before .before .before .before .before .before .before .before in
+    let second = later .jamturret-run in
+    let k = later .before .before .before .before .before .before .before .before .before .before .before in
     let first = k .jamturret-follow in
     let a = k .before .before .before .before .before .before .before .before .before .before .before .before .args in
     follow-and-run

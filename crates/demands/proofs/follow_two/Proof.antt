@@ -6,8 +6,9 @@ use Rattle.demands.proofs.follow_two.Tie as tie
 
 returns : tie.Need-returns
 returns c =
-    let second = c .before .before .before .before .before .before .jamturret-follow2 in
-    let k = c .before .before .before .before .before .before .before .before .before .before .before .before .before .before .before .before in
+    let later = c .before .before .before .before .before .before in
+    let second = later .jamturret-follow2 in
+    let k = later .before .before .before .before .before .before .before .before .before .before in
     let first = k .jamturret-follow in
     let a = k .before .before .before .before .before .before .before .before .before .before .before .before .args in
     follow-demands
