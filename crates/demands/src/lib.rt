@@ -35,7 +35,7 @@ pub fn follow_two(
     }
 }
 
-// FOLLOW a sheet with an order, and RUN it, each from and into rooms of its own.
+// FOLLOW a sheet with an order, and RUN it, each from and into rooms of its own; `order2` is room for the order that run takes.
 pub fn follow_and_run(
     sheet: &[u8],
     order1: &[u8],
