@@ -2,8 +2,6 @@
 --   Chain      refusals in their order
 --   Rooms      refusal 8
 --   Outcomes   what follow and run do once sheet and rooms are accepted, and the whole outcome from that
---   Alike      demand 3 of follow and run themselves
 pub mod Chain
 pub mod Rooms
 pub mod Outcomes
-pub mod Alike

@@ -1,0 +1,74 @@
+-- Demand 3 as callers of the services see it (document 01, "What is pinned down"): of answers, and of the bytes of rooms
+-- before and after the calls. Assumes nothing: these are definitions.
+use mathlib.Core.Path.{_≡_}
+use mathlib.Core.Logic.{_≢_}
+use mathlib.Core.Bool.{true}
+use mathlib.Core.List.{List, _∷_, _++_}
+use Prim.Native.Nat.{ℕ}
+use lib.ListN.{getD}
+use Rattle.rules.specs.Sheet.{sheet-in}
+use Rattle.rules.specs.Step.{able}
+use Rattle.rules.specs.Claims.{passes, calm, accepts, left-by}
+use Rattle.sheet.specs.declared.Answer.{Answer}
+use Rattle.promises.specs.Statements.{Same-start, Left-alike}
+
+-- what a caller sees of a call of follow or run: the answer, the inbox that was lent, inbox and report as the call left them
+pub record Seen : Type 0 where
+  pub answer : Answer
+  pub inbox : List ℕ
+  pub inbox-now : List ℕ
+  pub report-now : List ℕ
+
+abbrev pub seen : Answer → (inbox inbox-now report-now : List ℕ) → Seen
+seen a i i-now r-now =
+    record {
+      answer = a;
+      inbox = i;
+      inbox-now = i-now;
+      report-now = r-now;
+    }
+
+-- THE PREMISE: the sheet passes check and is calm; 8 refuses neither call; the inboxes start with the same bytes
+pub record Compared (bs : List ℕ) (f g : Seen) : Type 0 where
+  pub passing : passes bs ≡ true
+  pub calm-sheet : calm (sheet-in bs) ≡ true
+  pub not-short : f .answer .number ≢ 8
+  pub not-short-too : g .answer .number ≢ 8
+  pub same-start : Same-start bs (f .inbox) (g .inbox)
+
+-- follow accepted the order, and after it no board is able: the verdict, the report's first byte, is not 0
+unfoldable pub Ended : Seen → Type 0
+Ended f = (f .answer .number ≡ 0) × (getD (f .report-now) 0 0 ≢ 0)
+
+-- inboxes and reports end equal byte for byte, save the peaks, as far as the sheet's own room goes
+unfoldable pub Calls-alike : (bs : List ℕ) (f g : Seen) → Type 0
+Calls-alike bs f g = Left-alike bs (f .inbox-now) (f .report-now) (g .inbox-now) (g .report-now)
+
+-- DEMAND 3 of two calls of follow on one sheet
+
+-- For every two orders that follow accepts and after which no board is able, follow ends alike.
+unfoldable pub Two-orders : (bs : List ℕ) (f g : Seen) → Type 0
+Two-orders bs f g = Compared bs f g → Ended f → Ended g → Calls-alike bs f g
+
+-- For every order and every index in it: where follow accepts the beginning before that index, and the next two ranks differ
+-- and are both able there, the order with these two exchanged gets the same number and place, whatever stands after them.
+-- With number 0, follow ends alike for both.
+unfoldable pub Exchanged : (bs order exchanged : List ℕ) (f g : Seen) → Type 0
+Exchanged bs order exchanged f g =
+    (before after : List ℕ) (p q : ℕ) → order ≡ before ++ (p ∷ q ∷ after) → exchanged ≡ before ++ (q ∷ p ∷ after) →
+    Compared bs f g →
+    let s = sheet-in bs in
+    let x = left-by s before (f .inbox) in
+    accepts s before (f .inbox) ≡ true → p ≢ q → able s x p ≡ true → able s x q ≡ true →
+    (f .answer .number ≡ g .answer .number) × (f .answer .place ≡ g .answer .place)
+    × (f .answer .number ≡ 0 → Calls-alike bs f g)
+
+pub record Follow-demands (bs one other : List ℕ) (f g : Seen) : Type 0 where
+  pub end-alike : Two-orders bs f g
+  pub exchange : Exchanged bs one other f g
+
+-- DEMAND 3 of a call of follow, f, and one of run, g
+
+-- Run ends alike with every order that follow accepts and after which no board is able.
+unfoldable pub Follow-and-run : (bs : List ℕ) (f g : Seen) → Type 0
+Follow-and-run bs f g = Compared bs f g → Ended f → (g .answer .number ≡ 0) × Calls-alike bs f g

@@ -1,0 +1,59 @@
+// Demand 3 of the services themselves (document 01, "What is pinned down"): small functions that call follow and run and ensure
+// its conclusions, with no `requires`. Their proofs know of a service only what its contract says, so a contract that is
+// weakened fails here.
+ghost use Rattle.demands.specs.Demands.{seen, Follow-demands, Follow-and-run};
+use jamturret::jamturret_follow;
+use jamturret::jamturret_run;
+use sheet::Answer;
+
+// What two calls answered.
+pub struct Answers {
+    pub first: Answer,
+    pub second: Answer,
+}
+
+// FOLLOW a sheet with two orders, each from and into rooms of its own: any two, and an order and its exchange among them.
+pub fn follow_two(
+    sheet: &[u8],
+    order1: &[u8],
+    order2: &[u8],
+    inbox1: &mut [u8],
+    report1: &mut [u8],
+    inbox2: &mut [u8],
+    report2: &mut [u8],
+    scratch: &mut [u8],
+) -> Answers
+    ensures { λ a. ⌜ Follow-demands (now (sheet .entry)) (now (order1 .entry)) (now (order2 .entry))
+        (seen (a .first) (now (inbox1 .entry)) (now (inbox1 .exit)) (now (report1 .exit)))
+        (seen (a .second) (now (inbox2 .entry)) (now (inbox2 .exit)) (now (report2 .exit))) ⌝ }
+{
+    let first = jamturret_follow(sheet, order1, inbox1, report1, scratch);
+    let second = jamturret_follow(sheet, order2, inbox2, report2, scratch);
+    Answers {
+        first: first,
+        second: second,
+    }
+}
+
+// FOLLOW a sheet with an order, and RUN it, each from and into rooms of its own; `order2` is room for the order that run takes.
+pub fn follow_and_run(
+    sheet: &[u8],
+    order1: &[u8],
+    inbox1: &mut [u8],
+    report1: &mut [u8],
+    inbox2: &mut [u8],
+    report2: &mut [u8],
+    order2: &mut [u8],
+    scratch: &mut [u8],
+) -> Answers
+    ensures { λ a. ⌜ Follow-and-run (now (sheet .entry))
+        (seen (a .first) (now (inbox1 .entry)) (now (inbox1 .exit)) (now (report1 .exit)))
+        (seen (a .second) (now (inbox2 .entry)) (now (inbox2 .exit)) (now (report2 .exit))) ⌝ }
+{
+    let first = jamturret_follow(sheet, order1, inbox1, report1, scratch);
+    let second = jamturret_run(sheet, inbox2, report2, order2, scratch);
+    Answers {
+        first: first,
+        second: second,
+    }
+}
