@@ -1,25 +1,38 @@
--- From what follow and run ensure of a call to the conclusions of demand 3. Assumes nothing.
+-- From what the services ensure of a call to the conclusions of the demands. Assumes nothing.
 --   verdict-byte, none-left    the report's first byte is the verdict; where it is not 0 no board is able
 --   Follow-seen, Run-seen      what a service's contract says of a call
+--   check-and-follow           of a call of check and one of follow
+--   run-keeps                  of a call of run
 --   follow-demands             of two calls of follow
 --   follow-and-run             of a call of follow and one of run
-use mathlib.Core.Path.{_≡_, refl, ap, subst, _∙_}
+use mathlib.Core.Path.{_≡_, refl, sym, ap, subst, _∙_}
 use mathlib.Core.Logic.{_≢_}
 use mathlib.Core.Bool.{Bool, true, false}
 use mathlib.Core.List.{List}
-use Prim.Native.Nat.{ℕ}
-use lib.ListN.{getD}
-use Rattle.rules.specs.Sheet.{Sheet, sheet-in}
+use mathlib.Core.Option.{Option, none, some}
+use Prim.Native.Nat.{ℕ, _≤_}
+use native.Mathlib.Omega.{arith}
+use lib.Dec.{eqb}
+use lib.ListN.{length, getD}
+use borrow.Author.Tests.{eq-eqb, ne-eqb}
+use Rattle.rules.specs.Limits.{order-room}
+use Rattle.rules.specs.Sheet.{Sheet, sheet-in, N-of}
 use Rattle.rules.specs.Job.{Job}
-use Rattle.rules.specs.Order.{none-able}
+use Rattle.rules.specs.Refusal.{Refusal, refusal, or-else, sheet-refusal}
+use Rattle.rules.specs.Order.{follow, none-able}
 use Rattle.rules.specs.Report.{verdict-of, header-bytes, report}
-use Rattle.rules.specs.Service.{in-front, Follow-says, Run-says}
+use Rattle.rules.specs.Service.{answers, room-refusal, order-refusal, in-front, kept-or, Check-says, follow-refusal, Follow-says, Run-says}
 use Rattle.rules.specs.Claims.{passes, left-by}
+use Rattle.sheet.specs.declared.Answer.{Answer}
+use Rattle.laws.specs.Tests.{cond-false}
+use Rattle.laws.specs.Broken.{or-else-stopped}
 use Rattle.invariant.specs.step.LowestAble.{next-able}
-use Rattle.promises.specs.Statements.{Lent, Follow-call, Run-call, Verdicts, Follows-alike, Run-alike, Follow-swaps}
-use Rattle.promises.specs.Theorems.{verdicts, follows-alike, run-alike, follow-swaps}
+use Rattle.promises.specs.Statements.{Lent, told-by, Exact, Verdicts}
+use Rattle.promises.specs.ServiceStatements.{Follow-call, Run-call, told-in, Follow-reports, Run-reports, Follows-alike, Run-alike, Follow-swaps}
+use Rattle.promises.specs.Theorems.{verdicts, follow-reports, run-reports, follows-alike, run-alike, follow-swaps}
 use Rattle.promises.specs.claims.Calls.{follow-answer, follow-report}
-use Rattle.demands.specs.Demands.{Seen, Ended, Calls-alike, Two-orders, Exchanged, Follow-demands, Follow-and-run}
+use Rattle.promises.specs.claims.Reported.{follow-passes, run-passes}
+use Rattle.demands.specs.Demands.{Seen, Kept-rules, Same-answer, Check-and-follow, Run-keeps, Ended, Calls-alike, Two-orders, Exchanged, Follow-demands, Follow-and-run}
 
 -- NO BOARD IS ABLE, by the report
 verdict-byte : (s : Sheet) (x : Job) (old : List ℕ) → getD (in-front (report s x) old) 0 0 ≡ verdict-of (x .stop) s x
@@ -28,7 +41,7 @@ verdict-byte s x old = refl
 
 none-left : {bs o : List ℕ} → passes bs ≡ true → (f : Follow-call bs o) → f .number ≡ 0 → getD (f .report-now) 0 0 ≢ 0 →
     none-able (sheet-in bs) (left-by (sheet-in bs) o (f .inbox)) ≡ true
-unfolding Verdicts
+unfolding Verdicts Exact told-by
 none-left {bs} {o} p f success differs = go (none-able s x) refl
   where
     s : Sheet
@@ -54,21 +67,17 @@ none-left {bs} {o} p f success differs = go (none-able s x) refl
 -- CALLS: what a service's contract says of a call, in what the caller saw of it and the other rooms; and the same call as
 -- promises has it, once number 8 does not refuse it
 pub record Follow-seen (bs order : List ℕ) (f : Seen) : Type 0 where
-  pub report : List ℕ
   pub scratch : List ℕ
   pub scratch-now : List ℕ
   pub said :
-      Follow-says bs order (f .answer .number) (f .answer .place) (f .inbox) (f .inbox-now) report (f .report-now)
+      Follow-says bs order (f .answer .number) (f .answer .place) (f .inbox) (f .inbox-now) (f .report) (f .report-now)
       scratch scratch-now
 
-pub record Run-seen (bs : List ℕ) (f : Seen) : Type 0 where
-  pub report : List ℕ
-  pub order : List ℕ
-  pub order-now : List ℕ
+pub record Run-seen (bs : List ℕ) (f : Seen) (order order-now : List ℕ) : Type 0 where
   pub scratch : List ℕ
   pub scratch-now : List ℕ
   pub said :
-      Run-says bs (f .answer .number) (f .answer .place) (f .inbox) (f .inbox-now) report (f .report-now) order order-now
+      Run-says bs (f .answer .number) (f .answer .place) (f .inbox) (f .inbox-now) (f .report) (f .report-now) order order-now
       scratch scratch-now
 
 abbrev follow-call : {bs o : List ℕ} {f : Seen} → Follow-seen bs o f → f .answer .number ≢ 8 → Follow-call bs o
@@ -78,7 +87,7 @@ follow-call {bs} {o} {f} h not-short =
       place = f .answer .place;
       inbox = f .inbox;
       inbox-now = f .inbox-now;
-      report = h .report;
+      report = f .report;
       report-now = f .report-now;
       scratch = h .scratch;
       scratch-now = h .scratch-now;
@@ -86,22 +95,101 @@ follow-call {bs} {o} {f} h not-short =
       not-short = not-short;
     }
 
-abbrev run-call : {bs : List ℕ} {f : Seen} → Run-seen bs f → f .answer .number ≢ 8 → Run-call bs
-run-call {bs} {f} h not-short =
+abbrev run-call : {bs : List ℕ} {f : Seen} {o o-now : List ℕ} → Run-seen bs f o o-now → f .answer .number ≢ 8 → Run-call bs
+run-call {bs} {f} {o} {o-now} h not-short =
     record {
       number = f .answer .number;
       place = f .answer .place;
       inbox = f .inbox;
       inbox-now = f .inbox-now;
-      report = h .report;
+      report = f .report;
       report-now = f .report-now;
-      order = h .order;
-      order-now = h .order-now;
+      order = o;
+      order-now = o-now;
       scratch = h .scratch;
       scratch-now = h .scratch-now;
       said = h .said;
       not-short = not-short;
     }
+
+-- DEMANDS 1 AND 2
+-- what a refusal leaves
+left-kept : {n number : ℕ} (new old : List ℕ) {now : List ℕ} → n ≡ number → n ≢ 0 → now ≡ kept-or number new old → now ≡ old
+unfolding kept-or
+left-kept {n} {number} new old e h k = k ∙ cond-false (eqb number 0) new old (ne-eqb number 0 (λ z. h (e ∙ z)))
+
+module _ {bs o : List ℕ} {f : Seen} (a : Follow-seen bs o f) where
+  abbrev follow-success : f .answer .number ≡ 0 → Follow-call bs o
+  follow-success e = follow-call a (λ z. omega arith)
+
+  follow-keeps : Kept-rules bs f
+  unfolding Follow-says answers Follow-reports
+  follow-keeps =
+      record {
+        refused =
+            λ h. (
+              left-kept _ (f .inbox) (a .said .0 .0) h (a .said .1),
+              left-kept _ (f .report) (a .said .0 .0) h (a .said .2),
+            );
+        passing = λ e. follow-passes (follow-success e) e;
+        reported = λ e. follow-reports bs o (follow-success e) e;
+      }
+
+  module _ (checked : Answer) (c : Check-says bs (checked .number) (checked .place)) where
+    -- a refusal of the sheet is the call's
+    sheet-first : checked .number ≢ 0 → Same-answer (f .answer) checked
+    unfolding Check-says Follow-says answers follow-refusal Same-answer
+    sheet-first h =
+        let rest = or-else (room-refusal (sheet-in bs) (length (f .inbox)) (length (f .report)) (order-room (N-of (sheet-in bs))) (length (a .scratch)))
+        (order-refusal (follow (sheet-in bs) o (f .inbox) .refused-at)) in
+        let same = or-else-stopped (sheet-refusal bs) rest (λ z. h (c .0 ∙ z)) in
+        (a .said .0 .0 ∙ ap (λ (r : Refusal). r .number) same ∙ sym (c .0), a .said .0 .1 ∙ ap (λ (r : Refusal). r .place) same ∙ sym (c .1))
+
+    -- where the sheet passes, a call that 8 does not refuse answers 0 or 9
+    order-number : (k : Option ℕ) → order-refusal k .number ≢ 0 → order-refusal k .number ≤ 7 → ⊥
+    unfolding order-refusal refusal
+    order-number none h l = h refl
+    order-number (some k) h l = omega arith
+
+    after-passing : checked .number ≡ 0 → f .answer .number ≢ 0 → f .answer .number ≤ 7 → ⊥
+    unfolding Check-says answers passes
+    after-passing z h l =
+        let call = follow-call a (λ e. omega arith) in
+        let number = follow-answer (eq-eqb (sheet-refusal bs .number) 0 (sym (c .0) ∙ z)) call .number-is in
+        order-number (follow (sheet-in bs) o (f .inbox) .refused-at) (λ e. h (number ∙ e)) (omega (arith, number))
+
+    pub check-and-follow : Check-and-follow bs checked f
+    check-and-follow =
+        record {
+          agrees =
+              record {
+                refused = sheet-first;
+                refuses = λ h l. sheet-first (λ z. after-passing z h l);
+              };
+          keeps = follow-keeps;
+        }
+
+module _ {bs : List ℕ} {f : Seen} {o o-now : List ℕ} (a : Run-seen bs f o o-now) where
+  abbrev run-success : f .answer .number ≡ 0 → Run-call bs
+  run-success e = run-call a (λ z. omega arith)
+
+  pub run-keeps : Run-keeps bs f o o-now
+  unfolding Run-says answers Run-reports told-in
+  run-keeps =
+      record {
+        keeps =
+            record {
+              refused =
+                  λ h. (
+                    left-kept _ (f .inbox) (a .said .0 .0) h (a .said .1),
+                    left-kept _ (f .report) (a .said .0 .0) h (a .said .2),
+                  );
+              passing = λ e. run-passes (run-success e) e;
+              reported = λ e. run-reports bs (run-success e) e .0;
+            };
+        order-kept = λ h. left-kept _ o (a .said .0 .0) h (a .said .3);
+        ended = λ e. run-reports bs (run-success e) e .1;
+      }
 
 -- DEMAND 3
 module _ {bs one other : List ℕ} {f g : Seen} (a : Follow-seen bs one f) (b : Follow-seen bs other g) where
@@ -128,7 +216,8 @@ module _ {bs one other : List ℕ} {f g : Seen} (a : Follow-seen bs one f) (b : 
         exchange = exchanged;
       }
 
-pub follow-and-run : {bs o : List ℕ} {f g : Seen} → Follow-seen bs o f → Run-seen bs g → Follow-and-run bs f g
+pub follow-and-run : {bs o : List ℕ} {f g : Seen} {w w-now : List ℕ} → Follow-seen bs o f → Run-seen bs g w w-now →
+    Follow-and-run bs f g
 unfolding Follow-and-run Ended Calls-alike Run-alike
 follow-and-run {bs} {o} a b h end-f =
     let F = follow-call a (h .not-short) in

@@ -1,32 +1,65 @@
--- Demand 3 as callers of the services see it (document 01, "What is pinned down"): of answers, and of the bytes of rooms
--- before and after the calls. Assumes nothing: these are definitions.
+-- The three demands as callers of the services see them (document 01, "What is pinned down"): of answers, and of the bytes of
+-- rooms before and after the calls. Assumes nothing: these are definitions.
 use mathlib.Core.Path.{_≡_}
 use mathlib.Core.Logic.{_≢_}
 use mathlib.Core.Bool.{true}
 use mathlib.Core.List.{List, _∷_, _++_}
-use Prim.Native.Nat.{ℕ}
+use Prim.Native.Nat.{ℕ, _≤_}
 use lib.ListN.{getD}
 use Rattle.rules.specs.Sheet.{sheet-in}
 use Rattle.rules.specs.Step.{able}
 use Rattle.rules.specs.Claims.{passes, calm, accepts, left-by}
 use Rattle.sheet.specs.declared.Answer.{Answer}
-use Rattle.promises.specs.Statements.{Same-start, Left-alike}
+use Rattle.promises.specs.ServiceStatements.{Reported, Same-start, Left-alike}
 
--- what a caller sees of a call of follow or run: the answer, the inbox that was lent, inbox and report as the call left them
+-- what a caller sees of a call of follow or run: the answer, and inbox and report as they were lent and as the call left them
 pub record Seen : Type 0 where
   pub answer : Answer
   pub inbox : List ℕ
   pub inbox-now : List ℕ
+  pub report : List ℕ
   pub report-now : List ℕ
 
-abbrev pub seen : Answer → (inbox inbox-now report-now : List ℕ) → Seen
-seen a i i-now r-now =
+abbrev pub seen : Answer → (inbox inbox-now report report-now : List ℕ) → Seen
+seen a i i-now r r-now =
     record {
       answer = a;
       inbox = i;
       inbox-now = i-now;
+      report = r;
       report-now = r-now;
     }
+
+-- the verdict is the report's first byte
+abbrev pub verdict-in : Seen → ℕ
+verdict-in f = getD (f .report-now) 0 0
+
+-- DEMANDS 1 AND 2 of one call of follow or run
+
+-- A refusal puts nothing in inbox and report. With number 0 the sheet passes check, and what inbox and report then say keeps
+-- the rules (promises: Reported).
+pub record Kept-rules (bs : List ℕ) (f : Seen) : Type 0 where
+  pub refused : f .answer .number ≢ 0 → (f .inbox-now ≡ f .inbox) × (f .report-now ≡ f .report)
+  pub passing : f .answer .number ≡ 0 → passes bs ≡ true
+  pub reported : f .answer .number ≡ 0 → Reported (sheet-in bs) (f .inbox) (f .inbox-now) (f .report-now)
+
+-- Check refuses exactly what follow refuses with 1 to 7, with the same number and place.
+unfoldable pub Same-answer : (a b : Answer) → Type 0
+Same-answer a b = (a .number ≡ b .number) × (a .place ≡ b .place)
+
+pub record Check-agrees (checked : Answer) (f : Seen) : Type 0 where
+  pub refused : checked .number ≢ 0 → Same-answer (f .answer) checked
+  pub refuses : f .answer .number ≢ 0 → f .answer .number ≤ 7 → Same-answer (f .answer) checked
+
+pub record Check-and-follow (bs : List ℕ) (checked : Answer) (f : Seen) : Type 0 where
+  pub agrees : Check-agrees checked f
+  pub keeps : Kept-rules bs f
+
+-- Of run also: a refusal puts nothing in order out, and with number 0 no board is able, so the verdict is not 0.
+pub record Run-keeps (bs : List ℕ) (f : Seen) (order order-now : List ℕ) : Type 0 where
+  pub keeps : Kept-rules bs f
+  pub order-kept : f .answer .number ≢ 0 → order-now ≡ order
+  pub ended : f .answer .number ≡ 0 → verdict-in f ≢ 0
 
 -- THE PREMISE: the sheet passes check and is calm; 8 refuses neither call; the inboxes start with the same bytes
 pub record Compared (bs : List ℕ) (f g : Seen) : Type 0 where
@@ -38,7 +71,7 @@ pub record Compared (bs : List ℕ) (f g : Seen) : Type 0 where
 
 -- follow accepted the order, and after it no board is able: the verdict, the report's first byte, is not 0
 unfoldable pub Ended : Seen → Type 0
-Ended f = (f .answer .number ≡ 0) × (getD (f .report-now) 0 0 ≢ 0)
+Ended f = (f .answer .number ≡ 0) × (verdict-in f ≢ 0)
 
 -- inboxes and reports end equal byte for byte, save the peaks, as far as the sheet's own room goes
 unfoldable pub Calls-alike : (bs : List ℕ) (f g : Seen) → Type 0

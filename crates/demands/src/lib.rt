@@ -1,7 +1,8 @@
-// Demand 3 of the services themselves (document 01, "What is pinned down"): small functions that call follow and run and ensure
-// its conclusions, with no `requires`. Their proofs know of a service only what its contract says, so a contract that is
-// weakened fails here.
-ghost use Rattle.demands.specs.Demands.{seen, Follow-demands, Follow-and-run};
+// The demands of the services themselves (document 01, "What is pinned down"): small functions that call the services and
+// ensure the demands' conclusions, with no `requires`. Their proofs know of a service only what its contract says, so a
+// contract that is weakened fails here.
+ghost use Rattle.demands.specs.Demands.{seen, Check-and-follow, Run-keeps, Follow-demands, Follow-and-run};
+use jamturret::jamturret_check;
 use jamturret::jamturret_follow;
 use jamturret::jamturret_run;
 use sheet::Answer;
@@ -10,6 +11,40 @@ use sheet::Answer;
 pub struct Answers {
     pub first: Answer,
     pub second: Answer,
+}
+
+// CHECK a sheet, and FOLLOW it with an order: one call of each.
+pub fn check_and_follow(
+    sheet: &[u8],
+    order: &[u8],
+    inbox: &mut [u8],
+    report: &mut [u8],
+    scratch: &mut [u8],
+) -> Answers
+    ensures { λ a. ⌜ Check-and-follow (now (sheet .entry)) (a .first)
+        (seen (a .second) (now (inbox .entry)) (now (inbox .exit)) (now (report .entry)) (now (report .exit))) ⌝ }
+{
+    let first = jamturret_check(sheet);
+    let second = jamturret_follow(sheet, order, inbox, report, scratch);
+    Answers {
+        first: first,
+        second: second,
+    }
+}
+
+// RUN a sheet: one call.
+pub fn run_once(
+    sheet: &[u8],
+    inbox: &mut [u8],
+    report: &mut [u8],
+    order: &mut [u8],
+    scratch: &mut [u8],
+) -> Answer
+    ensures { λ a. ⌜ Run-keeps (now (sheet .entry))
+        (seen a (now (inbox .entry)) (now (inbox .exit)) (now (report .entry)) (now (report .exit)))
+        (now (order .entry)) (now (order .exit)) ⌝ }
+{
+    jamturret_run(sheet, inbox, report, order, scratch)
 }
 
 // FOLLOW a sheet with two orders, each from and into rooms of its own: any two, and an order and its exchange among them.
@@ -24,8 +59,8 @@ pub fn follow_two(
     scratch: &mut [u8],
 ) -> Answers
     ensures { λ a. ⌜ Follow-demands (now (sheet .entry)) (now (order1 .entry)) (now (order2 .entry))
-        (seen (a .first) (now (inbox1 .entry)) (now (inbox1 .exit)) (now (report1 .exit)))
-        (seen (a .second) (now (inbox2 .entry)) (now (inbox2 .exit)) (now (report2 .exit))) ⌝ }
+        (seen (a .first) (now (inbox1 .entry)) (now (inbox1 .exit)) (now (report1 .entry)) (now (report1 .exit)))
+        (seen (a .second) (now (inbox2 .entry)) (now (inbox2 .exit)) (now (report2 .entry)) (now (report2 .exit))) ⌝ }
 {
     let first = jamturret_follow(sheet, order1, inbox1, report1, scratch);
     let second = jamturret_follow(sheet, order2, inbox2, report2, scratch);
@@ -47,8 +82,8 @@ pub fn follow_and_run(
     scratch: &mut [u8],
 ) -> Answers
     ensures { λ a. ⌜ Follow-and-run (now (sheet .entry))
-        (seen (a .first) (now (inbox1 .entry)) (now (inbox1 .exit)) (now (report1 .exit)))
-        (seen (a .second) (now (inbox2 .entry)) (now (inbox2 .exit)) (now (report2 .exit))) ⌝ }
+        (seen (a .first) (now (inbox1 .entry)) (now (inbox1 .exit)) (now (report1 .entry)) (now (report1 .exit)))
+        (seen (a .second) (now (inbox2 .entry)) (now (inbox2 .exit)) (now (report2 .entry)) (now (report2 .exit))) ⌝ }
 {
     let first = jamturret_follow(sheet, order1, inbox1, report1, scratch);
     let second = jamturret_run(sheet, inbox2, report2, order2, scratch);

@@ -13,15 +13,11 @@ returns c =
     let a = k .before .before .before .before .before .before .before .before .before .before .before .before .args in
     follow-and-run
     (record {
-      report = a .report1 .now;
       scratch = a .scratch .now;
       scratch-now = first .last .1 .1 .1 .1 .0;
       said = first .ensures;
     })
     (record {
-      report = a .report2 .now;
-      order = a .order2 .now;
-      order-now = second .last .1 .1 .1 .0;
       scratch = first .last .1 .1 .1 .1 .0;
       scratch-now = second .last .1 .1 .1 .1 .0;
       said = second .ensures;

@@ -13,13 +13,11 @@ returns c =
     let a = k .before .before .before .before .before .before .before .before .before .before .before .before .args in
     follow-demands
     (record {
-      report = a .report1 .now;
       scratch = a .scratch .now;
       scratch-now = first .last .1 .1 .1 .1 .0;
       said = first .ensures;
     })
     (record {
-      report = a .report2 .now;
       scratch = first .last .1 .1 .1 .1 .0;
       scratch-now = second .last .1 .1 .1 .1 .0;
       said = second .ensures;
