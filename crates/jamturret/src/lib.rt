@@ -20,9 +20,9 @@ pub extern "C" fn jamturret_check(sheet: &[u8]) -> Answer
 }
 
 // PREMISE of demand 3: whether the order of steps can matter for a sheet. Refusals 1 to 7; 20 an any-source receive, 21 a ready
-// send, 22 a board whose attached buffer does not cover all its buffered sends; number 0 and place 0 where any two full orders
-// end alike. Shut out, among others: one that answers 0 for every sheet that passes check, and one that takes a buffer for
-// enough that covers each buffered send alone and not all together.
+// send, 22 a board whose attached buffer does not cover all its buffered sends; else number 0 and place 0, and any two full
+// orders end alike. Shut out, among others: one that answers 0 for every sheet that passes check, and one that takes a buffer
+// for enough that covers each buffered send alone and not all of them together.
 #[no_mangle]
 pub extern "C" fn jamturret_premise(sheet: &[u8]) -> Answer
     ensures { λ a. ⌜ Premise-says (now (sheet .entry)) (a .number) (a .place) ⌝ }

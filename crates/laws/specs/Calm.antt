@@ -94,7 +94,8 @@ pub charges-more : (s : Sheet) (from k : ℕ) → from + k < N-of s
 unfolding op N-of
 charges-more s from k l =
     ap all-charges (take-suc rest k no-op (omega (arith, length-drop from (s .ops))))
-    ∙ (charges-last (take k rest) (getD rest k no-op) ∙ ap (λ (o : Op). all-charges (take k rest) + charged o) (getD-drop from (s .ops) k no-op))
+    ∙ (charges-last (take k rest) (getD rest k no-op)
+    ∙ ap (λ (o : Op). all-charges (take k rest) + charged o) (getD-drop from (s .ops) k no-op))
   where
     rest : List Op
     rest = drop from (s .ops)

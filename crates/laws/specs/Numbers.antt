@@ -7,8 +7,8 @@ use lib.Dec.{ltb, eqb}
 use lib.ListN.{length}
 use Rattle.rules.specs.Limits.{header-size}
 use Rattle.rules.specs.Sheet.{Sheet, sheet-in, P-of, N-of, counts-before}
-use Rattle.rules.specs.Refusal.{Refusal, refusal, accepted, or-else, first-broken, board-good, boards-refusal, ops-refusal, requests-refusal}
-use Rattle.rules.specs.Refusal.{tables-refusal, sizes-good, layout-good, crc-good, sheet-refusal}
+use Rattle.rules.specs.Refusal.{Refusal, refusal, accepted, or-else, first-broken, board-good, boards-refusal, ops-refusal}
+use Rattle.rules.specs.Refusal.{requests-refusal, tables-refusal, sizes-good, layout-good, crc-good, sheet-refusal}
 
 pub broken-most : (n m : ℕ) (f : ℕ → Bool) (left i : ℕ) → n ≤ m → first-broken n f left i .number ≤ m
 unfolding first-broken refusal
@@ -36,11 +36,13 @@ pub sheet-most : (bs : List ℕ) → sheet-refusal bs .number ≤ 7
 unfolding sheet-refusal tables-refusal boards-refusal ops-refusal requests-refusal refusal
 sheet-most bs =
     let s : Sheet = sheet-in bs in
+    let total = eqb (counts-before s (P-of s)) (N-of s) in
     cond-most 7 (ltb (length bs) header-size) (refusal 1 0) _ (omega arith)
     (cond-most 7 (not (sizes-good bs)) (refusal 2 0) _ (omega arith)
     (cond-most 7 (not (layout-good bs)) (refusal 3 0) _ (omega arith)
     (cond-most 7 (not (crc-good bs)) (refusal 4 0) _ (omega arith)
     (or-else-most 7 (boards-refusal s) (or-else (ops-refusal s) (requests-refusal s))
-    (or-else-most 7 (first-broken 5 (board-good s) (P-of s) 0) (cond (eqb (counts-before s (P-of s)) (N-of s)) accepted (refusal 5 (P-of s)))
-    (broken-most 5 7 (board-good s) (P-of s) 0 (omega arith)) (cond-most 7 (eqb (counts-before s (P-of s)) (N-of s)) accepted (refusal 5 (P-of s)) (omega arith) (omega arith)))
-    (or-else-most 7 (ops-refusal s) (requests-refusal s) (broken-most 6 7 _ (N-of s) 0 (omega arith)) (broken-most 7 7 _ (N-of s) 0 (omega arith)))))))
+    (or-else-most 7 (first-broken 5 (board-good s) (P-of s) 0) (cond total accepted (refusal 5 (P-of s)))
+    (broken-most 5 7 (board-good s) (P-of s) 0 (omega arith)) (cond-most 7 total accepted (refusal 5 (P-of s)) (omega arith) (omega arith)))
+    (or-else-most 7 (ops-refusal s) (requests-refusal s)
+    (broken-most 6 7 _ (N-of s) 0 (omega arith)) (broken-most 7 7 _ (N-of s) 0 (omega arith)))))))

@@ -4,8 +4,8 @@
 --   premise-most         22 at the most
 --   premise-of-check     a refusal of check is the answer
 -- Assumes nothing.
-use mathlib.Core.Path.{_≡_, sym, ap, _∙_}
-use mathlib.Core.Bool.{Bool, true, false, not}
+use mathlib.Core.Path.{_≡_, ap, _∙_}
+use mathlib.Core.Bool.{Bool, true, not}
 use mathlib.Core.List.{List}
 use mathlib.Core.Logic.{_↔_}
 use Prim.Native.Nat.{ℕ, _≤_, _<_}
@@ -14,7 +14,8 @@ use borrow.Author.Tests.{leb-true, le-leb, eq-eqb, eqb-true, not-true}
 use Rattle.rules.specs.Sheet.{Sheet, op, board, P-of, N-of, is-ready, sheet-in}
 use Rattle.rules.specs.Refusal.{Refusal, refusal, accepted, or-else, first-broken, sheet-refusal}
 use Rattle.rules.specs.Claims.{passes, calm, is-any-source, all-charges, script}
-use Rattle.rules.specs.Premise.{source-good, mode-good, cover-good, any-source-refusal, ready-refusal, cover-refusal, calm-refusal, premise-refusal}
+use Rattle.rules.specs.Premise.{source-good, mode-good, cover-good, any-source-refusal, ready-refusal, cover-refusal}
+use Rattle.rules.specs.Premise.{calm-refusal, premise-refusal}
 use Rattle.laws.specs.Broken.{or-else-passed, or-else-stopped, broken-passed, broken-clear}
 use Rattle.laws.specs.Calm.{calm-op, calm-covered, calm-each}
 use Rattle.laws.specs.Numbers.{or-else-most, broken-most, sheet-most}
@@ -46,8 +47,10 @@ module _ (s : Sheet) where
   pub calm-unrefused : calm s ≡ true → calm-refusal s ≡ accepted
   unfolding calm-refusal any-source-refusal ready-refusal cover-refusal source-good mode-good cover-good refusal
   calm-unrefused c =
-      let sources : any-source-refusal s ≡ accepted = broken-clear 20 (source-good s) (N-of s) 0 (λ k a b. ap not (calm-op s c k (omega arith) .0)) in
-      let modes : ready-refusal s ≡ accepted = broken-clear 21 (mode-good s) (N-of s) 0 (λ k a b. ap not (calm-op s c k (omega arith) .1)) in
+      let sources : any-source-refusal s ≡ accepted =
+      broken-clear 20 (source-good s) (N-of s) 0 (λ k a b. ap not (calm-op s c k (omega arith) .0)) in
+      let modes : ready-refusal s ≡ accepted =
+      broken-clear 21 (mode-good s) (N-of s) 0 (λ k a b. ap not (calm-op s c k (omega arith) .1)) in
       let covers : cover-refusal s ≡ accepted =
       broken-clear 22 (cover-good s) (P-of s) 0
       (λ r a b. le-leb (all-charges (script (board s r) (s .ops))) (board s r .attached) (calm-covered s c r (omega arith))) in
@@ -57,7 +60,8 @@ module _ (s : Sheet) where
   pub calm-most : calm-refusal s .number ≤ 22
   unfolding calm-refusal any-source-refusal ready-refusal cover-refusal
   calm-most =
-      or-else-most 22 (any-source-refusal s) (or-else (ready-refusal s) (cover-refusal s)) (broken-most 20 22 (source-good s) (N-of s) 0 (omega arith))
+      or-else-most 22 (any-source-refusal s) (or-else (ready-refusal s) (cover-refusal s))
+      (broken-most 20 22 (source-good s) (N-of s) 0 (omega arith))
       (or-else-most 22 (ready-refusal s) (cover-refusal s) (broken-most 21 22 (mode-good s) (N-of s) 0 (omega arith))
       (broken-most 22 22 (cover-good s) (P-of s) 0 (omega arith)))
 

@@ -34,7 +34,8 @@ summed-none {s} {r} {i} {end} t l a b =
 
 module _ {s : Sheet} {r i end sum : ℕ} (q : Summed s r i end sum) where
   -- one operation more, with what it would be charged
-  pub summed-more : i < end → (v : ℕ) → v ≡ cond (is-buffered (op s i)) (charge-of (op s i)) 0 → v < 65536 → Summed s r (i + 1) end (sum + v)
+  pub summed-more : i < end → (v : ℕ) → v ≡ cond (is-buffered (op s i)) (charge-of (op s i)) 0 → v < 65536
+      → Summed s r (i + 1) end (sum + v)
   summed-more l v e small =
       let from = board s r .first in
       let here : from + (i - from) ≡ i = omega (arith, q .lower) in

@@ -7,7 +7,8 @@ use mathlib.Core.List.{List, [], _∷_}
 use Prim.Native.Nat.{ℕ}
 use lib.Dec.{eqb}
 use Rattle.rules.specs.Premise.{premise-refusal}
-use Rattle.rules.specs.BenchJob.{standard, buffered, ready, any, send, isend, receive, ireceive, wait, script, Draft, draft, draft-bytes, all}
+use Rattle.rules.specs.BenchJob.{standard, buffered, ready, any, send, isend, receive, ireceive, wait}
+use Rattle.rules.specs.BenchJob.{script, Draft, draft, draft-bytes, all}
 use Rattle.rules.specs.BenchNumbered.{case-1-sheet, ready-sheet, any-source-sheet}
 use Rattle.rules.specs.Definitions.{definitions}
 

@@ -27,7 +27,8 @@ unfolding Check-says
 calm-requires c κs =
     let bs = bytes (c .before .before .before .before) in
     let k = c .before .before .check in
-    let accepts = first-accepts (sheet-refusal bs) (calm-refusal (sheet-in bs)) (k .result .number) (k .result .place) (k .ensures) (c .if1 .left) in
+    let rest = calm-refusal (sheet-in bs) in
+    let accepts = first-accepts (sheet-refusal bs) rest (k .result .number) (k .result .place) (k .ensures) (c .if1 .left) in
     let a : Accepted bs = unrefused-accepted bs accepts in
     (accepted-laid bs a, accepted-tabled bs a)
 

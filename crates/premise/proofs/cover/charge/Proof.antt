@@ -1,7 +1,6 @@
 -- `premise::cover::charge` meets its contract: by role, each way is the definition's. Assumes nothing.
 use mathlib.Core.Path.{_≡_}
 use mathlib.Core.Bool.{true, false}
-use native.Mathlib.Omega.{arith}
 use Rattle.rules.specs.Sheet.{op, sheet-in, is-buffered}
 use borrow.Author.Needs.{needs}
 use Rattle.premise.proofs.cover.charge.Statement.{statement}

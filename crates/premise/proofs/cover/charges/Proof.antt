@@ -21,7 +21,8 @@ loop-holds c =
 
 loop-again : tie.Need-loop-again Inv-loop μ-loop
 loop-again c =
-    summed-more (c .before .before .loop .inv) (c .before .loop-test .taken) (c .charge .result) (c .charge .ensures .is) (c .charge .ensures .small)
+    let v = c .charge in
+    summed-more (c .before .before .loop .inv) (c .before .loop-test .taken) (v .result) (v .ensures .is) (v .ensures .small)
 
 returns : tie.Need-returns Inv-loop μ-loop
 returns c = summed-all (c .before .loop .inv) (c .loop-test .left)

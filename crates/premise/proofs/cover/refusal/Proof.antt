@@ -4,7 +4,7 @@ use mathlib.Core.Path.{_≡_}
 use Prim.Native.Nat.{_-_}
 use native.Mathlib.Omega.{arith}
 use lib.Dec.{leb}
-use Rattle.rules.specs.Sheet.{sheet-in, P-of}
+use Rattle.rules.specs.Sheet.{Sheet, sheet-in, P-of}
 use Rattle.rules.specs.Premise.{cover-good, cover-refusal}
 use Rattle.laws.specs.Answers.{Sought, sought-none, sought-more, sought-bad, sought-all}
 use borrow.Author.Needs.{needs}
@@ -23,15 +23,22 @@ loop-holds c = sought-none (P-of (sheet-in (c .before .before .args .s .now))) (
 
 -- the test of a board's charges is the definition's
 module _ (c : tie.After-attached Inv-loop μ-loop) where
-  tested : leb (c .before .charges .result) (c .attached .result) ≡ cover-good (sheet-in (c .before .before .before .before .before .before .args .s .now)) (c .before .before .before .loop .r)
+  abbrev s : Sheet
+  s = sheet-in (c .before .before .before .before .before .before .args .s .now)
+
+  tested : leb (c .before .charges .result) (c .attached .result) ≡ cover-good s (c .before .before .before .loop .r)
   unfolding cover-good
   tested = cc
 
 returns : tie.Need-returns Inv-loop μ-loop
-returns c = sought-bad (c .before .before .before .before .loop .inv) (c .before .before .before .loop-test .taken) (tested (c .before)) (c .if1 .taken)
+returns c =
+    let t = c .before .before .before in
+    sought-bad (t .before .loop .inv) (t .loop-test .taken) (tested (c .before)) (c .if1 .taken)
 
 loop-again : tie.Need-loop-again Inv-loop μ-loop
-loop-again c = sought-more (c .before .before .before .before .loop .inv) (c .before .before .before .loop-test .taken) (tested (c .before)) (c .if1 .left)
+loop-again c =
+    let t = c .before .before .before in
+    sought-more (t .before .loop .inv) (t .loop-test .taken) (tested (c .before)) (c .if1 .left)
 
 returns-2 : tie.Need-returns-2 Inv-loop μ-loop
 returns-2 c = sought-all (c .before .loop .inv) (c .loop-test .left)

@@ -1,6 +1,6 @@
 -- `premise::ops::keeps` meets its contract: the rule is one of two, and each test is the definition's. Assumes nothing.
-use mathlib.Core.Bool.{Bool, not}
 use mathlib.Core.Path.{ap}
+use mathlib.Core.Bool.{not}
 use Rattle.rules.specs.Premise.{source-good, mode-good}
 use borrow.Author.Needs.{needs}
 use Rattle.premise.proofs.ops.keeps.Statement.{statement}

@@ -25,10 +25,13 @@ loop-holds c = sought-none (N-of (sheet-in (c .before .before .args .s .now))) (
 returns : tie.Need-returns Inv-loop μ-loop
 returns c =
     let k = c .before .before in
-    rw (c .number .ensures) (sought-bad (k .before .before .loop .inv) (k .before .loop-test .taken) (k .keeps .ensures) (c .before .if1 .taken))
+    rw (c .number .ensures)
+    (sought-bad (k .before .before .loop .inv) (k .before .loop-test .taken) (k .keeps .ensures) (c .before .if1 .taken))
 
 loop-again : tie.Need-loop-again Inv-loop μ-loop
-loop-again c = sought-more (c .before .before .before .loop .inv) (c .before .before .loop-test .taken) (c .before .keeps .ensures) (c .if1 .left)
+loop-again c =
+    let k = c .before in
+    sought-more (k .before .before .loop .inv) (k .before .loop-test .taken) (k .keeps .ensures) (c .if1 .left)
 
 returns-2 : tie.Need-returns-2 Inv-loop μ-loop
 returns-2 c = sought-all (c .before .loop .inv) (c .loop-test .left)
