@@ -1,7 +1,8 @@
 /*
  * Bench job 1 of document 01: rank 0 sends 3 bytes with tag 7, synchronous;
- * rank 1 receives from rank 0, any tag, into 4 bytes. Builds the sheet, runs
- * it, prints the report and what it says.
+ * rank 1 receives from rank 0, any tag, into 4 bytes. Builds the sheet, asks
+ * whether the order of steps can matter for it, runs it, prints the report and
+ * what it says.
  */
 #include "jamturret.h"
 
@@ -129,6 +130,9 @@ int main(void)
         print_refusal("check", answer);
         return 1;
     }
+    answer = jamturret_premise(sheet, sizeof sheet);
+    printf("the order of steps %s\n",
+           answer.number == JAMTURRET_SUCCESS ? "cannot matter" : "may matter");
     answer = run(sizeof report);
     if (answer.number != JAMTURRET_SUCCESS) {
         print_refusal("run", answer);

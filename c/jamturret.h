@@ -1,6 +1,7 @@
 /*
- * Jamturret: judges what the boards of a job sheet do to each other. Three
- * services: check a sheet, follow it with a given order of ranks, run it.
+ * Jamturret: judges what the boards of a job sheet do to each other. Four
+ * services: check a sheet, say whether the order of steps can matter for it,
+ * follow it with a given order of ranks, run it.
  *
  * The library is target/staticlib/libjamturret.a, made by
  * `rt staticlib jamturret` at the repository root.
@@ -64,7 +65,11 @@ enum jamturret_number {
     JAMTURRET_OPERATION = 6,     /* first operation with a wrong field */
     JAMTURRET_SLOT_OR_AREA = 7,  /* first operation that breaks the slot or area rule */
     JAMTURRET_ROOM = 8,          /* first short room: an enum jamturret_room */
-    JAMTURRET_ORDER = 9          /* first index whose rank is above P-1 or not able */
+    JAMTURRET_ORDER = 9,         /* first index whose rank is above P-1 or not able */
+    /* Premise only: why the order may matter. */
+    JAMTURRET_ANY_SOURCE = 20,   /* first receive from any source */
+    JAMTURRET_READY = 21,        /* first ready send */
+    JAMTURRET_UNCOVERED = 22     /* first rank whose buffer is short of its buffered sends */
 };
 
 /* The place of refusal 8. */
@@ -86,6 +91,17 @@ enum jamturret_verdict {
 
 /* Checks a sheet. Refusals 1 to 7. */
 jamturret_answer jamturret_check(const uint8_t *sheet, size_t sheet_len);
+
+/*
+ * Says whether the order of steps can matter for a sheet. Refusals 1 to 7 as
+ * check gives them; then 20, 21 and 22, the lowest first, each at its first
+ * place (an operation, an operation, a rank). Success means that any two
+ * orders of steps that go on until no board is able leave the same inboxes and
+ * the same report, peaks aside, and that run leaves them too. The attached
+ * buffer of a board covers its buffered sends where their lengths add up to at
+ * most its size.
+ */
+jamturret_answer jamturret_premise(const uint8_t *sheet, size_t sheet_len);
 
 /*
  * Follows a sheet with an order of ranks, one byte a step, and fills report

@@ -9,6 +9,8 @@ use crate::answer::Answer;
 extern "C" {
     fn jamturret_check(sheet: *const u8, sheet_len: usize) -> Answer;
 
+    fn jamturret_premise(sheet: *const u8, sheet_len: usize) -> Answer;
+
     fn jamturret_follow(
         sheet: *const u8,
         sheet_len: usize,
@@ -41,6 +43,12 @@ pub fn check(sheet: &[u8]) -> Answer {
     // SAFETY: the pointer and the length come from one live slice, which the
     // library reads and does not keep. It accepts every content and length.
     unsafe { jamturret_check(sheet.as_ptr(), sheet.len()) }
+}
+
+/// The library's *premise*: refusals 1 to 7 and 20 to 22.
+pub fn premise(sheet: &[u8]) -> Answer {
+    // SAFETY: as in `check`.
+    unsafe { jamturret_premise(sheet.as_ptr(), sheet.len()) }
 }
 
 /// The library's *follow*: refusals 1 to 9.

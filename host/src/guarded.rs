@@ -72,10 +72,24 @@ fn guard_byte(random: &mut Random) -> u8 {
     random.between(1, 255) as u8
 }
 
-/// The library's answer, or what it did to the lent buffer.
+/// The library's *check*: its answer, or what it did to the lent buffer.
 pub fn check(sheet: &[u8], random: &mut Random) -> Result<Answer, String> {
+    of_sheet(ffi::check, sheet, random)
+}
+
+/// The library's *premise*.
+pub fn premise(sheet: &[u8], random: &mut Random) -> Result<Answer, String> {
+    of_sheet(ffi::premise, sheet, random)
+}
+
+/// A service that is lent nothing but the sheet.
+fn of_sheet(
+    service: fn(&[u8]) -> Answer,
+    sheet: &[u8],
+    random: &mut Random,
+) -> Result<Answer, String> {
     let mut sheet = Guarded::around("sheet", sheet, random);
-    let answer = ffi::check(sheet.lent());
+    let answer = service(sheet.lent());
     sheet.unchanged()?;
     Ok(answer)
 }

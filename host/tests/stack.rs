@@ -5,7 +5,7 @@
 use jamturret_host::answer::Answer;
 use jamturret_host::desk::Desk;
 use jamturret_host::sheet::Sheet;
-use jamturret_host::{ffi, traffic};
+use jamturret_host::{ffi, judge, traffic};
 use std::thread;
 
 const STACK: usize = 64 * 1024;
@@ -31,6 +31,15 @@ fn check() {
     for sheet in jobs() {
         let bytes = sheet.bytes();
         assert_eq!(on_small_stack(move || ffi::check(&bytes)), Answer::SUCCESS);
+    }
+}
+
+#[test]
+fn premise() {
+    for sheet in jobs() {
+        let bytes = sheet.bytes();
+        let expected = judge::premise(&bytes);
+        assert_eq!(on_small_stack(move || ffi::premise(&bytes)), expected);
     }
 }
 

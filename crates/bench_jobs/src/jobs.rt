@@ -1,12 +1,13 @@
-// One sheet through all three services. Rooms start from bytes that no zeroing leaves, so that what must stay untouched shows
+// One sheet through all services. Rooms start from bytes that no zeroing leaves, so that what must stay untouched shows
 // in the CRCs (document 01, "When the desk says no").
 ghost use Prim.Native.Nat.{_<_, _≤_};
 ghost use lib.ListN.{length};
 use jamturret::jamturret_check;
 use jamturret::jamturret_follow;
+use jamturret::jamturret_premise;
 use jamturret::jamturret_run;
 
-// Check and run, then follow with the order that run wrote down.
+// Check, premise and run, then follow with the order that run wrote down.
 pub fn job(path: &[u8]) {
     let fd = os::open_read(path);
     if fd < 0 {
@@ -19,6 +20,8 @@ pub fn job(path: &[u8]) {
     io::write_all(1, path);
     let checked = jamturret_check(&input[..n]);
     answer(b": check ", checked.number as u64, checked.place);
+    let asked = jamturret_premise(&input[..n]);
+    answer(b"  premise ", asked.number as u64, asked.place);
     run(&input[..n]);
 }
 

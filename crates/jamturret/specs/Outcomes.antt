@@ -26,7 +26,8 @@ use Rattle.invariant.specs.sheet.FromBytes.{unrefused-accepted, accepted-laid, 
 use Rattle.state.specs.declared.Control.{Control}
 use Rattle.simulation.specs.Represents.{Represents}
 use Rattle.jamturret.specs.Chain.{number-of, Refused, refused, refused-as, refused-first, refused-second, kept, scratch-kept}
-use Rattle.jamturret.specs.Rooms.{or-else-most, sheet-most, room-most, order-unasked, Ready}
+use Rattle.jamturret.specs.Rooms.{room-most, order-unasked, Ready}
+use Rattle.laws.specs.Numbers.{or-else-most, sheet-most}
 use Rattle.laws.specs.Rooms.{Roomy, rooms-enough, roomy}
 
 -- SHEET AND ROOMS, which are asked first: check's answer, or the rooms'

@@ -1,10 +1,12 @@
 // The public services, exported to C and Rust. A slice passes as a pointer and a length. Each service states its whole outcome
 // for every input, with no `requires`.
 ghost use Rattle.rules.specs.Service.{Check-says, Follow-says, Run-says};
+ghost use Rattle.rules.specs.Premise.{Premise-says};
 
 mod jobs;
 mod rooms;
 
+use premise::premise;
 use refusals::check;
 use sheet::Answer;
 
@@ -15,6 +17,17 @@ pub extern "C" fn jamturret_check(sheet: &[u8]) -> Answer
     ensures { λ a. ⌜ Check-says (now (sheet .entry)) (a .number) (a .place) ⌝ }
 {
     check::check(sheet)
+}
+
+// PREMISE of demand 3: whether the order of steps can matter for a sheet. Refusals 1 to 7; 20 an any-source receive, 21 a ready
+// send, 22 a board whose attached buffer does not cover all its buffered sends; else number 0 and place 0, and any two full
+// orders end alike. Shut out, among others: one that answers 0 for every sheet that passes check, and one that takes a buffer
+// for enough that covers each buffered send alone and not all of them together.
+#[no_mangle]
+pub extern "C" fn jamturret_premise(sheet: &[u8]) -> Answer
+    ensures { λ a. ⌜ Premise-says (now (sheet .entry)) (a .number) (a .place) ⌝ }
+{
+    premise(sheet)
 }
 
 // FOLLOW a sheet with a given order of ranks: refusals 1 to 9; on success inbox and report hold the outcome. Scratch is all zero

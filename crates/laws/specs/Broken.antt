@@ -80,6 +80,14 @@ module _ (n : ℕ) (f : ℕ → Bool) where
       go ih true p q (no d) = ih q (omega arith)
       go ih false p q d = absurd (h q)
 
+  -- and back: where the test passes at each index of a range, the search accepts
+  pub broken-clear : (left i : ℕ) → ((j : ℕ) → i ≤ j → j < i + left → f j ≡ true) → first-broken n f left i ≡ accepted
+  unfolding first-broken
+  broken-clear zero i h = refl
+  broken-clear (suc k) i h =
+      cond-true (f i) (first-broken n f k (suc i)) (refusal n i) (h i (omega arith) (omega arith))
+      ∙ broken-clear k (suc i) (λ j lo hi. h j (omega arith) (omega arith))
+
   -- a search that has come to i: the part of k indices from there, else what is behind it
   pub broken-part : (total i k : ℕ) → (n ≡ 0 → ⊥) → i + k ≤ total
       → first-broken n f (total - i) i ≡ or-else (first-broken n f k i) (first-broken n f (total - (i + k)) (i + k))

@@ -2,6 +2,8 @@
 --   Tests     Boolean tests: the parts of a conjunction, two tests that agree
 --   Below     a test over the numbers below a bound
 --   Broken    the first index at which a test fails
+--   Answers   what a service answers, along a chain of refusals and by a search
+--   Numbers   which numbers a refusal can have
 --   Decoded   the tables of a decoded sheet, entry by entry
 --   Laid      what refusals 1 to 3 settle
 --   Ranks     sums over boards; the rank of an operation
@@ -9,6 +11,8 @@
 --   Scripts   a search over all operations, script by script
 --   Holding   which operations of a board hold their slot
 --   Fields    what refusal 6 settles of an operation
+--   Calm      what calm says of operations and boards; charges of a script, one operation more
+--   Premise   the premise service accepts exactly calm sheets
 --   Table     a rule of a constant table, tested once
 --   Xor       exclusive or
 --   CrcStep   a byte of the CRC by a table of remainders
@@ -21,6 +25,8 @@
 pub mod Tests
 pub mod Below
 pub mod Broken
+pub mod Answers
+pub mod Numbers
 pub mod Decoded
 pub mod Laid
 pub mod Ranks
@@ -28,6 +34,8 @@ pub mod Tabled
 pub mod Scripts
 pub mod Holding
 pub mod Fields
+pub mod Calm
+pub mod Premise
 pub mod Table
 pub mod Xor
 pub mod CrcStep

@@ -2,7 +2,7 @@
 -- operation by operation. Two records say how far a search has come; each has a law for its beginning, for one more, for a
 -- refusal and for its end. The rule is any test f of an operation's index, n the number that it is refused with.
 -- Assumes nothing.
-use mathlib.Core.Path.{_≡_, sym, _∙_, ap, subst}
+use mathlib.Core.Path.{_≡_, sym, _∙_, ap}
 use mathlib.Core.Bool.{Bool, true, false, not}
 use Prim.Native.Nat.{ℕ, _+_, _-_, _<_, _≤_}
 use native.Mathlib.Omega.{arith}
@@ -10,21 +10,10 @@ use native.Mathlib.Numerals.{add-one}
 use Rattle.rules.specs.Sheet.{Sheet, board, P-of, N-of, counts-before, rank-of}
 use Rattle.rules.specs.Refusal.{Refusal, refusal, or-else, first-broken}
 use Rattle.rules.specs.Service.{answers}
-use Rattle.laws.specs.Broken.{or-else-passed, or-else-stopped, rule-kept, rule-broken, broken-none, broken-more, broken-here, broken-part}
+use Rattle.laws.specs.Answers.{told-is, told-same, answers-number, Sought, sought-all, sought-more, sought-bad}
+use Rattle.laws.specs.Broken.{or-else-passed, or-else-stopped, broken-none, broken-part}
 use Rattle.laws.specs.Ranks.{counts-none, script-next, script-before, rank-in-script}
 use Rattle.laws.specs.Tabled.{Tabled}
-
--- ANSWERS: from an equation of refusals, and from an answer to an equal one
-pub told-is : (f : Refusal) (n p : ℕ) → f ≡ refusal n p → answers f n p
-unfolding answers refusal
-told-is f n p e = (ap (λ (g : Refusal). g .number) (sym e), ap (λ (g : Refusal). g .place) (sym e))
-
-pub told-same : (f g : Refusal) (n p : ℕ) → f ≡ g → answers g n p → answers f n p
-told-same f g n p e t = subst (λ (h : Refusal). answers h n p) (sym e) t
-
-pub answers-number : (f : Refusal) (n p : ℕ) → answers f n p → n ≡ f .number
-unfolding answers
-answers-number f n p t = t .0
 
 -- the search over all operations, and over the script of board r alone
 abbrev pub all-broken : (number : ℕ) → (ℕ → Bool) → Sheet → Refusal
@@ -101,9 +90,8 @@ pub record Searched (s : Sheet) (n : ℕ) (f : ℕ → Bool) (r i end : ℕ) : T
   pub tabled : Tabled s
   pub ranked : r < P-of s
   pub lower : board s r .first ≤ i
-  pub upper : i ≤ end
   pub end-is : end ≡ board s r .first + board s r .count
-  pub left : script-broken n f s r ≡ first-broken n f (end - i) i
+  pub sought : Sought (script-broken n f s r) n f i end
 
 pub searched-none : {s : Sheet} {n : ℕ} {f : ℕ → Bool} {r i end : ℕ} → Tabled s → r < P-of s
     → i ≡ board s r .first → end ≡ i + board s r .count → Searched s n f r i end
@@ -113,15 +101,18 @@ searched-none {s} {n} {f} {r} {i} {end} t l a b =
       tabled = t;
       ranked = l;
       lower = omega arith;
-      upper = omega arith;
       end-is = omega arith;
-      left = ap (λ (k : ℕ). first-broken n f k (board s r .first)) long ∙ ap (λ (k : ℕ). first-broken n f (end - i) k) (sym a);
+      sought =
+          record {
+            upper = omega arith;
+            left = ap (λ (k : ℕ). first-broken n f k (board s r .first)) long ∙ ap (λ (k : ℕ). first-broken n f (end - i) k) (sym a);
+          };
     }
 
 module _ {s : Sheet} {n : ℕ} {f : ℕ → Bool} {r i end : ℕ} (q : Searched s n f r i end) where
   -- behind the last operation of the script nothing is refused in it
   pub searched-all : end ≤ i → answers (script-broken n f s r) 0 0
-  searched-all l = told-is (script-broken n f s r) 0 0 (q .left ∙ broken-none n f (end - i) i (omega arith))
+  searched-all l = sought-all (q .sought) l
 
   module _ (l : i < end) where
     -- operation i is one of the sheet's, and of board r
@@ -135,15 +126,13 @@ module _ {s : Sheet} {n : ℕ} {f : ℕ → Bool} {r i end : ℕ} (q : Searched 
     module _ {good : Bool} (told : good ≡ f i) where
       pub searched-more : not good ≡ false → Searched s n f r (i + 1) end
       searched-more h =
-          let less : (end - i) - 1 ≡ end - (i + 1) = omega arith in
           record {
             tabled = q .tabled;
             ranked = q .ranked;
             lower = omega (arith, q .lower);
-            upper = omega arith;
             end-is = q .end-is;
-            left = q .left ∙ (broken-more n f (end - i) i (omega arith) (rule-kept told h) ∙ ap (λ (m : ℕ). first-broken n f m (i + 1)) less);
+            sought = sought-more (q .sought) l told h;
           }
 
       pub searched-bad : not good ≡ true → answers (script-broken n f s r) n i
-      searched-bad h = told-is (script-broken n f s r) n i (q .left ∙ broken-here n f (end - i) i (omega arith) (rule-broken told h))
+      searched-bad h = sought-bad (q .sought) l told h

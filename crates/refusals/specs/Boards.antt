@@ -11,10 +11,10 @@ use Rattle.rules.specs.Limits.{most-attached, most-inbox}
 use Rattle.rules.specs.Sheet.{Sheet, board, P-of, N-of, counts-before, inbox-start}
 use Rattle.rules.specs.Refusal.{Refusal, refusal, accepted, or-else, first-broken, board-good, boards-refusal}
 use Rattle.rules.specs.Service.{answers}
+use Rattle.laws.specs.Answers.{told-is}
 use Rattle.laws.specs.Tests.{and-right}
 use Rattle.laws.specs.Broken.{or-else-passed, or-else-stopped, rule-kept, rule-broken, broken-more, broken-here, broken-none}
 use Rattle.laws.specs.Ranks.{counts-more, inbox-start-more, counts-none, inbox-start-none}
-use Rattle.laws.specs.Scripts.{told-is}
 
 -- the search from board r on, and the test of the counts' total behind it
 abbrev pub entries-broken : Sheet → (r : ℕ) → Refusal

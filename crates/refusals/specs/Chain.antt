@@ -1,6 +1,6 @@
 -- Refusals in their order: the lowest number that does not accept is the answer, and each that accepts settles what the next one
 -- asks. A test is given as the code makes it, by `if !good`. Assumes nothing.
-use mathlib.Core.Path.{_≡_, refl, sym, _∙_}
+use mathlib.Core.Path.{_≡_, refl}
 use mathlib.Core.Bool.{Bool, true, false, not}
 use mathlib.Core.List.{List}
 use Prim.Native.Nat.{ℕ, _≤_, _<_}
@@ -12,22 +12,11 @@ use Rattle.rules.specs.Sheet.{Sheet, sheet-in}
 use Rattle.rules.specs.Refusal.{Refusal, refusal, or-else, sizes-good, layout-good, crc-good, sheet-refusal}
 use Rattle.rules.specs.Refusal.{boards-refusal, ops-refusal, requests-refusal, tables-refusal}
 use Rattle.rules.specs.Service.{answers, Check-says}
-use Rattle.laws.specs.Broken.{or-else-passed, or-else-stopped, rule-kept, rule-broken}
+use Rattle.laws.specs.Answers.{or-else-told, first-accepts, or-else-next}
+use Rattle.laws.specs.Broken.{rule-kept, rule-broken}
 use Rattle.laws.specs.Fields.{Fielded, fielded}
 use Rattle.laws.specs.Laid.{Laid, laid}
-use Rattle.laws.specs.Scripts.{told-same, answers-number}
 use Rattle.laws.specs.Tabled.{Tabled, tabled}
-
--- a chain answers as its first refusal where that does not accept, else as the rest
-module _ (a b : Refusal) (n p : ℕ) (told : answers a n p) where
-  or-else-told : (n ≡ 0 → ⊥) → answers (or-else a b) n p
-  or-else-told h = told-same (or-else a b) a n p (or-else-stopped a b (λ z. h (answers-number a n p told ∙ z))) told
-
-  accepts : n ≡ 0 → a .number ≡ 0
-  accepts h = sym (answers-number a n p told) ∙ h
-
-  or-else-next : n ≡ 0 → (m q : ℕ) → answers b m q → answers (or-else a b) m q
-  or-else-next h m q t = told-same (or-else a b) b m q (or-else-passed a b (accepts h)) t
 
 -- TABLES: 5 to 7 in turn
 module _ (s : Sheet) (n p : ℕ) (fifth : answers (boards-refusal s) n p) where
@@ -40,7 +29,7 @@ module _ (s : Sheet) (n p : ℕ) (fifth : answers (boards-refusal s) n p) where
 
   module _ (boards : n ≡ 0) where
     pub boards-settled : Tabled s
-    boards-settled = tabled s (accepts (boards-refusal s) rest n p fifth boards)
+    boards-settled = tabled s (first-accepts (boards-refusal s) rest n p fifth boards)
 
     module _ (m q : ℕ) (sixth : answers (ops-refusal s) m q) where
       pub tables-6 : (m ≡ 0 → ⊥) → answers (tables-refusal s) m q
@@ -49,7 +38,7 @@ module _ (s : Sheet) (n p : ℕ) (fifth : answers (boards-refusal s) n p) where
 
       module _ (ops : m ≡ 0) where
         pub ops-settled : Fielded s
-        ops-settled = fielded s (accepts (ops-refusal s) (requests-refusal s) m q sixth ops)
+        ops-settled = fielded s (first-accepts (ops-refusal s) (requests-refusal s) m q sixth ops)
 
         pub tables-7 : (k l : ℕ) → answers (requests-refusal s) k l → answers (tables-refusal s) k l
         unfolding tables-refusal

@@ -1,5 +1,5 @@
 -- Every definition of rules under one name: a claim that the checker computes says `unfolding definitions`, and no list of its
--- own (Bench here; Counterexamples in promises). A new definition is added to the lines of its file. Assumes nothing.
+-- own (Bench and BenchPremise here; Counterexamples in promises). A new definition is added to the lines of its file. Assumes nothing.
 use Rattle.rules.specs.Crc
 use Rattle.rules.specs.Sheet
 use Rattle.rules.specs.Refusal
@@ -9,6 +9,7 @@ use Rattle.rules.specs.Order
 use Rattle.rules.specs.Report
 use Rattle.rules.specs.Service
 use Rattle.rules.specs.Claims
+use Rattle.rules.specs.Premise
 use Rattle.rules.specs.BenchJob
 use Rattle.rules.specs.BenchNumbered
 use Rattle.rules.specs.BenchFurther
@@ -44,6 +45,8 @@ unfolding
     Claims.passes Claims.is-any-source Claims.none-wild Claims.all-charges Claims.script
     Claims.all-covered Claims.calm Claims.accepts Claims.left-by Claims.rows-without-peaks Claims.without-peaks
     Claims.Alike
+    Premise.source-good Premise.any-source-refusal Premise.mode-good Premise.ready-refusal Premise.cover-good
+    Premise.cover-refusal Premise.calm-refusal Premise.premise-refusal Premise.Premise-says
     BenchJob.scripts-of BenchJob.lines-of BenchJob.P-drafted BenchJob.N-drafted BenchJob.as-words
     BenchJob.line-bytes BenchJob.all-line-bytes BenchJob.entry-bytes BenchJob.draft-bytes BenchJob.same
     BenchJob.verdict-bytes BenchJob.opening BenchJob.rows-bytes BenchJob.partner-by BenchJob.rows-match

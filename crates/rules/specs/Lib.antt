@@ -9,11 +9,13 @@
 --   Report    the report, byte by byte
 --   Service   what check, follow and run answer and leave in the lent rooms
 --   Claims    the words in which the promises about orders are stated
+--   Premise   whether the order can matter for a sheet, and why: numbers 20 to 22
 --   BenchJob       a bench job as it is written down, and the test that it is put to
 --   BenchNumbered  the starred bench jobs, 1 to 12
 --   BenchFurther   jobs for the listed slips, and for rules that those leave untested
 --   Definitions    all definitions under one name, for claims that the checker computes
 --   Bench          both lists of jobs in one, under one claim
+--   BenchPremise   sheets that premise is asked about, under one claim
 pub mod Limits
 pub mod Sheet
 pub mod Crc
@@ -24,8 +26,10 @@ pub mod Order
 pub mod Report
 pub mod Service
 pub mod Claims
+pub mod Premise
 pub mod BenchJob
 pub mod BenchNumbered
 pub mod BenchFurther
 pub mod Definitions
 pub mod Bench
+pub mod BenchPremise

@@ -5,6 +5,7 @@ ghost use Prim.Native.Nat.{_+_, _<_};
 ghost use lib.ListN.{length};
 ghost use Rattle.rules.specs.Sheet.{sheet-in, op, N-of, is-send, is-buffered, is-ready, is-receive, only-half, no-half, takes-slot, names-slot, frees-slot};
 ghost use Rattle.rules.specs.Step.{charge-of};
+ghost use Rattle.rules.specs.Claims.{is-any-source};
 ghost use Rattle.laws.specs.Laid.{Laid};
 ghost use Rattle.sheet.specs.Fields.{Op-at};
 ghost use Rattle.words.specs.Read.{Word, Byte};
@@ -121,6 +122,14 @@ pub fn is_receive(s: &[u8], i: usize) -> bool
     ensures { λ b. ⌜ b ≡ is-receive (op (sheet-in (now (s .entry))) i) ⌝ }
 {
     kind(s, i) == 5
+}
+
+// A receive from any source.
+pub fn is_any_source(s: &[u8], i: usize) -> bool
+    requires { ⌜ Laid (now s) × (i < N-of (sheet-in (now s))) ⌝ }
+    ensures { λ b. ⌜ b ≡ is-any-source (op (sheet-in (now (s .entry))) i) ⌝ }
+{
+    is_receive(s, i) & (peer(s, i) == limits::ANY)
 }
 
 // ROLES, as rules names them. Only a waiting half: it has no initiating step.

@@ -1,12 +1,15 @@
-//! `differential [SEED] [CASES]`: compares the library's *check* with our
-//! judge, and on a part of the small sheets with the naive one, over
+//! `differential [SEED] [CASES]`: compares the library's *check* and *premise*
+//! with our judge, and on a part of the small sheets with the naive one, over
 //! generated sheets. Prints how many cases of each kind got each answer; at
-//! the first difference prints what is needed to see it and exits with 1.
+//! the first difference prints what is needed to see it and exits with 1, as
+//! it does where an answer of premise to accepted sheets never came up.
 
 use jamturret_host::answer::Answer;
 use jamturret_host::command::{argument, difference};
 use jamturret_host::generate::{self, KINDS};
+use jamturret_host::random::Random;
 use jamturret_host::{guarded, judge};
+use std::process;
 use std::time::Instant;
 
 const SEED: u64 = 20_240_601;
@@ -16,51 +19,111 @@ const CASES: u64 = 400_000;
 const NAIVE_BYTES: usize = 1000;
 const NAIVE_EVERY: u64 = 4;
 
-/// Answers counted for each kind: numbers 0 to 7.
-type Counts = [[u64; 8]; KINDS.len()];
+/// From so many cases on each of these has to be reached.
+const ENOUGH: u64 = 10_000;
+
+/// Check's numbers, and then premise's of sheets that check accepts.
+const NUMBERS: [u32; 12] = [0, 1, 2, 3, 4, 5, 6, 7, 0, 20, 21, 22];
+const PREMISE: usize = 8;
+
+/// Answers counted for each kind, a column a number.
+type Row = [u64; NUMBERS.len()];
+type Counts = [Row; KINDS.len()];
+
+/// A service of the library beside those of our judges.
+struct Service {
+    name: &'static str,
+    library: fn(&[u8], &mut Random) -> Result<Answer, String>,
+    judge: fn(&[u8]) -> Answer,
+    naive: fn(&[u8]) -> Answer,
+}
+
+const SERVICES: [Service; 2] = [
+    Service {
+        name: "check",
+        library: guarded::check,
+        judge: judge::check,
+        naive: judge::naive::check,
+    },
+    Service {
+        name: "premise",
+        library: guarded::premise,
+        judge: judge::premise,
+        naive: judge::naive::premise,
+    },
+];
 
 fn main() {
     let seed = argument("differential", 1, SEED);
     let cases = argument("differential", 2, CASES);
     let start = Instant::now();
-    let mut counts: Counts = [[0; 8]; KINDS.len()];
+    let mut counts: Counts = [[0; NUMBERS.len()]; KINDS.len()];
     let mut naive = 0;
     for number in 0..cases {
         let (kind, sheet, mut random) = generate::case(seed, number);
-        let ours = judge::check(&sheet);
-        let theirs = guarded::check(&sheet, &mut random);
-        if theirs != Ok(ours) {
-            let theirs = theirs.map_or_else(|text| text, |answer| answer.to_string());
-            let answers = [("library", theirs), ("judge", ours.to_string())];
-            difference(seed, number, KINDS[kind].0, &sheet, &answers);
-        }
-        if sheet.len() <= NAIVE_BYTES && number % NAIVE_EVERY == 0 {
-            naive += 1;
-            compare_naive(seed, number, kind, &sheet, ours);
-        }
-        counts[kind][ours.number as usize] += 1;
+        let slow = sheet.len() <= NAIVE_BYTES && number % NAIVE_EVERY == 0;
+        naive += u64::from(slow);
+        let [check, premise] = SERVICES.map(|service| {
+            service
+                .answer(&sheet, slow, &mut random)
+                .unwrap_or_else(|answers| difference(seed, number, KINDS[kind].0, &sheet, &answers))
+        });
+        count(&mut counts[kind], check, premise);
     }
-    print(&counts);
+    let totals = print(&counts);
     println!(
         "seed {seed}: {cases} cases agree, {naive} of them with the naive judge too, in {:.1} s",
         start.elapsed().as_secs_f64()
     );
-}
-
-fn compare_naive(seed: u64, number: u64, kind: usize, sheet: &[u8], ours: Answer) {
-    let naive = judge::naive::check(sheet);
-    if naive != ours {
-        let answers = [
-            ("naive judge", naive.to_string()),
-            ("judge", ours.to_string()),
-        ];
-        difference(seed, number, KINDS[kind].0, sheet, &answers);
+    if cases >= ENOUGH && totals.contains(&0) {
+        eprintln!("an answer never came up: see the zeros above");
+        process::exit(1);
     }
 }
 
-fn print(counts: &Counts) {
-    println!("{:<24}{:>9}  answer number 0 to 7", "kind", "cases");
-    let mut totals = [0; 8];
+impl Service {
+    /// What all of them answer, or what each does.
+    fn answer(
+        &self,
+        sheet: &[u8],
+        slow: bool,
+        random: &mut Random,
+    ) -> Result<Answer, Vec<(&'static str, String)>> {
+        let ours = (self.judge)(sheet);
+        let theirs = (self.library)(sheet, random);
+        let naive = if slow { (self.naive)(sheet) } else { ours };
+        if theirs == Ok(ours) && naive == ours {
+            return Ok(ours);
+        }
+        let theirs = theirs.map_or_else(|text| text, |answer| answer.to_string());
+        Err(vec![
+            ("service", self.name.to_string()),
+            ("library", theirs),
+            ("judge", ours.to_string()),
+            ("naive judge", naive.to_string()),
+        ])
+    }
+}
+
+fn count(row: &mut Row, check: Answer, premise: Answer) {
+    row[check.number as usize] += 1;
+    if check.number == 0 {
+        let column = NUMBERS[PREMISE..]
+            .iter()
+            .position(|&number| number == premise.number);
+        row[PREMISE + column.expect("0, 20, 21 or 22")] += 1;
+    }
+}
+
+/// Prints all counts and returns the totals.
+fn print(counts: &Counts) -> Row {
+    println!("check's answers by number, then premise's to accepted sheets");
+    print!("{:<24}{:>9}", "kind", "cases");
+    for number in NUMBERS {
+        print!("{number:>8}");
+    }
+    println!();
+    let mut totals = [0; NUMBERS.len()];
     for (row, (name, ..)) in counts.iter().zip(KINDS) {
         line(name, row);
         for (total, count) in totals.iter_mut().zip(row) {
@@ -68,10 +131,11 @@ fn print(counts: &Counts) {
         }
     }
     line("all", &totals);
+    totals
 }
 
-fn line(name: &str, counts: &[u64; 8]) {
-    print!("{name:<24}{:>9}", counts.iter().sum::<u64>());
+fn line(name: &str, counts: &Row) {
+    print!("{name:<24}{:>9}", counts[..PREMISE].iter().sum::<u64>());
     for count in counts {
         print!("{count:>8}");
     }

@@ -9,12 +9,14 @@
 //! - `damage`: one wrong field, or one at the edge of its range.
 //! - `garbage`: random bytes, truncations, extensions, random fields.
 //! - `requests`: slots and areas just right and just wrong.
+//! - `premise`: sheets for which the order cannot matter, and nearly such ones.
 //! - `limits`: both sides of every limit, the sheet otherwise right.
 
 mod damage;
 mod garbage;
 pub mod jobs;
 mod limits;
+mod premise;
 mod requests;
 mod script;
 mod size;
@@ -28,7 +30,7 @@ pub use limits::LIMITS;
 type Generator = fn(&mut Random) -> Vec<u8>;
 
 /// The kinds of cases: name, how many of a hundred cases, generator.
-pub const KINDS: [(&str, usize, Generator); 14] = [
+pub const KINDS: [(&str, usize, Generator); 15] = [
     ("right, small", 12, |random| right(random, size::small)),
     ("right, medium", 5, |random| right(random, size::medium)),
     ("right, large", 2, |random| right(random, size::large)),
@@ -42,10 +44,11 @@ pub const KINDS: [(&str, usize, Generator); 14] = [
     ("board entry", 10, |random| {
         damaged(random, &[damage::board])
     }),
-    ("operation field", 14, |random| {
+    ("operation field", 11, |random| {
         damaged(random, &[damage::operation])
     }),
-    ("slots and areas", 14, requests::pair),
+    ("slots and areas", 11, requests::pair),
+    ("calm or nearly", 6, premise::any),
     ("several faults", 8, several_faults),
     ("truncated or extended", 3, garbage::truncated_or_extended),
     ("garbage", 4, garbage::any),

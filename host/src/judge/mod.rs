@@ -7,7 +7,8 @@
 //! - `operations`: refusal 6.
 //! - `requests`: refusal 7.
 //! - `check`: the service made of these; also the timing baseline.
-//! - `naive`: the same service once more, after the text, for cross-checks.
+//! - `premise`: whether the order of steps can matter for a sheet.
+//! - `naive`: check and premise once more, after the text, for cross-checks.
 //! - `rooms`: the lent rooms and refusal 8.
 //! - `script`: an accepted sheet, decoded for following it.
 //! - `job`: the state of a job and its steps.
@@ -27,6 +28,7 @@ mod job;
 pub mod naive;
 mod operations;
 mod orders;
+mod premise;
 mod report;
 mod requests;
 mod rooms;
@@ -35,5 +37,6 @@ mod services;
 
 pub use check::check;
 pub use orders::{able_after, order_by};
+pub use premise::premise;
 pub use rooms::{Needs, Rooms, SCRATCH_ROOM};
 pub use services::{follow, needs, run};

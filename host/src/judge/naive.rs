@@ -1,6 +1,7 @@
-//! *Check* once more, as near to the sentences of document 01 as code can be:
-//! bit-wise CRC, every rule asked anew of the whole sheet. It shares no code
-//! with the ordinary judge, so that neither is a copy of the other.
+//! *Check* and *premise* once more, as near to the sentences of document 01 as
+//! code can be: bit-wise CRC, every rule asked anew of the whole sheet. It
+//! shares no code with the ordinary judge, so that neither is a copy of the
+//! other.
 
 use crate::answer::Answer;
 
@@ -31,6 +32,28 @@ pub fn check(sheet: &[u8]) -> Answer {
     }
     match (0..n).find(|&index| !view.slot_right(index) || !view.area_right(index)) {
         Some(index) => Answer::refusal(7, index),
+        None => Answer::refusal(0, 0),
+    }
+}
+
+/// "No receive from any source and no ready send. On each board the charges of
+/// all its buffered sends, were none matched, add up to at most its attached
+/// size."
+pub fn premise(sheet: &[u8]) -> Answer {
+    let checked = check(sheet);
+    if checked.number != 0 {
+        return checked;
+    }
+    let view = View(sheet);
+    let (p, n) = (view.word(0), view.word(4));
+    if let Some(index) = (0..n).find(|&i| view.kind(i) == 5 && view.field(i, 2) == 65535) {
+        return Answer::refusal(20, index);
+    }
+    if let Some(index) = (0..n).find(|&index| view.kind(index) == 4) {
+        return Answer::refusal(21, index);
+    }
+    match (0..p).find(|&rank| view.charges(rank) > view.board(rank, 4)) {
+        Some(rank) => Answer::refusal(22, rank),
         None => Answer::refusal(0, 0),
     }
 }
@@ -144,6 +167,13 @@ impl View<'_> {
             && (tag <= 32767 || receive && tag == 65535)
             && length <= 4096
             && offset + length <= inside
+    }
+
+    /// The charges of all buffered sends of a board.
+    fn charges(&self, rank: u64) -> u64 {
+        let mine = (0..self.word(4)).filter(|&index| self.rank_of(index) == rank);
+        let buffered = mine.filter(|&index| self.kind(index) == 2);
+        buffered.map(|index| self.field(index, 12)).sum()
     }
 
     /// The operations of the same board before this one.

@@ -1,6 +1,7 @@
 -- Bytes that pass check decode to a valid sheet: each number of the refusal table settles its part of `Valid`.
---   Accepted          the tests that bytes with no refusal have passed
---   valid-from-bytes  passes bs gives Valid (sheet-in bs)
+--   Accepted                         the tests that bytes with no refusal have passed
+--   accepted-laid, accepted-tabled   what refusals 1 to 3, and 5, have settled of them
+--   valid-from-bytes                 passes bs gives Valid (sheet-in bs)
 -- Assumes nothing.
 use mathlib.Core.Path.{_≡_, refl, sym, subst}
 use mathlib.Core.Bool.{Bool, true, false, _&&_, not, cond}
@@ -131,6 +132,9 @@ module _ (s : Sheet) (h : tables-refusal s .number ≡ 0) where
 
 pub accepted-laid : (bs : List ℕ) → Accepted bs → Laid bs
 accepted-laid bs A = laid bs (A .sizes) (A .layout)
+
+pub accepted-tabled : (bs : List ℕ) → Accepted bs → Tabled (sheet-in bs)
+accepted-tabled bs A = table (sheet-in bs) (A .tables)
 
 pub valid-from-accepted : (bs : List ℕ) → Accepted bs → Valid (sheet-in bs)
 unfolding sheet-in

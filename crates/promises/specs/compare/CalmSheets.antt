@@ -1,29 +1,28 @@
 -- Calm sheets never stop, and messages that one receive could take come in script order. The charges in use on a board are
 -- of its buffered sends that are entered, so together with the one that enters they come to at most the charges of all of
 -- them, which the attached buffer covers.
---   calm-op          no any-source receive, no ready send
---   calm-covered     the attached buffer covers the charges of a board's script
---   calm-going       an able step goes on
---   calm-order       one order of arrival
+--   calm-not-any-source   no receive from any source, also past the operations
+--   calm-going            an able step goes on
+--   calm-order            one order of arrival
 -- Assumes nothing.
 use mathlib.Core.Path.{_≡_, refl, sym, ap, _∙_}
 use mathlib.Core.Logic.{_⊎_, inl, inr, _≢_}
-use mathlib.Core.Bool.{Bool, true, false, _&&_, not, cond}
-use mathlib.Core.List.{List, [], _∷_, _++_}
+use mathlib.Core.Bool.{Bool, true, false, _&&_, cond}
+use mathlib.Core.List.{List}
 use mathlib.Core.Option.{none}
 use Prim.Native.Nat.{ℕ, zero, suc, _+_, _-_, _≤_, _<_}
 use native.Mathlib.Omega.{arith}
 use native.Mathlib.Decide.{decLt}
-use lib.Dec.{eqb, leb}
-use lib.ListN.{length, getD, take, drop, length-drop, List·getD-eq-default}
-use lib.Seq.{take-suc, getD-drop}
-use borrow.Author.Tests.{leb-true, le-leb, eq-eqb, ne-eqb, eqb-true, not-true}
+use lib.Dec.{eqb}
+use lib.ListN.{List·getD-eq-default}
+use borrow.Author.Tests.{le-leb, eq-eqb, ne-eqb, eqb-true}
 use Rattle.rules.specs.Limits.{any}
-use Rattle.rules.specs.Sheet.{Sheet, Op, Board, op, board, no-op, no-board, P-of, N-of, rank-of, is-receive, only-half, is-ready, is-buffered}
+use Rattle.rules.specs.Sheet.{Sheet, op, board, no-op, P-of, N-of, rank-of, is-receive, only-half, is-ready, is-buffered}
 use Rattle.rules.specs.Job.{Job, place-at}
 use Rattle.rules.specs.Step.{able, step, next-op, in-waiting-half, is-none, first-receive, fits-buffer, fits-with, charge-of}
-use Rattle.rules.specs.Claims.{calm, none-wild, is-any-source, all-charges, script, all-covered}
-use Rattle.laws.specs.Tests.{and-both, and-left, and-right, or-false-left, true-not-false}
+use Rattle.rules.specs.Claims.{calm, is-any-source, all-charges, script}
+use Rattle.laws.specs.Calm.{calm-op, calm-covered, charges-from, charges-none, charges-more}
+use Rattle.laws.specs.Tests.{and-both, or-false-left, true-not-false}
 use Rattle.invariant.specs.sheet.Valid.{Valid}
 use Rattle.invariant.specs.sheet.Kinds.{fit-source}
 use Rattle.laws.specs.Sums.{sum-below, sum-gap, sum-rest, sum-more, sum-zero}
@@ -35,55 +34,17 @@ use Rattle.invariant.specs.step.Places.{Next, able-next, next-fresh}
 use Rattle.promises.specs.compare.AfterStep.{stop-after, step-stop}
 
 -- TAME
-wild-none : (os : List Op) → none-wild os ≡ true → (k : ℕ) → k < length os → (is-any-source (getD os k no-op) ≡ false)
-    × (is-ready (getD os k no-op) ≡ false)
-unfolding none-wild
-wild-none [] h k l = absurd (omega arith)
-wild-none (o ∷ os) h zero l =
-    let both = and-left (not (is-any-source o) && not (is-ready o)) (none-wild os) h in (
-      not-true (is-any-source o) (and-left (not (is-any-source o)) (not (is-ready o)) both),
-      not-true (is-ready o)
-          (and-right (not (is-any-source o)) (not (is-ready o)) both),
-    )
-wild-none (o ∷ os) h (suc k) l =
-    wild-none os (and-right (not (is-any-source o) && not (is-ready o)) (none-wild os) h) k
-    (omega arith)
-
-covered-all : (bs : List Board) (os : List Op) → all-covered bs os ≡ true → (r : ℕ) → r < length bs →
-    all-charges (script (getD bs r no-board) os) ≤ getD bs r no-board .attached
-unfolding all-covered
-covered-all [] os h r l = absurd (omega arith)
-covered-all (b ∷ bs) os h zero l =
-    leb-true (all-charges (script b os)) (b .attached)
-    (and-left (leb (all-charges (script b os)) (b .attached)) (all-covered bs os) h)
-covered-all (b ∷ bs) os h (suc r) l =
-    covered-all bs os
-    (and-right (leb (all-charges (script b os)) (b .attached)) (all-covered bs os) h) r (omega arith)
-
 module _ (s : Sheet) (c : calm s ≡ true) where
-  pub calm-op : (k : ℕ) → k < N-of s → (is-any-source (op s k) ≡ false) × (is-ready (op s k) ≡ false)
-  unfolding calm op N-of
-  calm-op k l = wild-none (s .ops) (and-left (none-wild (s .ops)) (all-covered (s .boards) (s .ops)) c) k l
-
   -- past the operations there is no receive
   pub calm-not-any-source : (k : ℕ) → is-any-source (op s k) ≡ false
   unfolding is-any-source is-receive op N-of no-op
   calm-not-any-source k = go (decLt k (N-of s))
     where
       go : Dec (k < N-of s) → is-any-source (op s k) ≡ false
-      go (yes l) = calm-op k l .0
+      go (yes l) = calm-op s c k l .0
       go (no d) = ap is-any-source (List·getD-eq-default (s .ops) no-op {n = k} (omega arith))
 
-  pub calm-covered : (r : ℕ) → r < P-of s → all-charges (script (board s r) (s .ops)) ≤ board s r .attached
-  unfolding calm board P-of
-  calm-covered r l = covered-all (s .boards) (s .ops) (and-right (none-wild (s .ops)) (all-covered (s .boards) (s .ops)) c) r l
-
 -- CHARGES of a script, as a sum over operations
-all-charges-more : (a : List Op) (o : Op) → all-charges (a ++ (o ∷ [])) ≡ all-charges a + cond (is-buffered o) (charge-of o) 0
-unfolding all-charges
-all-charges-more [] o = omega arith
-all-charges-more (x ∷ xs) o = omega (arith, all-charges-more xs o)
-
 -- what operation j would be charged on board r, were it not matched
 unfoldable covered : Sheet → (r j : ℕ) → ℕ
 covered s r j = cond (eqb (rank-of s j) r && is-buffered (op s j)) (charge-of (op s j)) 0
@@ -118,35 +79,24 @@ module _ (s : Sheet) (g : Valid s) (r : ℕ) (l : r < P-of s) where
             (λ (q : ℕ). board s q .count) e,
       ))
 
-  sum-from : (k : ℕ) → k ≤ count → sum-below (from + k) (covered s r) ≡ all-charges (take k (drop from (s .ops)))
-  unfolding all-charges op N-of
-  sum-from zero h = ap (λ (z : ℕ). sum-below z (covered s r)) (omega arith) ∙ sum-zero from (covered s r) before-none
+  sum-from : (k : ℕ) → k ≤ count → sum-below (from + k) (covered s r) ≡ charges-from s from k
+  sum-from zero h =
+      ap (λ (z : ℕ). sum-below z (covered s r)) (omega arith)
+      ∙ (sum-zero from (covered s r) before-none ∙ sym (charges-none s from))
   sum-from (suc k) h =
       ap (λ (z : ℕ). sum-below z (covered s r)) next ∙ sum-more (from + k) (covered s r)
       ∙ omega (
         arith,
         sum-from k (omega arith),
         covered-mine s r (from + k) mine,
-        all-charges-more (take k rest)
-            (getD rest k no-op),
-        ap charged-op (getD-drop from (s .ops) k no-op),
+        charges-more s from k (omega (arith, g .script-inside r l)),
       )
-      ∙ sym (ap all-charges (take-suc rest k no-op inside))
     where
-      rest : List Op
-      rest = drop from (s .ops)
-
-      charged-op : Op → ℕ
-      charged-op o = cond (is-buffered o) (charge-of o) 0
-
       next : from + suc k ≡ suc (from + k)
       next = omega arith
 
       mine : rank-of s (from + k) ≡ r
       mine = g .script-ranked r (from + k) l (omega arith) (omega arith)
-
-      inside : k < length rest
-      inside = omega (arith, length-drop from (s .ops), g .script-inside r l)
 
   -- all charges of board r come to those of its script
   covered-sum : sum-below (N-of s) (covered s r) ≡ all-charges (script (board s r) (s .ops))

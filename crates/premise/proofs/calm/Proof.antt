@@ -1,0 +1,52 @@
+-- `premise::calm` meets its contract: the first of numbers 20 to 22 that does not accept is the answer. Assumes nothing.
+use Rattle.rules.specs.Sheet.{Sheet, sheet-in}
+use Rattle.rules.specs.Refusal.{Refusal, or-else}
+use Rattle.rules.specs.Premise.{any-source-refusal, ready-refusal, cover-refusal, calm-refusal}
+use Rattle.laws.specs.Answers.{or-else-told, or-else-next}
+use borrow.Author.Needs.{needs}
+use Rattle.premise.proofs.calm.Statement.{statement}
+use Rattle.premise.proofs.calm.Tie as tie
+
+abbrev sheet : tie.Start → Sheet
+sheet z = sheet-in (z .args .s .now)
+
+-- the numbers behind 20
+abbrev behind : Sheet → Refusal
+behind s = or-else (ready-refusal s) (cover-refusal s)
+
+returns : tie.Need-returns
+unfolding calm-refusal any-source-refusal
+returns c =
+    let s = sheet (c .before .before .before .before) in
+    let source = c .before .before .refusal in
+    or-else-told (any-source-refusal s) (behind s) (source .result .number) (source .result .place) (source .ensures) (c .if1 .taken)
+
+returns-2 : tie.Need-returns-2
+unfolding calm-refusal any-source-refusal ready-refusal
+returns-2 c =
+    let b = c .before .before .before in
+    let s = sheet (b .before .before .before .before) in
+    let source = b .before .before .refusal in
+    let mode = c .before .before .refusal2 in
+    or-else-next (any-source-refusal s) (behind s) (source .result .number) (source .result .place) (source .ensures) (b .if1 .left)
+    (mode .result .number) (mode .result .place)
+    (or-else-told (ready-refusal s) (cover-refusal s) (mode .result .number) (mode .result .place) (mode .ensures) (c .if2 .taken))
+
+returns-3 : tie.Need-returns-3
+unfolding calm-refusal any-source-refusal ready-refusal
+returns-3 c =
+    let b = c .before .before .before .before in
+    let s = sheet (b .before .before .before .before) in
+    let source = b .before .before .refusal in
+    let mode = c .before .before .before .refusal2 in
+    let cover = c .refusal3 in
+    or-else-next (any-source-refusal s) (behind s) (source .result .number) (source .result .place) (source .ensures) (b .if1 .left)
+    (cover .result .number) (cover .result .place)
+    (or-else-next (ready-refusal s) (cover-refusal s) (mode .result .number) (mode .result .place) (mode .ensures) (c .before .if2 .left)
+    (cover .result .number) (cover .result .place) (cover .ensures))
+
+pub calm-spec : {M : Type 1} → statement M
+calm-spec =
+    tie.close
+    (tie.spec
+    (λ c κs. search needs) returns (λ c κs. search needs) returns-2 (λ c κs. search needs) returns-3)

@@ -1,0 +1,82 @@
+-- The premise service on sheets written by hand, in one list under one claim that the checker computes. What each must answer is
+-- worked out from document 01, "What is pinned down". BenchNumbered says how to read a sheet. The edits in must-fail/ named
+-- premise-.. put wrong definitions in the place of Premise's; this claim refuses each. Assumes nothing.
+use mathlib.Core.Path.{_≡_, refl}
+use mathlib.Core.Bool.{Bool, true, _&&_}
+use mathlib.Core.List.{List, [], _∷_}
+use Prim.Native.Nat.{ℕ}
+use lib.Dec.{eqb}
+use Rattle.rules.specs.Premise.{premise-refusal}
+use Rattle.rules.specs.BenchJob.{standard, buffered, ready, any, send, isend, receive, ireceive, wait}
+use Rattle.rules.specs.BenchJob.{script, Draft, draft, draft-bytes, all}
+use Rattle.rules.specs.BenchNumbered.{case-1-sheet, ready-sheet, any-source-sheet}
+use Rattle.rules.specs.Definitions.{definitions}
+
+-- a sheet, and the number and place that premise must answer
+pub data Question : Type 0 where
+  asked : Draft → (number place : ℕ) → Question
+
+unfoldable pub answered : Question → Bool
+answered (asked d n p) =
+    let f = premise-refusal (draft-bytes d) in
+    eqb (f .number) n && eqb (f .place) p
+
+unfoldable pub questions : List Question
+questions =
+    -- 20 at the first operation, and at a later one: the first of two any-source receives
+    asked (draft 1 0x465c [] (script 0 1 (receive any 0 3 0 1 ∷ []) ∷ [])) 20 0
+    ∷ asked any-source-sheet 20 2
+    -- 21 at the first operation, and at a later one, which is nonblocking
+    ∷ asked ready-sheet 21 0
+    ∷ asked
+    (draft 1 0x7dff (11 ∷ 12 ∷ [])
+    (script 0 2 (receive 1 0 1 0 1 ∷ receive 1 0 2 1 1 ∷ [])
+    ∷ script 0 0 (send standard 0 0 1 0 1 ∷ isend ready 0 0 2 1 1 0 ∷ []) ∷ []))
+    21 3
+    -- two buffered sends of 2 and 3 bytes: 5 bytes cover them; with 4, which cover either alone, 22 at rank 0
+    ∷ asked
+    (draft 1 0xf295 (11 ∷ 12 ∷ 13 ∷ 14 ∷ 15 ∷ [])
+    (script 5 0 (send buffered 1 0 4 0 2 ∷ isend buffered 1 0 4 2 3 0 ∷ [])
+    ∷ script 0 6 (receive 0 0 any 0 3 ∷ receive 0 0 4 3 3 ∷ []) ∷ []))
+    0 0
+    ∷ asked
+    (draft 1 0x6e8f (11 ∷ 12 ∷ 13 ∷ 14 ∷ 15 ∷ [])
+    (script 4 0 (send buffered 1 0 4 0 2 ∷ isend buffered 1 0 4 2 3 0 ∷ [])
+    ∷ script 0 6 (receive 0 0 any 0 3 ∷ receive 0 0 4 3 3 ∷ []) ∷ []))
+    22 0
+    -- each board covers its own sends, though not both boards'; with a byte less at rank 1, 22 there
+    ∷ asked
+    (draft 1 0xdb4d (11 ∷ 12 ∷ [])
+    (script 2 2 (send buffered 1 0 1 0 2 ∷ receive 1 0 1 0 2 ∷ [])
+    ∷ script 2 2 (send buffered 0 0 1 0 2 ∷ receive 0 0 1 0 2 ∷ []) ∷ []))
+    0 0
+    ∷ asked
+    (draft 1 0x45a7 (11 ∷ 12 ∷ [])
+    (script 2 2 (send buffered 1 0 1 0 2 ∷ receive 1 0 1 0 2 ∷ [])
+    ∷ script 1 2 (send buffered 0 0 1 0 2 ∷ receive 0 0 1 0 2 ∷ []) ∷ []))
+    22 1
+    -- 20 wins over 21 and 22, behind them or before them; 21 wins over 22
+    ∷ asked
+    (draft 1 0x27c7 (11 ∷ 12 ∷ [])
+    (script 0 0 (send ready 1 0 1 0 1 ∷ send buffered 1 0 1 0 1 ∷ [])
+    ∷ script 0 2 (receive 0 0 1 0 1 ∷ ireceive any 0 1 1 1 0 ∷ []) ∷ []))
+    20 3
+    ∷ asked
+    (draft 1 0x1bfe (11 ∷ []) (script 0 1 (ireceive any 0 1 0 1 0 ∷ send ready 0 0 1 0 1 ∷ []) ∷ []))
+    20 0
+    ∷ asked
+    (draft 1 0x8c23 (11 ∷ [])
+    (script 0 1 (send buffered 1 0 1 0 1 ∷ receive 1 0 1 0 1 ∷ [])
+    ∷ script 0 1 (receive 0 0 1 0 1 ∷ send ready 0 0 1 0 1 ∷ []) ∷ []))
+    21 3
+    -- a refusal of check wins over all: another CRC, a peer that is no rank, a wait on a slot that nobody holds
+    ∷ asked (draft 1 0x465d [] (script 0 1 (receive any 0 3 0 1 ∷ []) ∷ [])) 4 0
+    ∷ asked (draft 1 0x519d [] (script 0 0 (send ready 9 0 3 0 0 ∷ []) ∷ [])) 6 0
+    ∷ asked (draft 1 0x610e [] (script 0 1 (receive any 0 3 0 1 ∷ wait 0 ∷ []) ∷ [])) 7 1
+    -- a receive of any tag names its source, and a synchronous send is charged nothing; no operations at all
+    ∷ asked case-1-sheet 0 0
+    ∷ asked (draft 1 0xe5b1 [] (script 0 0 [] ∷ [])) 0 0 ∷ []
+
+pub questions-answered : all answered questions ≡ true
+unfolding answered questions definitions
+questions-answered = refl

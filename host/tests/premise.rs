@@ -1,0 +1,98 @@
+//! Whether the order of steps can matter for a sheet: 20 to 22, the lowest
+//! number first, each at its first place (document 01, What is pinned down).
+
+use jamturret_host::answer::Answer;
+use jamturret_host::layout::kind::{BUFFERED, READY, STANDARD, SYNCHRONOUS};
+use jamturret_host::layout::{operation, ANY};
+use jamturret_host::random::Random;
+use jamturret_host::sheet::{mend_crc, operation_at, Operation, Sheet};
+use jamturret_host::{bench_jobs, generate, guarded, judge};
+
+/// The library, between guard bytes, and both judges give this answer.
+fn expect(name: &str, sheet: &[u8], number: u32, place: u64) {
+    let answer = Answer::refusal(number, place);
+    let library = guarded::premise(sheet, &mut Random::new(sheet.len() as u64));
+    assert_eq!(library, Ok(answer), "library, {name}");
+    assert_eq!(judge::premise(sheet), answer, "judge, {name}");
+    assert_eq!(judge::naive::premise(sheet), answer, "naive judge, {name}");
+}
+
+fn send(kind: u8, length: u16) -> Operation {
+    Operation::send(kind, 1, 0, 0, length)
+}
+
+/// Rank 0 with this script and buffer, rank 1 with nothing to do.
+fn sheet(script: &[Operation], attached: u16) -> Vec<u8> {
+    let sheet = Sheet::of_scripts(&[script, &[]], 8);
+    sheet.attach(0, attached).bytes()
+}
+
+#[test]
+fn bench_jobs_of_document_01() {
+    expect("a receive of any tag", &bench_jobs::case_1().bytes(), 0, 0);
+    expect("job 7", &bench_jobs::case_7().bytes(), 0, 0);
+    let nothing = Sheet::of_scripts(&[&[]], 0);
+    expect("no operations", &nothing.bytes(), 0, 0);
+}
+
+#[test]
+fn any_source_before_ready_before_buffers() {
+    let any = Operation::receive(ANY, 0, 0, 1);
+    let (ready, buffered) = (send(READY, 1), send(BUFFERED, 3));
+    expect("20 last", &sheet(&[buffered, ready, any, any], 0), 20, 2);
+    expect("20 first", &sheet(&[any, ready, buffered], 0), 20, 0);
+    expect("21 and 22", &sheet(&[buffered, ready, ready], 0), 21, 1);
+    expect("22 alone", &sheet(&[buffered], 0), 22, 0);
+    let nonblocking = [any.nonblocking(3), ready.nonblocking(4)];
+    expect("nonblocking", &sheet(&nonblocking, 0), 20, 0);
+}
+
+#[test]
+fn buffers_cover_all_buffered_sends_of_their_board() {
+    let others = [send(STANDARD, 9), send(SYNCHRONOUS, 9)];
+    let buffered = [send(BUFFERED, 5), send(BUFFERED, 6).nonblocking(0)];
+    let script = [buffered, others].concat();
+    expect("covered", &sheet(&script, 12), 0, 0);
+    expect("covered exactly", &sheet(&script, 11), 0, 0);
+    expect("a byte short", &sheet(&script, 10), 22, 0);
+    expect("either alone covered", &sheet(&script, 6), 22, 0);
+    let both = Sheet::of_scripts(&[&[send(BUFFERED, 5)], &[send(BUFFERED, 6)]], 8);
+    let both = both.attach(0, 5);
+    expect("rank 1", &both.clone().attach(1, 5).bytes(), 22, 1);
+    expect("each its own", &both.attach(1, 6).bytes(), 0, 0);
+}
+
+/// More charges than 16 bits hold.
+#[test]
+fn charges_do_not_wrap() {
+    let mut many = Sheet::of_scripts(&[&[send(BUFFERED, 4096); 17]], 0);
+    many.payload = vec![7; 4096];
+    many.boards[0].script.iter_mut().for_each(|op| op.peer = 0);
+    expect("69,632", &many.attach(0, 16_384).bytes(), 22, 0);
+}
+
+#[test]
+fn refusals_of_check_come_first() {
+    let mut bytes = sheet(&[Operation::receive(ANY, 0, 0, 1), send(READY, 1)], 0);
+    expect("accepted", &bytes, 20, 0);
+    expect("under 16 bytes", &bytes[..15], 1, 0);
+    bytes[operation_at(2, 1) + operation::ZERO] = 1;
+    expect("crc", &bytes, 4, 0);
+    mend_crc(&mut bytes);
+    expect("field", &bytes, 6, 1);
+}
+
+#[test]
+fn judges_agree() {
+    let mut numbers = [0; 23];
+    for number in 0..10_000 {
+        let (_, sheet, _) = generate::case(11, number);
+        if sheet.len() <= 1500 {
+            let answer = judge::premise(&sheet);
+            assert_eq!(judge::naive::premise(&sheet), answer, "case {number}");
+            numbers[answer.number as usize] += 1;
+        }
+    }
+    let reached = [0, 20, 21, 22].map(|number: usize| numbers[number]);
+    assert!(reached.iter().all(|&count| count > 20), "{reached:?}");
+}
