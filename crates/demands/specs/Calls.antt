@@ -5,34 +5,38 @@
 --   run-keeps                  of a call of run
 --   follow-demands             of two calls of follow
 --   follow-and-run             of a call of follow and one of run
+--   one-for-all                of a call of premise and one of run
 use mathlib.Core.Path.{_≡_, refl, sym, ap, subst, _∙_}
 use mathlib.Core.Logic.{_≢_}
 use mathlib.Core.Bool.{Bool, true, false}
 use mathlib.Core.List.{List}
 use mathlib.Core.Option.{Option, none, some}
-use Prim.Native.Nat.{ℕ, _≤_}
+use Prim.Native.Nat.{ℕ, zero, suc, _+_, _≤_}
 use native.Mathlib.Omega.{arith}
 use lib.Dec.{eqb}
-use lib.ListN.{length, getD}
+use lib.ListN.{length, getD, set, take}
+use lib.Seq.{getD-set-other, getD-take}
 use borrow.Author.Tests.{eq-eqb, ne-eqb}
-use Rattle.rules.specs.Limits.{order-room}
-use Rattle.rules.specs.Sheet.{Sheet, sheet-in, N-of}
+use Rattle.rules.specs.Limits.{order-room, report-size, report-header-size, board-row-size}
+use Rattle.rules.specs.Sheet.{Sheet, sheet-in, P-of, N-of}
 use Rattle.rules.specs.Job.{Job}
 use Rattle.rules.specs.Refusal.{Refusal, refusal, or-else, sheet-refusal}
 use Rattle.rules.specs.Order.{follow, none-able}
 use Rattle.rules.specs.Report.{verdict-of, header-bytes, report}
 use Rattle.rules.specs.Service.{answers, room-refusal, order-refusal, in-front, kept-or, Check-says, follow-refusal, Follow-says, Run-says}
-use Rattle.rules.specs.Claims.{passes, left-by}
+use Rattle.rules.specs.Claims.{passes, calm, left-by, rows-without-peaks, without-peaks}
+use Rattle.rules.specs.Premise.{Premise-says}
+use Rattle.laws.specs.Premise.{premise-holds, calm-premise}
 use Rattle.sheet.specs.declared.Answer.{Answer}
 use Rattle.laws.specs.Tests.{cond-false}
 use Rattle.laws.specs.Broken.{or-else-stopped}
 use Rattle.invariant.specs.step.LowestAble.{next-able}
 use Rattle.promises.specs.Statements.{Lent, told-by, Exact, Verdicts}
-use Rattle.promises.specs.ServiceStatements.{Follow-call, Run-call, told-in, Follow-reports, Run-reports, Follows-alike, Run-alike, Follow-swaps}
+use Rattle.promises.specs.ServiceStatements.{Follow-call, Run-call, told-in, Left-alike, Follow-reports, Run-reports, Follows-alike, Run-alike, Follow-swaps}
 use Rattle.promises.specs.Theorems.{verdicts, follow-reports, run-reports, follows-alike, run-alike, follow-swaps}
-use Rattle.promises.specs.claims.Calls.{follow-answer, follow-report}
+use Rattle.promises.specs.claims.Calls.{follow-answer, follow-report, run-answer}
 use Rattle.promises.specs.claims.Reported.{follow-passes, run-passes}
-use Rattle.demands.specs.Demands.{Seen, Kept-rules, Same-answer, Check-and-follow, Run-keeps, Ended, Calls-alike, Two-orders, Exchanged, Follow-demands, Follow-and-run}
+use Rattle.demands.specs.Demands.{Seen, Kept-rules, Same-answer, Check-and-follow, Run-keeps, Ended, Calls-alike, Two-orders, Exchanged, Follow-demands, Follow-and-run, As-run, One-for-all}
 
 -- NO BOARD IS ABLE, by the report
 verdict-byte : (s : Sheet) (x : Job) (old : List ℕ) → getD (in-front (report s x) old) 0 0 ≡ verdict-of (x .stop) s x
@@ -223,3 +227,49 @@ follow-and-run {bs} {o} a b h end-f =
     let F = follow-call a (h .not-short) in
     run-alike bs o F (run-call b (h .not-short-too)) (h .passing) (h .calm-sheet) (h .same-start) (end-f .0)
     (none-left (h .passing) F (end-f .0) (end-f .1))
+
+-- THE PREMISE SERVICE AND RUN
+-- the first byte of a report is no peak
+first-kept : (k at : ℕ) (r : List ℕ) → getD (rows-without-peaks k at r) 0 0 ≡ getD r 0 0
+unfolding rows-without-peaks
+first-kept zero at r = refl
+first-kept (suc k) at r =
+    first-kept k (at + board-row-size) (set (set r (at + 4) 0) (at + 5) 0)
+    ∙ getD-set-other (set r (at + 4) 0) (at + 5) 0 0 0 (λ e. omega arith)
+    ∙ getD-set-other r (at + 4) 0 0 0 (λ e. omega arith)
+
+first-told : (p n : ℕ) (r : List ℕ) → getD (without-peaks p (take (report-size p n) r)) 0 0 ≡ getD r 0 0
+unfolding without-peaks
+first-told p n r =
+    first-kept p report-header-size (take (report-size p n) r) ∙ getD-take (report-size p n) r 0 0 (omega arith)
+
+-- so reports that are left alike tell one verdict
+alike-verdict : (bs i r j q : List ℕ) → Left-alike bs i r j q → getD r 0 0 ≡ getD q 0 0
+unfolding Left-alike
+alike-verdict bs i r j q h =
+    let p = P-of (sheet-in bs) in
+    let n = N-of (sheet-in bs) in
+    sym (first-told p n r) ∙ ap (λ (z : List ℕ). getD z 0 0) (h .1) ∙ first-told p n q
+
+module _ {bs : List ℕ} (asked : Answer) (c : Premise-says bs (asked .number) (asked .place)) {f : Seen} {o o-now : List ℕ}
+    (a : Run-seen bs f o o-now) where
+  holds : asked .number ≡ 0 → (passes bs ≡ true) × (calm (sheet-in bs) ≡ true)
+  unfolding Premise-says answers
+  holds e = premise-holds bs (sym (c .0) ∙ e)
+
+  as-run : asked .number ≡ 0 → f .answer .number ≢ 8 → As-run bs f
+  unfolding As-run Run-alike
+  as-run e h order g same zero-g ended =
+      let P = holds e in
+      let end =
+      run-alike bs order g (run-call a h) (P .0) (P .1) same zero-g (none-left (P .0) g zero-g ended) .1 in
+      (end, alike-verdict bs (g .inbox-now) (g .report-now) (f .inbox-now) (f .report-now) end)
+
+  pub one-for-all : One-for-all bs asked f
+  unfolding Premise-says answers
+  one-for-all =
+      record {
+        exact = (holds, λ h. c .0 ∙ calm-premise bs h);
+        runs = λ e h. run-answer (holds e .0) (run-call a h) .number-zero;
+        as-run = as-run;
+      }

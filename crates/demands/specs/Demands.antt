@@ -1,7 +1,7 @@
 -- The three demands as callers of the services see them (document 01, "What is pinned down"): of answers, and of the bytes of
 -- rooms before and after the calls. Assumes nothing: these are definitions.
 use mathlib.Core.Path.{_≡_}
-use mathlib.Core.Logic.{_≢_}
+use mathlib.Core.Logic.{_≢_, _↔_}
 use mathlib.Core.Bool.{true}
 use mathlib.Core.List.{List, _∷_, _++_}
 use Prim.Native.Nat.{ℕ, _≤_}
@@ -10,7 +10,7 @@ use Rattle.rules.specs.Sheet.{sheet-in}
 use Rattle.rules.specs.Step.{able}
 use Rattle.rules.specs.Claims.{passes, calm, accepts, left-by}
 use Rattle.sheet.specs.declared.Answer.{Answer}
-use Rattle.promises.specs.ServiceStatements.{Reported, Same-start, Left-alike}
+use Rattle.promises.specs.ServiceStatements.{Follow-call, Reported, Same-start, Left-alike}
 
 -- what a caller sees of a call of follow or run: the answer, and inbox and report as they were lent and as the call left them
 pub record Seen : Type 0 where
@@ -105,3 +105,19 @@ pub record Follow-demands (bs one other : List ℕ) (f g : Seen) : Type 0 where
 -- Run ends alike with every order that follow accepts and after which no board is able.
 unfoldable pub Follow-and-run : (bs : List ℕ) (f g : Seen) → Type 0
 Follow-and-run bs f g = Compared bs f g → Ended f → (g .answer .number ≡ 0) × Calls-alike bs f g
+
+-- THE PREMISE SERVICE AND RUN: one verdict for all orders
+
+-- The service answers 0 exactly where demand 3's premise holds of the sheet. Where it does and 8 does not refuse the run, run
+-- answers 0, and every call of follow from inboxes that start with the same bytes, with number 0 and after which no board is
+-- able, leaves what run left, peaks aside, and tells run's verdict.
+unfoldable pub As-run : (bs : List ℕ) (f : Seen) → Type 0
+As-run bs f =
+    (order : List ℕ) (g : Follow-call bs order) → Same-start bs (g .inbox) (f .inbox) → g .number ≡ 0 →
+    getD (g .report-now) 0 0 ≢ 0 →
+    Left-alike bs (g .inbox-now) (g .report-now) (f .inbox-now) (f .report-now) × (getD (g .report-now) 0 0 ≡ verdict-in f)
+
+pub record One-for-all (bs : List ℕ) (asked : Answer) (f : Seen) : Type 0 where
+  pub exact : (asked .number ≡ 0) ↔ ((passes bs ≡ true) × (calm (sheet-in bs) ≡ true))
+  pub runs : asked .number ≡ 0 → f .answer .number ≢ 8 → f .answer .number ≡ 0
+  pub as-run : asked .number ≡ 0 → f .answer .number ≢ 8 → As-run bs f

@@ -1,9 +1,10 @@
 // The demands of the services themselves (document 01, "What is pinned down"): small functions that call the services and
 // ensure the demands' conclusions, with no `requires`. Their proofs know of a service only what its contract says, so a
 // contract that is weakened fails here.
-ghost use Rattle.demands.specs.Demands.{seen, Check-and-follow, Run-keeps, Follow-demands, Follow-and-run};
+ghost use Rattle.demands.specs.Demands.{seen, Check-and-follow, Run-keeps, Follow-demands, Follow-and-run, One-for-all};
 use jamturret::jamturret_check;
 use jamturret::jamturret_follow;
+use jamturret::jamturret_premise;
 use jamturret::jamturret_run;
 use sheet::Answer;
 
@@ -87,6 +88,26 @@ pub fn follow_and_run(
 {
     let first = jamturret_follow(sheet, order1, inbox1, report1, scratch);
     let second = jamturret_run(sheet, inbox2, report2, order2, scratch);
+    Answers {
+        first: first,
+        second: second,
+    }
+}
+
+// Ask whether the order can matter for a sheet (PREMISE), and RUN it: with both answers 0 the run's outcome is that of every full
+// order.
+pub fn premise_and_run(
+    sheet: &[u8],
+    inbox: &mut [u8],
+    report: &mut [u8],
+    order: &mut [u8],
+    scratch: &mut [u8],
+) -> Answers
+    ensures { λ a. ⌜ One-for-all (now (sheet .entry)) (a .first)
+        (seen (a .second) (now (inbox .entry)) (now (inbox .exit)) (now (report .entry)) (now (report .exit))) ⌝ }
+{
+    let first = jamturret_premise(sheet);
+    let second = jamturret_run(sheet, inbox, report, order, scratch);
     Answers {
         first: first,
         second: second,
