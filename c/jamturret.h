@@ -95,11 +95,11 @@ jamturret_answer jamturret_check(const uint8_t *sheet, size_t sheet_len);
 /*
  * Says whether the order of steps can matter for a sheet. Refusals 1 to 7 as
  * check gives them; then 20, 21 and 22, the lowest first, each at its first
- * place (an operation, an operation, a rank). Success means that any two
- * orders of steps that go on until no board is able leave the same inboxes and
- * the same report, peaks aside, and that run leaves them too. The attached
- * buffer of a board covers its buffered sends where their lengths add up to at
- * most its size.
+ * place (an operation, an operation, a rank). Success means: from the same
+ * inbox bytes, any two orders that follow accepts and after which no board is
+ * able leave the same inboxes and the same report, peaks aside, and so does
+ * run. A buffer covers the buffered sends of its board where their lengths add
+ * up to at most its size.
  */
 jamturret_answer jamturret_premise(const uint8_t *sheet, size_t sheet_len);
 
