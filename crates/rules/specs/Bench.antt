@@ -1,6 +1,8 @@
--- The bench (document 01, "Bench jobs"): every job of BenchNumbered and BenchFurther in one list, and one claim, which the
--- checker computes: each sheet passes check, each order is taken, each report and each inbox come out as written by hand.
--- The edits in must-fail/ put wrong definitions in the place of those tested here; this claim refuses each. Assumes nothing.
+-- The bench (document 01, "Bench jobs" and "When the desk says no"): the jobs of BenchNumbered and BenchFurther in one list, the
+-- calls of BenchRefused and those of BenchRooms, each under one claim, which the checker computes. A job: its sheet passes check,
+-- its order is taken, report and inboxes come out as written by hand. The edits in must-fail/ put wrong definitions in the place
+-- of those tested here; a claim refuses each. A claim cites the one before it: once one is refused the rest is not computed.
+-- Assumes nothing.
 use mathlib.Core.Path.{_≡_, refl}
 use mathlib.Core.Bool.{Bool, true}
 use mathlib.Core.List.{List, _++_}
@@ -22,17 +24,20 @@ bench-jobs-hold = refl
 -- each call answers the number and the place that it must
 pub bench-calls-hold : all as-answered bench-calls ≡ true
 unfolding definitions
-bench-calls-hold = refl
+bench-calls-hold =
+    let before = bench-jobs-hold in
+    refl
 
 -- each call leaves every byte of its rooms as it must
 pub bench-rooms-hold : bench-rooms
 unfolding definitions
-bench-rooms-hold = (
-  ((refl, refl), refl, refl, refl),
-  ((refl, refl), refl, refl, refl),
-  ((refl, refl), refl, refl, refl, refl),
-  ((refl, refl), refl, refl, refl),
-  ((refl, refl), refl, refl, refl),
-  ((refl, refl), refl, refl, refl, refl),
-  ((refl, refl), refl, refl, refl, refl),
-)
+bench-rooms-hold =
+    let before = bench-calls-hold in (
+      ((refl, refl), refl, refl, refl),
+      ((refl, refl), refl, refl, refl),
+      ((refl, refl), refl, refl, refl, refl),
+      ((refl, refl), refl, refl, refl),
+      ((refl, refl), refl, refl, refl),
+      ((refl, refl), refl, refl, refl, refl),
+      ((refl, refl), refl, refl, refl, refl),
+    )

@@ -9,10 +9,11 @@
 -- Assumes nothing.
 use mathlib.Core.List.{List, [], _∷_, _++_}
 use lib.ListN.{take}
-use Rattle.rules.specs.BenchJob.{standard, buffered, synchronous, any, Line, send, isend, receive, ireceive, wait, Script, script, Draft, draft}
-use Rattle.rules.specs.BenchJob.{draft-bytes}
+use Rattle.rules.specs.BenchJob.{standard, buffered, synchronous, any, Line, send, isend, receive, ireceive, wait}
+use Rattle.rules.specs.BenchJob.{Script, script, Draft, draft, draft-bytes}
 use Rattle.rules.specs.BenchNumbered.{case-1-sheet, ready-sheet}
-use Rattle.rules.specs.BenchRefusal.{altered, header-only, plain, of-rank-1, of-each, Answer, _at_, BenchCall, asks-check, asks-follow, asks-run}
+use Rattle.rules.specs.BenchRefusal.{altered, header-only, plain, of-rank-1, of-each, Answer, _at_, BenchCall}
+use Rattle.rules.specs.BenchRefusal.{asks-check, asks-follow, asks-run}
 
 unfoldable pub bench-calls : List BenchCall
 bench-calls =
@@ -87,7 +88,8 @@ bench-calls =
     ∷ asks-check (draft-bytes (draft 1 0xdbf2 [] (script 0 5000 (receive 0 0 0 0 4096 ∷ []) ∷ []))) (0 at 0)
     ∷ asks-check (draft-bytes (draft 1 0xad46 [] (script 0 5000 (receive 0 0 0 0 4097 ∷ []) ∷ []))) (6 at 0)
     -- Offset plus length: to the end and one byte over it, of the payload and of the board's own inbox; an empty one too
-    ∷ asks-check (draft-bytes (of-rank-1 0x010c (send standard 0 0 0 1 1 ∷ send standard 0 0 0 2 0 ∷ receive 0 0 0 2 2 ∷ receive 0 0 0 4 0 ∷ []))) (0 at 0)
+    ∷ asks-check (draft-bytes (of-rank-1 0x9980 (send standard 0 0 0 1 1 ∷ send standard 0 0 0 2 0 ∷ []))) (0 at 0)
+    ∷ asks-check (draft-bytes (of-rank-1 0x5657 (receive 0 0 0 2 2 ∷ receive 0 0 0 4 0 ∷ []))) (0 at 0)
     ∷ asks-check (draft-bytes (of-rank-1 0xcdce (send standard 0 0 0 1 2 ∷ []))) (6 at 0)
     ∷ asks-check (draft-bytes (of-rank-1 0xc928 (send standard 0 0 0 3 0 ∷ []))) (6 at 0)
     ∷ asks-check (draft-bytes (of-rank-1 0xb0bc (receive 0 0 0 2 3 ∷ []))) (6 at 0)
@@ -113,7 +115,8 @@ bench-calls =
     ∷ asks-check (draft-bytes (of-rank-1 0xf188 (wait 0 ∷ []))) (7 at 0)
     ∷ asks-check (draft-bytes (of-rank-1 0xc808 (isend standard 0 0 0 0 1 3 ∷ wait 4 ∷ []))) (7 at 1)
     ∷ asks-check (draft-bytes (of-rank-1 0x0377 (isend standard 0 0 0 0 1 3 ∷ wait 3 ∷ wait 3 ∷ []))) (7 at 2)
-    ∷ asks-check (draft-bytes (of-rank-1 0xb322 (isend standard 0 0 0 0 1 3 ∷ wait 3 ∷ isend standard 0 0 0 0 1 3 ∷ wait 3 ∷ []))) (0 at 0)
+    ∷ asks-check (draft-bytes (of-rank-1 0xb322 (isend standard 0 0 0 0 1 3 ∷ wait 3 ∷ isend standard 0 0 0 0 1 3 ∷ wait 3 ∷ [])))
+    (0 at 0)
     -- Each board has its own slots: both take slot 0; rank 1 waits on rank 0's
     ∷ asks-check (draft-bytes (of-each 0x8a57 (isend standard 1 0 0 0 0 0 ∷ []) (isend standard 0 0 0 0 0 0 ∷ []))) (0 at 0)
     ∷ asks-check (draft-bytes (of-each 0x50dd (isend standard 1 0 0 0 0 0 ∷ []) (wait 0 ∷ []))) (7 at 1)
@@ -121,14 +124,16 @@ bench-calls =
     ∷ asks-check (draft-bytes (of-rank-1 0x1025 (ireceive 0 0 0 0 2 0 ∷ ireceive 0 0 0 1 2 1 ∷ []))) (7 at 1)
     ∷ asks-check (draft-bytes (of-rank-1 0x7c50 (ireceive 0 0 0 2 2 0 ∷ ireceive 0 0 0 0 3 1 ∷ []))) (7 at 1)
     ∷ asks-check (draft-bytes (of-rank-1 0xa7e9 (ireceive 0 0 0 1 2 0 ∷ ireceive 0 0 0 3 1 1 ∷ ireceive 0 0 0 0 1 2 ∷ []))) (0 at 0)
-    ∷ asks-check (draft-bytes (of-rank-1 0x1199 (ireceive 0 0 0 0 2 0 ∷ send standard 0 0 0 0 1 ∷ receive 0 0 0 1 1 ∷ wait 1 ∷ []))) (7 at 2)
+    ∷ asks-check (draft-bytes (of-rank-1 0x1199 (ireceive 0 0 0 0 2 0 ∷ send standard 0 0 0 0 1 ∷ receive 0 0 0 1 1 ∷ wait 1 ∷ [])))
+    (7 at 2)
     -- An empty area inside a held one, and a held empty one inside another
     ∷ asks-check (draft-bytes (of-rank-1 0xe794 (ireceive 0 0 0 0 4 0 ∷ ireceive 0 0 0 1 0 1 ∷ []))) (0 at 0)
     ∷ asks-check (draft-bytes (of-rank-1 0x36a4 (ireceive 0 0 0 1 0 0 ∷ ireceive 0 0 0 0 4 1 ∷ []))) (0 at 0)
     -- A blocking receive holds no area; a wait frees its slot's area and no other; a send's slot holds none
     ∷ asks-check (draft-bytes (of-rank-1 0xac9e (receive 0 0 0 0 2 ∷ ireceive 0 0 0 0 2 0 ∷ []))) (0 at 0)
     ∷ asks-check (draft-bytes (of-rank-1 0x42db (ireceive 0 0 0 0 2 0 ∷ wait 0 ∷ receive 0 0 0 0 2 ∷ []))) (0 at 0)
-    ∷ asks-check (draft-bytes (of-rank-1 0xd4c1 (ireceive 0 0 0 0 2 0 ∷ ireceive 0 0 0 2 2 1 ∷ wait 1 ∷ receive 0 0 0 0 1 ∷ []))) (7 at 3)
+    ∷ asks-check (draft-bytes (of-rank-1 0xd4c1 (ireceive 0 0 0 0 2 0 ∷ ireceive 0 0 0 2 2 1 ∷ wait 1 ∷ receive 0 0 0 0 1 ∷ [])))
+    (7 at 3)
     ∷ asks-check (draft-bytes (of-rank-1 0x6176 (isend standard 0 0 0 0 2 0 ∷ receive 0 0 0 0 2 ∷ []))) (0 at 0)
     -- Areas of two boards share nothing
     ∷ asks-check (draft-bytes (of-each 0x21a3 (ireceive 1 0 0 0 2 0 ∷ []) (ireceive 0 0 0 0 2 0 ∷ []))) (0 at 0)
@@ -164,11 +169,15 @@ bench-calls =
     ∷ asks-follow (draft-bytes case-1-sheet) (0 ∷ 1 ∷ 0 ∷ 1 ∷ []) 4 56 32768 (0 at 0)
     ∷ asks-follow (draft-bytes case-1-sheet) (0 ∷ 1 ∷ 0 ∷ 1 ∷ 1 ∷ []) 4 56 32768 (9 at 4)
     -- A wait on a send that is not matched; then of two the first is told
-    ∷ asks-follow (draft-bytes (of-each 0xa504 (isend synchronous 1 0 0 0 0 0 ∷ wait 0 ∷ []) (receive 0 0 0 0 0 ∷ []))) (0 ∷ 0 ∷ 9 ∷ []) 4 68 32768 (9 at 1)
-    ∷ asks-follow (draft-bytes (of-each 0xa504 (isend synchronous 1 0 0 0 0 0 ∷ wait 0 ∷ []) (receive 0 0 0 0 0 ∷ []))) (0 ∷ 1 ∷ 0 ∷ []) 4 68 32768 (0 at 0)
+    ∷ asks-follow (draft-bytes (of-each 0xa504 (isend synchronous 1 0 0 0 0 0 ∷ wait 0 ∷ []) (receive 0 0 0 0 0 ∷ [])))
+    (0 ∷ 0 ∷ 9 ∷ []) 4 68 32768 (9 at 1)
+    ∷ asks-follow (draft-bytes (of-each 0xa504 (isend synchronous 1 0 0 0 0 0 ∷ wait 0 ∷ []) (receive 0 0 0 0 0 ∷ [])))
+    (0 ∷ 1 ∷ 0 ∷ []) 4 68 32768 (0 at 0)
     -- After a stop no board is able: not ready, overflow. The stopping step itself is taken
     ∷ asks-follow (draft-bytes ready-sheet) (0 ∷ []) 2 56 32768 (0 at 0)
     ∷ asks-follow (draft-bytes ready-sheet) (0 ∷ 1 ∷ []) 2 56 32768 (9 at 1)
-    ∷ asks-follow (draft-bytes (of-each 0xc15f (send buffered 1 0 0 0 1 ∷ []) (receive 0 0 0 0 1 ∷ []))) (0 ∷ 1 ∷ 1 ∷ []) 4 56 32768 (9 at 1)
-    ∷ asks-follow (draft-bytes (of-each 0xc15f (send buffered 1 0 0 0 1 ∷ []) (receive 0 0 0 0 1 ∷ []))) (1 ∷ 0 ∷ 0 ∷ 1 ∷ []) 4 56 32768 (0 at 0)
+    ∷ asks-follow (draft-bytes (of-each 0xc15f (send buffered 1 0 0 0 1 ∷ []) (receive 0 0 0 0 1 ∷ [])))
+    (0 ∷ 1 ∷ 1 ∷ []) 4 56 32768 (9 at 1)
+    ∷ asks-follow (draft-bytes (of-each 0xc15f (send buffered 1 0 0 0 1 ∷ []) (receive 0 0 0 0 1 ∷ [])))
+    (1 ∷ 0 ∷ 0 ∷ 1 ∷ []) 4 56 32768 (0 at 0)
     ∷ []
