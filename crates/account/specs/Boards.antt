@@ -20,8 +20,7 @@ use Rattle.rules.specs.Job.{Job, Place, place, job, place-at, entry-at, with-en
 use Rattle.rules.specs.Job.{with-memory, with-stop, with-steps}
 use Rattle.rules.specs.Step.{next-op, in-waiting-half, first-message, first-receive, charge-of, charged, released, with-place}
 use Rattle.rules.specs.Step.{charge, release, matched-rows, matched, with-state, pend-message, pend-receive, stopped, one-finished}
-use Rattle.rules.specs.Step.{now-waiting, initiated}
-use Rattle.rules.specs.Step.{fits-buffer, unmatched, sent, received, initiating, ended, step}
+use Rattle.rules.specs.Step.{now-waiting, initiated, fits-buffer, unmatched, sent, received, initiating, ended, step}
 use Rattle.laws.specs.Tests.{decided, true-not-false}
 use Rattle.account.specs.declared.Account.{Account}
 use Rattle.account.specs.Accounts.{account-of, place-of, has-room, taken, given-back, taken-not}
@@ -162,7 +161,8 @@ module _ (s : Sheet) (x : Job) (r i : ℕ) where
   charge-own : r < length (x .places) → fits-buffer s r i x ≡ true → board-account s (charge s r i x) r ≡ charge-taken r
   unfolding board-account charge taken account-of board
   charge-own l t =
-      let room : has-room (account-of (board s r .attached) (place-at x r)) (charge-of (op s i)) ≡ true = sym (room-is-board's s r i x) ∙ t in
+      let room : has-room (account-of (board s r .attached) (place-at x r)) (charge-of (op s i)) ≡ true =
+      sym (room-is-board's s r i x) ∙ t in
       rw (room, place-put r (charged (charge-of (op s i)) (place-at x r)) x l)
       (charged-account (board s r .attached) (charge-of (op s i)) (place-at x r))
 
@@ -209,7 +209,8 @@ module _ (s : Sheet) (x : Job) (m : ℕ) where
   nothing-there : length (x .places) ≤ rank-of s m → board-account s x (rank-of s m) ≡ charge-back (rank-of s m)
   unfolding board-account place-at
   nothing-there l =
-      rw (List·getD-eq-default (x .places) (place 0 false 0 0) l) (sym (nothing-back (board s (rank-of s m) .attached) (charge-of (op s m))))
+      rw (List·getD-eq-default (x .places) (place 0 false 0 0) l)
+      (sym (nothing-back (board s (rank-of s m) .attached) (charge-of (op s m))))
 
   back-own : Dec (rank-of s m < length (x .places)) → board-account s put-back (rank-of s m) ≡ charge-back (rank-of s m)
   unfolding board-account
