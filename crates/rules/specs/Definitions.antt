@@ -13,6 +13,9 @@ use Rattle.rules.specs.Premise
 use Rattle.rules.specs.BenchJob
 use Rattle.rules.specs.BenchNumbered
 use Rattle.rules.specs.BenchFurther
+use Rattle.rules.specs.BenchRefusal
+use Rattle.rules.specs.BenchRefused
+use Rattle.rules.specs.BenchRooms
 
 unfoldable pub definitions : Unit {0}
 unfolding
@@ -54,4 +57,8 @@ unfolding
     BenchNumbered.case-1-sheet BenchNumbered.nonblocking-sheet BenchNumbered.ready-sheet
     BenchNumbered.any-source-sheet BenchNumbered.numbered-jobs
     BenchFurther.further-jobs
+    BenchRefusal.altered BenchRefusal.header-only BenchRefusal.plain BenchRefusal.of-rank-1 BenchRefusal.of-each
+    BenchRefusal.is-answer BenchRefusal.as-answered
+    BenchRefused.bench-calls
+    BenchRooms.follow-leaves BenchRooms.run-leaves BenchRooms.bench-rooms
 definitions = tt

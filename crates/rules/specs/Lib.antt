@@ -13,8 +13,11 @@
 --   BenchJob       a bench job as it is written down, and the test that it is put to
 --   BenchNumbered  the starred bench jobs, 1 to 12
 --   BenchFurther   jobs for the listed slips, and for rules that those leave untested
+--   BenchRefusal   a call that is refused or accepted, as it is written down, and the test of its answer
+--   BenchRefused   such calls, for numbers 1 to 9
+--   BenchRooms     calls with every byte of the lent rooms before and after
 --   Definitions    all definitions under one name, for claims that the checker computes
---   Bench          both lists of jobs in one, under one claim
+--   Bench          the jobs, the calls and the rooms, each under one claim
 --   BenchPremise   sheets that premise is asked about, under one claim
 pub mod Limits
 pub mod Sheet
@@ -30,6 +33,9 @@ pub mod Premise
 pub mod BenchJob
 pub mod BenchNumbered
 pub mod BenchFurther
+pub mod BenchRefusal
+pub mod BenchRefused
+pub mod BenchRooms
 pub mod Definitions
 pub mod Bench
 pub mod BenchPremise
