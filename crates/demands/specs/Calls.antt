@@ -31,10 +31,10 @@ use Rattle.sheet.specs.declared.Answer.{Answer}
 use Rattle.laws.specs.Tests.{cond-false}
 use Rattle.laws.specs.Broken.{or-else-stopped}
 use Rattle.invariant.specs.step.LowestAble.{next-able}
-use Rattle.promises.specs.Statements.{Lent, told-by, Exact, Verdicts}
+use Rattle.promises.specs.Statements.{told-by, Exact, Verdicts}
 use Rattle.promises.specs.ServiceStatements.{Follow-call, Run-call, told-in, Left-alike, Follow-reports, Run-reports, Follows-alike, Run-alike, Follow-swaps}
 use Rattle.promises.specs.Theorems.{verdicts, follow-reports, run-reports, follows-alike, run-alike, follow-swaps}
-use Rattle.promises.specs.claims.Calls.{follow-answer, follow-report, run-answer}
+use Rattle.promises.specs.claims.Calls.{follow-answer, follow-lent, follow-report, run-answer}
 use Rattle.promises.specs.claims.Reported.{follow-passes, run-passes}
 use Rattle.demands.specs.Demands.{Seen, Kept-rules, Same-answer, Check-and-follow, Run-keeps, Ended, Calls-alike, Two-orders, Exchanged, Follow-demands, Follow-and-run, As-run, One-for-all}
 
@@ -57,16 +57,9 @@ none-left {bs} {o} p f success differs = go (none-able s x) refl
     byte : getD (f .report-now) 0 0 ≡ verdict-of (x .stop) s x
     byte = ap (λ (r : List ℕ). getD r 0 0) (follow-report p f success) ∙ verdict-byte s x (f .report)
 
-    lent : Lent bs (f .inbox)
-    lent =
-        record {
-          passing = p;
-          room = follow-answer p f .inbox-room;
-        }
-
     go : (b : Bool) → none-able s x ≡ b → b ≡ true
     go true e = refl
-    go false e = absurd (differs (byte ∙ verdicts bs (f .inbox) o lent .still-able .1 (next-able s x e)))
+    go false e = absurd (differs (byte ∙ verdicts bs (f .inbox) o (follow-lent p f) .still-able .1 (next-able s x e)))
 
 -- CALLS: what a service's contract says of a call, in what the caller saw of it and the other rooms; and the same call as
 -- promises has it, once number 8 does not refuse it

@@ -88,7 +88,7 @@ both-full ok p =
 unfoldable pub ends-apart : (Sheet → Bool) → Pair-of-orders → Bool
 ends-apart ok p = both-full ok p && not (same (bare-report-of p (p .one)) (bare-report-of p (p .other)))
 
-same-refl : (bs : List ℕ) → same bs bs ≡ true
+pub same-refl : (bs : List ℕ) → same bs bs ≡ true
 unfolding same
 same-refl [] = refl
 same-refl (x ∷ xs) = cc (eq-eqb x x refl, same-refl xs)

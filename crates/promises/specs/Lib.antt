@@ -1,14 +1,16 @@
 -- What document 01 promises of job sheets. Statements is what to read, and Theorems says that each is proved; nothing below
 -- this crate cites it, so that a change of a theorem rechecks no code.
---   Statements         each claim in words and in antt, over `rules` only
---   ServiceStatements  the same of what a call of follow or run leaves
---   Theorems           each claim, proved
---   Counterexamples    why demand 3 asks for calm sheets and sets the peaks aside, by computed sheets
---   compare            two jobs of one sheet: behind one another, alike, exchanged steps, full orders
---   claims             the proofs of the claims, of a sheet's bytes
+--   Statements           each claim in words and in antt, over `rules` only
+--   ServiceStatements    the same of what a call of follow or run leaves
+--   Theorems             each claim, proved
+--   Counterexamples      why demand 3 asks for calm sheets and sets the peaks aside, by computed sheets
+--   SwapCounterexamples  the same where two steps are exchanged
+--   compare              two jobs of one sheet: behind one another, alike, exchanged steps, full orders
+--   claims               the proofs of the claims, of a sheet's bytes
 pub mod Statements
 pub mod ServiceStatements
 pub mod Theorems
 pub mod Counterexamples
+pub mod SwapCounterexamples
 pub mod compare
 pub mod claims

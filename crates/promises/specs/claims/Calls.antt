@@ -3,6 +3,7 @@
 --   Follow-answer, follow-answer     of a call of follow
 --   follow-accepted ..               and of one that answered 0
 --   Run-answer, run-answer           of a call of run
+--   follow-lent, run-lent            so the claims of Statements hold of it
 --   front-report                     the report at the front of its room
 -- Assumes nothing.
 use mathlib.Core.Path.{_≡_, refl, sym, ap, _∙_}
@@ -27,6 +28,7 @@ use Rattle.rules.specs.Claims.{passes, accepts, left-by}
 use Rattle.laws.specs.Tests.{cond-true}
 use Rattle.laws.specs.Broken.{or-else-passed, or-else-stopped}
 use Rattle.laws.specs.Rooms.{Roomy, not-eight, rooms-enough}
+use Rattle.promises.specs.Statements.{Lent}
 use Rattle.promises.specs.ServiceStatements.{Follow-call, Run-call}
 
 passed-number : (bs : List ℕ) → passes bs ≡ true → sheet-refusal bs .number ≡ 0
@@ -92,6 +94,14 @@ module _ {bs o : List ℕ} (p : passes bs ≡ true) (f : Follow-call bs o) where
         place-is = follow-told .1 ∙ ap (λ (z : Refusal). z .place) after-rooms;
       }
 
+  -- so the claims hold of what its order leaves
+  pub follow-lent : Lent bs (f .inbox)
+  follow-lent =
+      record {
+        passing = p;
+        room = follow-answer .inbox-room;
+      }
+
   -- success
   module _ (success : f .number ≡ 0) where
     number-zero : follow-number .number ≡ 0
@@ -148,3 +158,10 @@ run-answer {bs} p f =
     all-zero : answer .number ≡ 0
     all-zero = ap (λ (z : Refusal). z .number) (answer-rooms
         ∙ rooms-enough (sheet-in bs) (length (f .inbox)) (length (f .report)) (length (f .order)) (length (f .scratch)) enough)
+
+pub run-lent : {bs : List ℕ} → passes bs ≡ true → (f : Run-call bs) → Lent bs (f .inbox)
+run-lent p f =
+    record {
+      passing = p;
+      room = run-answer p f .inbox-room;
+    }

@@ -30,7 +30,7 @@ use Rattle.promises.specs.claims.OneJob.{lent-valid, lent-reached, deliv
 use Rattle.promises.specs.claims.Matching.{none-fit, no-overtaking, no-overtaking-receives, statuses, send-statuses}
 use Rattle.promises.specs.claims.Stops.{stop-reasons}
 use Rattle.promises.specs.claims.EndsAlike.{run-ends}
-use Rattle.promises.specs.claims.Calls.{follow-answer, follow-inbox, follow-report, run-answer}
+use Rattle.promises.specs.claims.Calls.{follow-lent, follow-inbox, follow-report, run-answer, run-lent}
 use Rattle.promises.specs.claims.Reports.{report-tells}
 
 -- A JOB that an order left, its memory in `inbox` and its report at the front of `out`
@@ -85,18 +85,11 @@ module _ {bs o : List ℕ} (f : Follow-call bs o) (success : f .number ≡ 0) wh
       (order-refusal (follow (sheet-in bs) o (f .inbox) .refused-at)))
       (sym (f .said .0 .0) ∙ success))
 
-  follow-lent : Lent bs (f .inbox)
-  follow-lent =
-      record {
-        passing = follow-passes;
-        room = follow-answer follow-passes f .inbox-room;
-      }
-
 pub follow-reports : Follow-reports
 unfolding Follow-reports
 follow-reports bs o f e =
     let p = follow-passes f e in
-    reported (follow-lent f e) o (f .report) (follow-inbox p f e) (follow-report p f e)
+    reported (follow-lent p f) o (f .report) (follow-inbox p f e) (follow-report p f e)
 
 -- RUN
 module _ {bs : List ℕ} (f : Run-call bs) (success : f .number ≡ 0) where
@@ -108,20 +101,13 @@ module _ {bs : List ℕ} (f : Run-call bs) (success : f .number ≡ 0) where
       (room-refusal (sheet-in bs) (length (f .inbox)) (length (f .report)) (length (f .order)) (length (f .scratch)))
       (sym (f .said .0 .0) ∙ success))
 
-  run-lent : Lent bs (f .inbox)
-  run-lent =
-      record {
-        passing = run-passes;
-        room = run-answer run-passes f .inbox-room;
-      }
-
 pub run-reports : Run-reports
 unfolding Run-reports Run-ends
 run-reports bs f e =
     (reported h order (f .report) memory written, full-verdict h order (f .report) memory written full)
   where
     h : Lent bs (f .inbox)
-    h = run-lent f e
+    h = run-lent (run-passes f e) f
 
     order : List ℕ
     order = run (sheet-in bs) (f .inbox) .order

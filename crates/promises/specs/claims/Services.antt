@@ -28,7 +28,7 @@ use Rattle.promises.specs.compare.SamePositions.{Same-positions, positio
 use Rattle.promises.specs.compare.WholeOrders.{Left-same-positions}
 use Rattle.promises.specs.compare.TwoRooms.{rooms-same-positions, positions-near}
 use Rattle.promises.specs.claims.OneJob.{lent-valid, lent-reached}
-use Rattle.promises.specs.claims.Calls.{follow-answer, follow-accepted, follow-inbox, follow-report, front-report, run-answer}
+use Rattle.promises.specs.claims.Calls.{follow-answer, follow-lent, follow-accepted, follow-inbox, follow-report, front-report, run-answer, run-lent}
 
 -- ALIKE AS FAR AS THE SHEET'S OWN ROOM GOES
 record Alike-front (s : Sheet) (x y : Job) : Type 0 where
@@ -95,32 +95,18 @@ module _ {bs : List ℕ} (p : passes bs ≡ true) where
         room = follow-answer p f .inbox-room;
       }
 
-  follow-lent : {o : List ℕ} (f : Follow-call bs o) → Lent bs (f .inbox)
-  follow-lent f =
-      record {
-        passing = p;
-        room = follow-answer p f .inbox-room;
-      }
-
   follow-shows : {o : List ℕ} (f : Follow-call bs o) → f .number ≡ 0 →
       Shows (sheet-in bs) (left-by (sheet-in bs) o (f .inbox)) (f .inbox-now) (f .report-now)
   follow-shows {o} f h =
-      shows (sheet-in bs) (left-by (sheet-in bs) o (f .inbox)) (f .report) (lent-reached (follow-lent f) o .placed .entries-long)
+      shows (sheet-in bs) (left-by (sheet-in bs) o (f .inbox)) (f .report) (lent-reached (follow-lent p f) o .placed .entries-long)
       (follow-inbox p f h) (follow-report p f h)
-
-  run-lent : (g : Run-call bs) → Lent bs (g .inbox)
-  run-lent g =
-      record {
-        passing = p;
-        room = run-answer p g .inbox-room;
-      }
 
   run-shows : (g : Run-call bs) → Ends (sheet-in bs) (g .inbox) →
       Shows (sheet-in bs) (run (sheet-in bs) (g .inbox) .end) (g .inbox-now) (g .report-now)
   run-shows g E =
       shows (sheet-in bs) (run (sheet-in bs) (g .inbox) .end) (g .report)
       (ap (λ (z : Job). length (z .entries)) (sym (E .same-job))
-      ∙ lent-reached (run-lent g) (run (sheet-in bs) (g .inbox) .order) .placed .entries-long) (run-answer p g .inbox-is)
+      ∙ lent-reached (run-lent p g) (run (sheet-in bs) (g .inbox) .order) .placed .entries-long) (run-answer p g .inbox-is)
       (run-answer p g .report-is)
 
 -- calls on rooms that start with the same bytes

@@ -1,0 +1,170 @@
+-- Why demand 3 asks for calm sheets where two neighbouring able steps are exchanged: with two of the three conditions of calm
+-- alone there is a sheet, a beginning of an order and two able ranks whose exchange leaves reports that differ in more than
+-- peaks. The sheets are those of Counterexamples, computed.
+--   Swap-same-on      an exchange leaves jobs alike, on the sheets that pass a test
+--   Exchange          a sheet, a beginning, two ranks and what follows them
+--   swap-refutes      an exchange that ends apart refutes Swap-same-on
+--   any-source-swap-matters, ready-swap-matters, cover-swap-matters
+-- Assumes nothing.
+use mathlib.Core.Path.{_≡_, refl, subst, _∙_}
+use mathlib.Core.Logic.{_≢_}
+use mathlib.Core.Bool.{Bool, true, false, _&&_, not}
+use mathlib.Core.List.{List, [], _∷_, _++_}
+use Prim.Native.Nat.{ℕ, _≤_}
+use lib.Dec.{leb, eqb}
+use lib.ListN.{length}
+use borrow.Author.Tests.{leb-true, not-true, eq-eqb}
+use Rattle.rules.specs.Sheet.{Sheet, P-of, inbox-total, sheet-in}
+use Rattle.rules.specs.Step.{able}
+use Rattle.rules.specs.Report.{report}
+use Rattle.rules.specs.Claims.{passes, accepts, left-by, without-peaks, Alike}
+use Rattle.rules.specs.BenchJob.{Draft, draft-bytes, same}
+use Rattle.rules.specs.BenchNumbered.{ready-sheet, any-source-sheet}
+use Rattle.rules.specs.Definitions.{definitions}
+use Rattle.laws.specs.Tests.{and-left, and-right, true-not-false}
+use Rattle.promises.specs.Counterexamples.{no-any-source, no-ready, covered, two-buffered, same-refl}
+
+-- demand 3's claim about exchanged steps, on the sheets that pass a test
+unfoldable pub Swap-same-on : (Sheet → Bool) → Type 0
+Swap-same-on ok =
+    (bs i before after : List ℕ) (p q : ℕ) → passes bs ≡ true → ok (sheet-in bs) ≡ true → inbox-total (sheet-in bs) ≤ length i →
+    let s = sheet-in bs in
+    accepts s before i ≡ true → p ≢ q → able s (left-by s before i) p ≡ true → able s (left-by s before i) q ≡ true →
+    Alike s (left-by s (before ++ (p ∷ q ∷ after)) i) (left-by s (before ++ (q ∷ p ∷ after)) i)
+
+pub record Exchange : Type 0 where
+  pub sheet : Draft
+  pub inbox : List ℕ
+  pub before : List ℕ
+  pub one : ℕ
+  pub other : ℕ
+  pub after : List ℕ
+
+abbrev bytes-of : Exchange → List ℕ
+bytes-of e = draft-bytes (e .sheet)
+
+abbrev sheet-of : Exchange → Sheet
+sheet-of e = sheet-in (bytes-of e)
+
+-- the report without peaks, after the beginning, these two ranks and the rest
+abbrev report-after : Exchange → (p q : ℕ) → List ℕ
+report-after e p q =
+    without-peaks (P-of (sheet-of e)) (report (sheet-of e) (left-by (sheet-of e) (e .before ++ (p ∷ q ∷ e .after)) (e .inbox)))
+
+abbrev passing : (Sheet → Bool) → Exchange → Bool
+passing ok e = passes (bytes-of e) && (ok (sheet-of e) && leb (inbox-total (sheet-of e)) (length (e .inbox)))
+
+abbrev able-there : Exchange → (r : ℕ) → Bool
+able-there e r = able (sheet-of e) (left-by (sheet-of e) (e .before) (e .inbox)) r
+
+abbrev both-able : Exchange → Bool
+both-able e =
+    accepts (sheet-of e) (e .before) (e .inbox)
+    && (not (eqb (e .one) (e .other)) && (able-there e (e .one) && able-there e (e .other)))
+
+abbrev differ : Exchange → Bool
+differ e = not (same (report-after e (e .one) (e .other)) (report-after e (e .other) (e .one)))
+
+unfoldable pub swaps-apart : (Sheet → Bool) → Exchange → Bool
+swaps-apart ok e = passing ok e && (both-able e && differ e)
+
+pub swap-refutes : (ok : Sheet → Bool) (e : Exchange) → swaps-apart ok e ≡ true → Swap-same-on ok → ⊥
+unfolding swaps-apart Swap-same-on Alike
+swap-refutes ok e h claim =
+    true-not-false (subst (λ (z : List ℕ). same (report-after e (e .one) (e .other)) z ≡ true) alike (same-refl _))
+    (not-true (same (report-after e (e .one) (e .other)) (report-after e (e .other) (e .one))) (and-right (both-able e) (differ e) later))
+  where
+    room : Bool
+    room = leb (inbox-total (sheet-of e)) (length (e .inbox))
+
+    apart : Bool
+    apart = not (eqb (e .one) (e .other))
+
+    ranks : Bool
+    ranks = able-there e (e .one) && able-there e (e .other)
+
+    given : passing ok e ≡ true
+    given = and-left (passing ok e) (both-able e && differ e) h
+
+    later : both-able e && differ e ≡ true
+    later = and-right (passing ok e) (both-able e && differ e) h
+
+    there : both-able e ≡ true
+    there = and-left (both-able e) (differ e) later
+
+    sound : ok (sheet-of e) && room ≡ true
+    sound = and-right (passes (bytes-of e)) (ok (sheet-of e) && room) given
+
+    two : apart && ranks ≡ true
+    two = and-right (accepts (sheet-of e) (e .before) (e .inbox)) (apart && ranks) there
+
+    unlike : e .one ≢ e .other
+    unlike z = true-not-false (eq-eqb (e .one) (e .other) z) (not-true (eqb (e .one) (e .other)) (and-left apart ranks two))
+
+    alike : report-after e (e .one) (e .other) ≡ report-after e (e .other) (e .one)
+    alike =
+        claim (bytes-of e) (e .inbox) (e .before) (e .after) (e .one) (e .other)
+        (and-left (passes (bytes-of e)) (ok (sheet-of e) && room) given) (and-left (ok (sheet-of e)) room sound)
+        (leb-true (inbox-total (sheet-of e)) (length (e .inbox)) (and-right (ok (sheet-of e)) room sound))
+        (and-left (accepts (sheet-of e) (e .before) (e .inbox)) (apart && ranks) there) unlike
+        (and-left (able-there e (e .one)) (able-there e (e .other)) (and-right apart ranks two))
+        (and-right (able-there e (e .one)) (able-there e (e .other)) (and-right apart ranks two)) .1
+
+-- THE EXCHANGES
+-- bench job 12: two messages for one any-source receive come in either order
+unfoldable pub any-source-exchange : Exchange
+any-source-exchange =
+    record {
+      sheet = any-source-sheet;
+      inbox = 0 ∷ 0 ∷ [];
+      before = [];
+      one = 0;
+      other = 1;
+      after = 2 ∷ [];
+    }
+
+-- bench job 9: the ready send before its receive, or after it
+unfoldable pub ready-exchange : Exchange
+ready-exchange =
+    record {
+      sheet = ready-sheet;
+      inbox = 0 ∷ 0 ∷ [];
+      before = [];
+      one = 0;
+      other = 1;
+      after = [];
+    }
+
+-- one byte short for two buffered sends: the second before the first one's receive, or after it
+unfoldable pub uncovered-exchange : Exchange
+uncovered-exchange =
+    record {
+      sheet = two-buffered 4 0x15cf;
+      inbox = 0 ∷ 0 ∷ 0 ∷ 0 ∷ 0 ∷ 0 ∷ [];
+      before = 0 ∷ 0 ∷ [];
+      one = 0;
+      other = 1;
+      after = [];
+    }
+
+any-source-apart : swaps-apart (λ s. no-ready s && covered s) any-source-exchange ≡ true
+unfolding definitions swaps-apart no-ready covered any-source-exchange
+any-source-apart = refl
+
+ready-apart : swaps-apart (λ s. no-any-source s && covered s) ready-exchange ≡ true
+unfolding definitions swaps-apart no-any-source covered ready-exchange
+ready-apart = refl
+
+uncovered-apart : swaps-apart (λ s. no-any-source s && no-ready s) uncovered-exchange ≡ true
+unfolding definitions swaps-apart no-any-source no-ready uncovered-exchange two-buffered
+uncovered-apart = refl
+
+-- THE LAWS: what calm still asks when one of its conditions is dropped
+pub any-source-swap-matters : Swap-same-on (λ s. no-ready s && covered s) → ⊥
+any-source-swap-matters = swap-refutes (λ s. no-ready s && covered s) any-source-exchange any-source-apart
+
+pub ready-swap-matters : Swap-same-on (λ s. no-any-source s && covered s) → ⊥
+ready-swap-matters = swap-refutes (λ s. no-any-source s && covered s) ready-exchange ready-apart
+
+pub cover-swap-matters : Swap-same-on (λ s. no-any-source s && no-ready s) → ⊥
+cover-swap-matters = swap-refutes (λ s. no-any-source s && no-ready s) uncovered-exchange uncovered-apart
