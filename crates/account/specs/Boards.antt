@@ -22,6 +22,7 @@ use Rattle.rules.specs.Step.{next-op, in-waiting-half, first-message, first-rec
 use Rattle.rules.specs.Step.{charge, release, matched-rows, matched, with-state, pend-message, pend-receive, stopped, one-finished}
 use Rattle.rules.specs.Step.{now-waiting, initiated, fits-buffer, unmatched, sent, received, initiating, ended, step}
 use Rattle.laws.specs.Tests.{decided, true-not-false}
+use Rattle.laws.specs.Fields.{ready-not-buffered}
 use Rattle.account.specs.declared.Account.{Account}
 use Rattle.account.specs.Accounts.{account-of, place-of, has-room, taken, given-back, taken-not}
 
@@ -251,11 +252,6 @@ module _ (s : Sheet) (x : Job) (r i b : ℕ) where
   unfolding moved
   pended-charges = rw (pended-stays s x b i 2)
 
--- a ready send is not a buffered one
-not-both : (o : Op) → is-ready o ≡ true → is-buffered o ≡ false
-unfolding is-ready is-buffered
-not-both o e = ne-eqb (o .kind) 2 (λ f. absurd (omega (arith, eqb-true (o .kind) 4 e, f)))
-
 module _ (s : Sheet) (x : Job) (r b : ℕ) where
   matched-moves : (i m q : ℕ) → board-account s (initiated s r i (matched s m q x)) b ≡ moved (matches m) s x b
   matched-moves i m q = initiated-stays s (matched s m q x) b r i ∙ (matched-as-released s x b m q ∙ release-moves s x m b)
@@ -276,7 +272,7 @@ module _ (s : Sheet) (x : Job) (r i b : ℕ) (l : r < length (x .places)) where
   unmatched-moves : (ready buffered : Bool) → is-ready (op s i) ≡ ready → is-buffered (op s i) ≡ buffered
       → board-account s (unmatched s r i x) b ≡ moved (cond buffered (charges r i) none-moves) s x b
   unfolding unmatched moved
-  unmatched-moves true true e f = true-not-false f (not-both (op s i) e)
+  unmatched-moves true true e f = true-not-false f (ready-not-buffered (op s i) e)
   unmatched-moves true false e f = rw e (stopped-stays s x b 4 r i)
   unmatched-moves false true e f = rw (e, f) (buffered-moves (fits-buffer s r i x) refl)
   unmatched-moves false false e f = rw (e, f) (initiated-stays s (pend-message i 1 x) b r i ∙ pended-stays s x b i 1)

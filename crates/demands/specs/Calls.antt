@@ -32,11 +32,11 @@ use Rattle.laws.specs.Tests.{cond-false}
 use Rattle.laws.specs.Broken.{or-else-stopped}
 use Rattle.invariant.specs.step.LowestAble.{next-able}
 use Rattle.promises.specs.Statements.{told-by, Exact, Verdicts}
-use Rattle.promises.specs.ServiceStatements.{Follow-call, Run-call, told-in, Left-alike, Follow-reports, Run-reports, Follows-alike, Run-alike, Follow-swaps}
-use Rattle.promises.specs.Theorems.{verdicts, follow-reports, run-reports, follows-alike, run-alike, follow-swaps}
+use Rattle.promises.specs.ServiceStatements.{Follow-call, Run-call, told-in, Left-alike, Follow-reports, Run-reports, Follow-by-arrival, Follows-alike, Run-alike, Follow-swaps}
+use Rattle.promises.specs.Theorems.{verdicts, follow-reports, run-reports, follow-by-arrival, follows-alike, run-alike, follow-swaps}
 use Rattle.promises.specs.claims.Calls.{follow-answer, follow-lent, follow-report, run-answer}
 use Rattle.promises.specs.claims.Reported.{follow-passes, run-passes}
-use Rattle.demands.specs.Demands.{Seen, Kept-rules, Same-answer, Check-and-follow, Run-keeps, Ended, Calls-alike, Two-orders, Exchanged, Follow-demands, Follow-and-run, As-run, One-for-all}
+use Rattle.demands.specs.Demands.{Seen, Kept-rules, Same-answer, Check-and-follow, Run-keeps, Ended, Calls-alike, Arrival-told, Two-orders, Exchanged, Follow-demands, Follow-and-run, As-run, One-for-all}
 
 -- NO BOARD IS ABLE, by the report
 verdict-byte : (s : Sheet) (x : Job) (old : List ℕ) → getD (in-front (report s x) old) 0 0 ≡ verdict-of (x .stop) s x
@@ -206,11 +206,18 @@ module _ {bs one other : List ℕ} {f g : Seen} (a : Follow-seen bs one f) (b : 
       (follow-call (subst (λ (o : List ℕ). Follow-seen bs o g) other-is b) (h .not-short-too))
       (h .passing) (h .calm-sheet) (h .same-start)
 
+  arrival : Arrival-told bs one other f g
+  unfolding Arrival-told Follow-by-arrival
+  arrival after other-is zero-f zero-g =
+      follow-by-arrival bs one after (follow-success a zero-f)
+      (follow-success (subst (λ (o : List ℕ). Follow-seen bs o g) other-is b) zero-g) zero-f zero-g
+
   pub follow-demands : Follow-demands bs one other f g
   follow-demands =
       record {
         end-alike = two-orders;
         exchange = exchanged;
+        arrival = arrival;
       }
 
 pub follow-and-run : {bs o : List ℕ} {f g : Seen} {w w-now : List ℕ} → Follow-seen bs o f → Run-seen bs g w w-now →

@@ -10,7 +10,8 @@ use Rattle.rules.specs.Sheet.{sheet-in}
 use Rattle.rules.specs.Step.{able}
 use Rattle.rules.specs.Claims.{passes, calm, accepts, left-by}
 use Rattle.sheet.specs.declared.Answer.{Answer}
-use Rattle.promises.specs.ServiceStatements.{Follow-call, Reported, Same-start, Left-alike}
+use Rattle.promises.specs.Statements.{Earlier-first}
+use Rattle.promises.specs.ServiceStatements.{Follow-call, told-in, Reported, Same-start, Left-alike}
 
 -- what a caller sees of a call of follow or run: the answer, and inbox and report as they were lent and as the call left them
 pub record Seen : Type 0 where
@@ -61,6 +62,14 @@ pub record Run-keeps (bs : List ℕ) (f : Seen) (order order-now : List ℕ) : T
   pub order-kept : f .answer .number ≢ 0 → order-now ≡ order
   pub ended : f .answer .number ≡ 0 → verdict-in f ≢ 0
 
+-- DEMAND 2 of two calls of follow, f with a beginning of g's order
+
+-- Arrival decides, across senders (promises: Earlier-first).
+unfoldable pub Arrival-told : (bs one other : List ℕ) (f g : Seen) → Type 0
+Arrival-told bs one other f g =
+    (after : List ℕ) → other ≡ one ++ after → f .answer .number ≡ 0 → g .answer .number ≡ 0 →
+    Earlier-first (sheet-in bs) (told-in (sheet-in bs) (f .report-now)) (told-in (sheet-in bs) (g .report-now))
+
 -- THE PREMISE: the sheet passes check and is calm; 8 refuses neither call; the inboxes start with the same bytes
 pub record Compared (bs : List ℕ) (f g : Seen) : Type 0 where
   pub passing : passes bs ≡ true
@@ -99,6 +108,7 @@ Exchanged bs order exchanged f g =
 pub record Follow-demands (bs one other : List ℕ) (f g : Seen) : Type 0 where
   pub end-alike : Two-orders bs f g
   pub exchange : Exchanged bs one other f g
+  pub arrival : Arrival-told bs one other f g
 
 -- DEMAND 3 of a call of follow, f, and one of run, g
 

@@ -8,7 +8,7 @@ use native.Mathlib.Omega.{arith}
 use lib.Dec.{ltb, leb, eqb}
 use borrow.Author.Tests.{ltb-true, leb-true, eqb-true, ne-eqb}
 use Rattle.rules.specs.Limits.{most-length, slot-limit, tag-limit, any}
-use Rattle.rules.specs.Sheet.{Sheet, Op, op, P-of, N-of, is-send, is-receive, is-nonblocking, names-slot, frees-slot, takes-slot}
+use Rattle.rules.specs.Sheet.{Sheet, Op, op, P-of, N-of, is-send, is-receive, is-buffered, is-ready, is-nonblocking, names-slot, frees-slot, takes-slot}
 use Rattle.rules.specs.Refusal.{fields-good, wait-good, or-any, envelope-good, extent-good, slot-good, room-for, op-good, ops-refusal}
 use Rattle.laws.specs.Tests.{and-left, and-right, or-cases, cond-true, cond-false}
 use Rattle.laws.specs.Broken.{broken-passed}
@@ -130,6 +130,11 @@ module _ (p c room : ℕ) (o : Op) (g : fields-good p c room o ≡ true) where
           (and-right (or-any o p (o .peer) && ltb (o .comm) c) (or-any o tag-limit (o .tag))
           (and-left (envelope-good p c o) (extent-good room o)
           (and-right (is-send o || is-receive o) (envelope-good p c o && extent-good room o) (fields-transfer w)))))
+
+-- KINDS: a ready send is not a buffered one
+pub ready-not-buffered : (o : Op) → is-ready o ≡ true → is-buffered o ≡ false
+unfolding is-ready is-buffered
+ready-not-buffered o e = ne-eqb (o .kind) 2 (λ h. omega (arith, eqb-true (o .kind) 4 e))
 
 -- ROLES: what frees a slot names it
 pub frees-names : (o : Op) → frees-slot o ≡ true → names-slot o ≡ true

@@ -16,7 +16,7 @@ use Rattle.rules.specs.Order.{none-able}
 use Rattle.rules.specs.Report.{entry-in}
 use Rattle.rules.specs.Claims.{passes, calm, accepts, left-by, without-peaks}
 use Rattle.rules.specs.Service.{Follow-says, Run-says}
-use Rattle.promises.specs.Statements.{Told, No-pair-left, Sends-in-order, Receives-in-order, Matched-receives, Matched-sends, Delivered}
+use Rattle.promises.specs.Statements.{Told, No-pair-left, Sends-in-order, Receives-in-order, Earlier-first, Matched-receives, Matched-sends, Delivered}
 use Rattle.promises.specs.Statements.{Exact, Why-stopped, Charged, Within-attached}
 
 -- CALLS of follow or of run on a sheet, which answered and left what the service says, and which number 8 does not refuse.
@@ -107,6 +107,12 @@ unfoldable pub Run-reports : Type 0
 Run-reports =
     (bs : List ℕ) (f : Run-call bs) → f .number ≡ 0 →
     Reported (sheet-in bs) (f .inbox) (f .inbox-now) (f .report-now) × (told-in (sheet-in bs) (f .report-now) .verdict ≢ 0)
+
+-- Arrival decides, across senders, as two calls of follow tell it, one with a beginning of the other's order.
+unfoldable pub Follow-by-arrival : Type 0
+Follow-by-arrival =
+    (bs before after : List ℕ) (f : Follow-call bs before) (g : Follow-call bs (before ++ after)) → f .number ≡ 0 → g .number ≡ 0 →
+    Earlier-first (sheet-in bs) (told-in (sheet-in bs) (f .report-now)) (told-in (sheet-in bs) (g .report-now))
 
 -- DEMAND 3 OF THE SERVICES
 

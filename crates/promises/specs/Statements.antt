@@ -90,15 +90,17 @@ No-overtaking-receives = Of-jobs Receives-in-order
 -- Arrival decides, and not rank: of two messages that fit a receive, from whatever senders, the one that arrived first is taken
 -- first. Where a beginning of the order enters k and not m, m ends matched with receive q and k fits q, then k is matched with
 -- an earlier receive.
+unfoldable pub Earlier-first : Sheet → (early late : Told) → Type 0
+Earlier-first s early late =
+    (k m q : ℕ) → is-send (op s k) ≡ true → is-send (op s m) ≡ true → 1 ≤ early .row k .state → early .row m .state ≡ 0 →
+    late .row m .state ≡ 3 → late .row m .partner ≡ q → fits-with s k q ≡ true →
+    (late .row k .state ≡ 3) × (late .row k .partner < q)
+
 unfoldable pub By-arrival : Type 0
 By-arrival =
-    (bs i before after : List ℕ) (k m q : ℕ) → Lent bs i →
+    (bs i before after : List ℕ) → Lent bs i →
     let s = sheet-in bs in
-    let y = left-by s before i in
-    let x = left-by s (before ++ after) i in
-    is-send (op s k) ≡ true → is-send (op s m) ≡ true → 1 ≤ entry-at y k .state → entry-at y m .state ≡ 0 →
-    entry-at x m .state ≡ 3 → entry-at x m .partner ≡ q → fits-with s k q ≡ true →
-    (entry-at x k .state ≡ 3) × (entry-at x k .partner < q)
+    Earlier-first s (told-by s (left-by s before i)) (told-by s (left-by s (before ++ after) i))
 
 -- A message arrives whole or is reported cut. The rows: a matched receive's partner is a send that fits it and names it in
 -- turn, and so is a matched send's partner a receive; the receive's row tells the message's source, tag and full length, and

@@ -3,11 +3,11 @@
 --                        by-arrival (claims.Arrivals); stop-reasons, stopping-steps (claims.Stops);
 --                        deliveries, verdicts, in-use, peaks, buffers-hold (claims.OneJob)
 --   run, demand 3        run-ends, ends-alike (claims.EndsAlike); swap-general, swap-same (claims.SwapSame)
---   of the services      follow-reports, run-reports (claims.Reported); follows-alike, run-alike (claims.EndsAlike); follow-swaps (claims.SwapSame)
+--   of the services      follow-reports, run-reports, follow-by-arrival (claims.Reported); follows-alike, run-alike (claims.EndsAlike); follow-swaps (claims.SwapSame)
 -- Assumes nothing.
 use Rattle.promises.specs.Statements.{None-fit, No-overtaking, No-overtaking-receives, By-arrival, Statuses, Send-statuses, Deliveries, Verdicts, Stop-reasons}
 use Rattle.promises.specs.Statements.{Stopping-steps, In-use, Peaks, Buffers-hold, Run-ends, Ends-alike, Swap-same, Swap-general}
-use Rattle.promises.specs.ServiceStatements.{Follow-reports, Run-reports, Follows-alike, Run-alike, Follow-swaps}
+use Rattle.promises.specs.ServiceStatements.{Follow-reports, Run-reports, Follow-by-arrival, Follows-alike, Run-alike, Follow-swaps}
 use Rattle.promises.specs.claims.Matching
 use Rattle.promises.specs.claims.OneJob
 use Rattle.promises.specs.claims.Arrivals
@@ -76,6 +76,9 @@ follow-reports = Reported.follow-reports
 
 pub run-reports : Run-reports
 run-reports = Reported.run-reports
+
+pub follow-by-arrival : Follow-by-arrival
+follow-by-arrival = Reported.follow-by-arrival
 
 -- DEMAND 3 OF THE SERVICES
 pub follows-alike : Follows-alike

@@ -15,7 +15,7 @@ use native.Mathlib.Omega.{arith}
 use lib.Dec.{ltb, leb, eqb}
 use borrow.Author.Tests.{leb-true, eqb-true, ne-eqb}
 use Rattle.rules.specs.Limits.{any, slot-limit}
-use Rattle.rules.specs.Sheet.{Sheet, Op, op, P-of, N-of, rank-of, is-send, is-receive, is-buffered, is-ready, is-wait, is-nonblocking, only-half, no-half}
+use Rattle.rules.specs.Sheet.{Sheet, Op, op, P-of, N-of, rank-of, is-send, is-receive, is-buffered, is-wait, is-nonblocking, only-half, no-half}
 use Rattle.rules.specs.Sheet.{takes-slot, names-slot, frees-slot}
 use Rattle.rules.specs.Refusal.{op-good, fields-good, envelope-good, extent-good, wait-good, room-for}
 use Rattle.rules.specs.Step.{fits-with}
@@ -53,10 +53,6 @@ receive-not-send o e = not-so (is-send o) (λ h. omega (arith, send-kind o h, re
 pub receive-not-buffered : (o : Op) → is-receive o ≡ true → is-buffered o ≡ false
 unfolding is-buffered
 receive-not-buffered o e = ne-eqb (o .kind) 2 (λ h. omega (arith, receive-kind o e))
-
-pub ready-not-buffered : (o : Op) → is-ready o ≡ true → is-buffered o ≡ false
-unfolding is-ready is-buffered
-ready-not-buffered o e = ne-eqb (o .kind) 2 (λ h. omega (arith, eqb-true (o .kind) 4 e))
 
 -- a send is no receive: they differ as operations
 pub send-receive-differ : (s : Sheet) (m r : ℕ) → is-send (op s m) ≡ true → is-receive (op s r) ≡ true → m ≢ r

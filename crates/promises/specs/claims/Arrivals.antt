@@ -21,7 +21,7 @@ use Rattle.invariant.specs.deliveries.Commute.{delivery-laws}
 use Rattle.invariant.specs.Invariant.{Matched-pair, Reached}
 use Rattle.invariant.specs.preserve.Step.{step-sound}
 use Rattle.invariant.specs.preserve.Orders.{start-reached, follow-from-keeps}
-use Rattle.promises.specs.Statements.{By-arrival}
+use Rattle.promises.specs.Statements.{told-by, Earlier-first, By-arrival}
 use Rattle.promises.specs.compare.ArrivalGrowth.{Arrivals-grew, arrivals-none, arrivals-step, arrivals-trans}
 use Rattle.promises.specs.claims.OneJob.{lent-valid}
 
@@ -79,8 +79,8 @@ module _ {s : Sheet} (g : Valid s) (A : Delivery-laws s) {i : List ℕ} (room : 
           }
 
 pub by-arrival : By-arrival
-unfolding By-arrival left-by follow
-by-arrival bs i before after k m q h sk sm there new matched to f =
+unfolding By-arrival Earlier-first told-by left-by follow
+by-arrival bs i before after h k m q sk sm there new matched to f =
     let g = lent-valid h in
     let B = grown-beginning g (delivery-laws (sheet-in bs) g) (h .room) 0 before after (start-reached g i) in
     let L = B .late .reached in

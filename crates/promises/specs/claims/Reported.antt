@@ -2,17 +2,18 @@
 -- what is told, since the report tells what its job does.
 --   reported          from a job that an order left
 --   follow-passes, run-passes    number 0 says that the sheet passes
---   follow-reports, run-reports
+--   follow-reports, follow-by-arrival, run-reports
 -- Assumes nothing.
 use mathlib.Core.Path.{_≡_, sym, ap, subst, _∙_}
 use mathlib.Core.Bool.{true}
 use mathlib.Core.List.{List, _++_}
 use Prim.Native.Nat.{ℕ}
+use native.Mathlib.Omega.{arith}
 use lib.ListN.{length, drop}
 use borrow.Author.Tests.{eq-eqb}
 use Rattle.rules.specs.Limits.{order-room}
 use Rattle.rules.specs.Sheet.{sheet-in, N-of}
-use Rattle.rules.specs.Job.{Job}
+use Rattle.rules.specs.Job.{Job, Entry, entry-at}
 use Rattle.rules.specs.Refusal.{sheet-refusal, or-else}
 use Rattle.rules.specs.Step.{able}
 use Rattle.rules.specs.Order.{follow, run, none-able}
@@ -21,14 +22,19 @@ use Rattle.rules.specs.Service.{answers, room-refusal, order-refusal, in-front,
 use Rattle.rules.specs.Claims.{passes, left-by}
 use Rattle.laws.specs.Tests.{true-not-false}
 use Rattle.laws.specs.Tabled.{or-else-first}
+use Rattle.invariant.specs.Invariant.{state-at, partner-at}
+use Rattle.invariant.specs.deliveries.Commute.{delivery-laws}
 use Rattle.invariant.specs.step.LowestAble.{next-none}
-use Rattle.promises.specs.Statements.{Lent, Told, told-by, None-fit, No-overtaking, No-overtaking-receives, Statuses, Send-statuses}
+use Rattle.promises.specs.Statements.{Lent, Told, told-by, Earlier-first, By-arrival, None-fit, No-overtaking, No-overtaking-receives, Statuses, Send-statuses}
 use Rattle.promises.specs.Statements.{Delivered, Deliveries, Exact, Verdicts, Stop-reasons, In-use, Buffers-hold, Run-ends}
 use Rattle.promises.specs.Statements.{No-pair-left, Sends-in-order, Receives-in-order, Matched-receives, Matched-sends, Why-stopped, Charged, Within-attached}
-use Rattle.promises.specs.ServiceStatements.{Follow-call, Run-call, told-in, Reported, Follow-reports, Run-reports}
+use Rattle.promises.specs.ServiceStatements.{Follow-call, Run-call, told-in, Reported, Follow-reports, Run-reports, Follow-by-arrival}
 use Rattle.promises.specs.claims.OneJob.{lent-valid, lent-reached, deliveries, verdicts, in-use, buffers-hold}
 use Rattle.promises.specs.claims.Matching.{none-fit, no-overtaking, no-overtaking-receives, statuses, send-statuses}
 use Rattle.promises.specs.claims.Stops.{stop-reasons}
+use Rattle.promises.specs.claims.Arrivals.{by-arrival}
+use Rattle.promises.specs.compare.SamePositions.{positions-rows}
+use Rattle.promises.specs.compare.TwoRooms.{rooms-same-positions}
 use Rattle.promises.specs.claims.EndsAlike.{run-ends}
 use Rattle.promises.specs.claims.Calls.{follow-lent, follow-inbox, follow-report, run-answer, run-lent}
 use Rattle.promises.specs.claims.Reports.{report-tells}
@@ -43,6 +49,10 @@ module _ {bs i : List ℕ} (h : Lent bs i) (rs : List ℕ) {inbox out : List ℕ
   tells : told-in (sheet-in bs) out ≡ told-by (sheet-in bs) x
   unfolding in-front
   tells = ap (told-in (sheet-in bs)) written ∙ report-tells (lent-valid h) (lent-reached h rs) (drop (length (report (sheet-in bs) x)) old)
+
+  pub row-tells : (j : ℕ) → told-in (sheet-in bs) out .row j ≡ entry-at x j
+  unfolding told-by
+  row-tells j = ap (λ (t : Told). t .row j) tells
 
   -- a claim about what the job tells is one about what the report tells
   of-report : (C : Told → Type 0) → C (told-by (sheet-in bs) x) → C (told-in (sheet-in bs) out)
@@ -90,6 +100,46 @@ unfolding Follow-reports
 follow-reports bs o f e =
     let p = follow-passes f e in
     reported (follow-lent p f) o (f .report) (follow-inbox p f e) (follow-report p f e)
+
+-- one order on two rooms leaves the same rows
+module _ {bs i j : List ℕ} (a : Lent bs i) (b : Lent bs j) (o : List ℕ) where
+  two-rows : (k : ℕ) → entry-at (left-by (sheet-in bs) o j) k ≡ entry-at (left-by (sheet-in bs) o i) k
+  unfolding left-by
+  two-rows =
+      let g = lent-valid a in
+      positions-rows g (rooms-same-positions g (delivery-laws (sheet-in bs) g) (a .room) (b .room) o .same-positions)
+
+pub follow-by-arrival : Follow-by-arrival
+unfolding Follow-by-arrival Earlier-first By-arrival told-by
+follow-by-arrival bs before after f g zero-f zero-g k m q sk sm there new matched to fit =
+    let done =
+    by-arrival bs (g .inbox) before after (follow-lent pg g) k m q sk sm (omega (arith, there, early k))
+    (sym (early m) ∙ new) (sym (late-state m) ∙ matched) (sym (late-partner m) ∙ to) fit in
+    (late-state k ∙ done .0, omega (arith, late-partner k, done .1))
+  where
+    pf : passes bs ≡ true
+    pf = follow-passes f zero-f
+
+    pg : passes bs ≡ true
+    pg = follow-passes g zero-g
+
+    whole : List ℕ
+    whole = before ++ after
+
+    early : (j : ℕ) → told-in (sheet-in bs) (f .report-now) .row j .state ≡ state-at (left-by (sheet-in bs) before (g .inbox)) j
+    early j =
+        ap (λ (e : Entry). e .state)
+        (row-tells (follow-lent pf f) before (f .report) (follow-inbox pf f zero-f) (follow-report pf f zero-f) j
+        ∙ sym (two-rows (follow-lent pf f) (follow-lent pg g) before j))
+
+    late-row : (j : ℕ) → told-in (sheet-in bs) (g .report-now) .row j ≡ entry-at (left-by (sheet-in bs) whole (g .inbox)) j
+    late-row j = row-tells (follow-lent pg g) whole (g .report) (follow-inbox pg g zero-g) (follow-report pg g zero-g) j
+
+    late-state : (j : ℕ) → told-in (sheet-in bs) (g .report-now) .row j .state ≡ state-at (left-by (sheet-in bs) whole (g .inbox)) j
+    late-state j = ap (λ (e : Entry). e .state) (late-row j)
+
+    late-partner : (j : ℕ) → told-in (sheet-in bs) (g .report-now) .row j .partner ≡ partner-at (left-by (sheet-in bs) whole (g .inbox)) j
+    late-partner j = ap (λ (e : Entry). e .partner) (late-row j)
 
 -- RUN
 module _ {bs : List ℕ} (f : Run-call bs) (success : f .number ≡ 0) where

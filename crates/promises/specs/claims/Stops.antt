@@ -18,9 +18,9 @@ use Rattle.rules.specs.Step.{able, step, next-op, is-none, fits-with, first-rec
 use Rattle.rules.specs.Order.{Followed, followed, follow-from, follow}
 use Rattle.rules.specs.Claims.{accepts, left-by}
 use Rattle.laws.specs.Tests.{true-not-false}
+use Rattle.laws.specs.Fields.{ready-not-buffered}
 use Rattle.laws.specs.WaitingLists.{first-by-none}
 use Rattle.invariant.specs.sheet.Valid.{Valid}
-use Rattle.invariant.specs.sheet.Kinds.{ready-not-buffered}
 use Rattle.invariant.specs.Invariant.{Reached}
 use Rattle.invariant.specs.deliveries.Laws.{Delivery-laws}
 use Rattle.invariant.specs.deliveries.Commute.{delivery-laws}
