@@ -32,11 +32,13 @@ use Rattle.laws.specs.Tests.{cond-false}
 use Rattle.laws.specs.Broken.{or-else-stopped}
 use Rattle.invariant.specs.step.LowestAble.{next-able}
 use Rattle.promises.specs.Statements.{told-by, Exact, Verdicts}
-use Rattle.promises.specs.ServiceStatements.{Follow-call, Run-call, told-in, Left-alike, Follow-reports, Run-reports, Follow-by-arrival, Follows-alike, Run-alike, Follow-swaps}
+use Rattle.promises.specs.ServiceStatements.{Follow-call, Run-call, told-in, Left-alike, Follow-reports}
+use Rattle.promises.specs.ServiceStatements.{Run-reports, Follow-by-arrival, Follows-alike, Run-alike, Follow-swaps}
 use Rattle.promises.specs.Theorems.{verdicts, follow-reports, run-reports, follow-by-arrival, follows-alike, run-alike, follow-swaps}
 use Rattle.promises.specs.claims.Calls.{follow-answer, follow-lent, follow-report, run-answer}
 use Rattle.promises.specs.claims.Reported.{follow-passes, run-passes}
-use Rattle.demands.specs.Demands.{Seen, Kept-rules, Same-answer, Check-and-follow, Run-keeps, Ended, Calls-alike, Arrival-told, Two-orders, Exchanged, Follow-demands, Follow-and-run, As-run, One-for-all}
+use Rattle.demands.specs.Demands.{Seen, Kept-rules, Same-answer, Check-and-follow, Run-keeps, Ended, Calls-alike}
+use Rattle.demands.specs.Demands.{Arrival-told, Two-orders, Exchanged, Follow-demands, Follow-and-run, As-run, One-for-all}
 
 -- NO BOARD IS ABLE, by the report
 verdict-byte : (s : Sheet) (x : Job) (old : List ℕ) → getD (in-front (report s x) old) 0 0 ≡ verdict-of (x .stop) s x
@@ -129,7 +131,7 @@ module _ {bs o : List ℕ} {f : Seen} (a : Follow-seen bs o f) where
               left-kept _ (f .report) (a .said .0 .0) h (a .said .2),
             );
         passing = λ e. follow-passes (follow-success e) e;
-        reported = λ e. follow-reports bs o (follow-success e) e;
+        reported = λ e. follow-reports bs o (follow-success e) e .0;
       }
 
   module _ (checked : Answer) (c : Check-says bs (checked .number) (checked .place)) where
@@ -155,7 +157,8 @@ module _ {bs o : List ℕ} {f : Seen} (a : Follow-seen bs o f) where
         let number = follow-answer (eq-eqb (sheet-refusal bs .number) 0 (sym (c .0) ∙ z)) call .number-is in
         order-number (follow (sheet-in bs) o (f .inbox) .refused-at) (λ e. h (number ∙ e)) (omega (arith, number))
 
-    pub check-and-follow : Check-and-follow bs checked f
+    pub check-and-follow : Check-and-follow bs o checked f
+    unfolding Follow-reports
     check-and-follow =
         record {
           agrees =
@@ -164,6 +167,7 @@ module _ {bs o : List ℕ} {f : Seen} (a : Follow-seen bs o f) where
                 refuses = λ h l. sheet-first (λ z. after-passing z h l);
               };
           keeps = follow-keeps;
+          steps = λ e. follow-reports bs o (follow-success e) e .1;
         }
 
 module _ {bs : List ℕ} {f : Seen} {o o-now : List ℕ} (a : Run-seen bs f o o-now) where
@@ -171,7 +175,7 @@ module _ {bs : List ℕ} {f : Seen} {o o-now : List ℕ} (a : Run-seen bs f o o-
   run-success e = run-call a (λ z. omega arith)
 
   pub run-keeps : Run-keeps bs f o o-now
-  unfolding Run-says answers Run-reports told-in
+  unfolding Run-says answers Run-reports
   run-keeps =
       record {
         keeps =
@@ -185,7 +189,7 @@ module _ {bs : List ℕ} {f : Seen} {o o-now : List ℕ} (a : Run-seen bs f o o-
               reported = λ e. run-reports bs (run-success e) e .0;
             };
         order-kept = λ h. left-kept _ o (a .said .0 .0) h (a .said .3);
-        ended = λ e. run-reports bs (run-success e) e .1;
+        ran = λ e. run-reports bs (run-success e) e .1;
       }
 
 -- DEMAND 3

@@ -11,7 +11,7 @@ use Rattle.rules.specs.Step.{able}
 use Rattle.rules.specs.Claims.{passes, calm, accepts, left-by}
 use Rattle.sheet.specs.declared.Answer.{Answer}
 use Rattle.promises.specs.Statements.{Earlier-first}
-use Rattle.promises.specs.ServiceStatements.{Follow-call, told-in, Reported, Same-start, Left-alike}
+use Rattle.promises.specs.ServiceStatements.{Follow-call, told-in, Reported, Followed-steps, Ran-order, Same-start, Left-alike}
 
 -- what a caller sees of a call of follow or run: the answer, and inbox and report as they were lent and as the call left them
 pub record Seen : Type 0 where
@@ -52,15 +52,18 @@ pub record Check-agrees (checked : Answer) (f : Seen) : Type 0 where
   pub refused : checked .number ≢ 0 → Same-answer (f .answer) checked
   pub refuses : f .answer .number ≢ 0 → f .answer .number ≤ 7 → Same-answer (f .answer) checked
 
-pub record Check-and-follow (bs : List ℕ) (checked : Answer) (f : Seen) : Type 0 where
+-- Of follow also: with number 0 steps and peaks are the order's (promises: Followed-steps).
+pub record Check-and-follow (bs order : List ℕ) (checked : Answer) (f : Seen) : Type 0 where
   pub agrees : Check-agrees checked f
   pub keeps : Kept-rules bs f
+  pub steps : f .answer .number ≡ 0 → Followed-steps (sheet-in bs) order (f .inbox) (f .report-now)
 
--- Of run also: a refusal puts nothing in order out, and with number 0 no board is able, so the verdict is not 0.
+-- Of run also: a refusal puts nothing in order out; with number 0 no board is able, and order out has the order that was taken
+-- (promises: Ran-order).
 pub record Run-keeps (bs : List ℕ) (f : Seen) (order order-now : List ℕ) : Type 0 where
   pub keeps : Kept-rules bs f
   pub order-kept : f .answer .number ≢ 0 → order-now ≡ order
-  pub ended : f .answer .number ≡ 0 → verdict-in f ≢ 0
+  pub ran : f .answer .number ≡ 0 → Ran-order (sheet-in bs) order-now (f .inbox) (f .report-now)
 
 -- DEMAND 2 of two calls of follow, f with a beginning of g's order
 

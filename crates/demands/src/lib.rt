@@ -22,7 +22,7 @@ pub fn check_and_follow(
     report: &mut [u8],
     scratch: &mut [u8],
 ) -> Answers
-    ensures { λ a. ⌜ Check-and-follow (now (sheet .entry)) (a .first)
+    ensures { λ a. ⌜ Check-and-follow (now (sheet .entry)) (now (order .entry)) (a .first)
         (seen (a .second) (now (inbox .entry)) (now (inbox .exit)) (now (report .entry)) (now (report .exit))) ⌝ }
 {
     let first = jamturret_check(sheet);

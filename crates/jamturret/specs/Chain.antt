@@ -10,13 +10,9 @@ use lib.Dec.{eqb}
 use borrow.Author.Tests.{eq-eqb, ne-eqb}
 use Rattle.rules.specs.Refusal.{Refusal, or-else}
 use Rattle.rules.specs.Service.{answers, kept-or, scratch-left}
+use Rattle.laws.specs.Answers.{answers-number}
 use Rattle.laws.specs.Broken.{or-else-passed, or-else-stopped}
 use Rattle.laws.specs.Tests.{cond-true, cond-false}
-
--- an answer is its refusal's number and place
-pub number-of : (f : Refusal) (n p : ℕ) → answers f n p → n ≡ f .number
-unfolding answers
-number-of f n p t = t .0
 
 -- refusals 1 to 8
 pub record Refused (f : Refusal) (n p : ℕ) : Type 0 where
@@ -28,7 +24,7 @@ pub refused : (f : Refusal) (n p : ℕ) → answers f n p → (n ≡ 0 → ⊥) 
 refused f n p t h l =
     record {
       answered = t;
-      refuses = λ z. h (number-of f n p t ∙ z);
+      refuses = λ z. h (answers-number f n p t ∙ z);
       early = l;
     }
 

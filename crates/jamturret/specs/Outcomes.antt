@@ -19,13 +19,14 @@ use Rattle.rules.specs.Order.{followed, follow, ran, run}
 use Rattle.rules.specs.Report.{report}
 use Rattle.rules.specs.Service.{answers, room-refusal, order-refusal, in-front, kept-or, scratch-left, Check-says}
 use Rattle.rules.specs.Service.{follow-refusal, Follow-says, run-refusal, Run-says}
+use Rattle.laws.specs.Answers.{answers-number}
 use Rattle.laws.specs.Broken.{or-else-passed, or-else-stopped}
 use Rattle.laws.specs.Laid.{Laid}
 use Rattle.laws.specs.Tabled.{or-else-first, or-else-second}
 use Rattle.invariant.specs.sheet.FromBytes.{unrefused-accepted, accepted-laid, valid-from-accepted}
 use Rattle.state.specs.declared.Control.{Control}
 use Rattle.simulation.specs.Represents.{Represents}
-use Rattle.jamturret.specs.Chain.{number-of, Refused, refused, refused-as, refused-first, refused-second, kept, scratch-kept}
+use Rattle.jamturret.specs.Chain.{Refused, refused, refused-as, refused-first, refused-second, kept, scratch-kept}
 use Rattle.jamturret.specs.Rooms.{room-most, order-unasked, Ready}
 use Rattle.laws.specs.Numbers.{or-else-most, sheet-most}
 use Rattle.laws.specs.Rooms.{Roomy, rooms-enough, roomy}
@@ -38,7 +39,7 @@ chain-sheet bs i r o c n p t h =
 
 pub check-accepts : (bs : List ℕ) (n p : ℕ) → Check-says bs n p → n ≡ 0 → sheet-refusal bs .number ≡ 0
 unfolding Check-says
-check-accepts bs n p h z = sym (number-of (sheet-refusal bs) n p h) ∙ z
+check-accepts bs n p h z = sym (answers-number (sheet-refusal bs) n p h) ∙ z
 
 pub chain-rooms : (bs : List ℕ) (i r o c n p : ℕ) → sheet-refusal bs .number ≡ 0 → answers (room-refusal (sheet-in bs) i r o c) n p →
     answers (run-refusal bs i r o c) n p
@@ -59,7 +60,7 @@ module _ (bs : List ℕ) (i r o c n p : ℕ) (t : answers (run-refusal bs i r o 
 
   module _ (z : n ≡ 0) where
     zero-number : run-refusal bs i r o c .number ≡ 0
-    zero-number = sym (number-of (run-refusal bs i r o c) n p t) ∙ z
+    zero-number = sym (answers-number (run-refusal bs i r o c) n p t) ∙ z
 
     pub unrefused : sheet-refusal bs .number ≡ 0
     unfolding run-refusal

@@ -7,17 +7,17 @@ use mathlib.Core.List.{List, _∷_, _++_}
 use mathlib.Core.Option.{Option, none, some}
 use Prim.Native.Nat.{ℕ, _+_}
 use lib.Dec.{ltb, eqb}
-use lib.ListN.{getD, take}
+use lib.ListN.{length, getD, take}
 use Rattle.rules.specs.Limits.{report-size}
 use Rattle.rules.specs.Sheet.{Sheet, sheet-in, P-of, N-of, inbox-total, two}
-use Rattle.rules.specs.Job.{Stop, bare-entry}
+use Rattle.rules.specs.Job.{Stop, bare-entry, started}
 use Rattle.rules.specs.Step.{able}
 use Rattle.rules.specs.Order.{none-able}
 use Rattle.rules.specs.Report.{entry-in}
 use Rattle.rules.specs.Claims.{passes, calm, accepts, left-by, without-peaks}
 use Rattle.rules.specs.Service.{Follow-says, Run-says}
 use Rattle.promises.specs.Statements.{Told, No-pair-left, Sends-in-order, Receives-in-order, Earlier-first, Matched-receives, Matched-sends, Delivered}
-use Rattle.promises.specs.Statements.{Exact, Why-stopped, Charged, Within-attached}
+use Rattle.promises.specs.Statements.{Exact, Why-stopped, Counted, Charged, most-in-use, Within-attached}
 
 -- CALLS of follow or of run on a sheet, which answered and left what the service says, and which number 8 does not refuse.
 pub record Follow-call (bs order : List ℕ) : Type 0 where
@@ -74,6 +74,10 @@ told-in s b =
     record {
       verdict = getD b 0 0;
       stop = stop-in b;
+      steps = two b 4;
+      messages = two b 10;
+      receives = two b 12;
+      cuts = two b 14;
       row = λ i. cond (ltb i (N-of s)) (entry-in b (report-size (P-of s) i)) (bare-entry 0);
       finished = λ r. board-figure s b 0 r;
       in-use = λ r. board-figure s b 2 r;
@@ -93,20 +97,33 @@ pub record Reported (s : Sheet) (lent inbox report : List ℕ) : Type 0 where
   pub delivered : Delivered s (told-in s report) lent inbox
   pub verdict-exact : Exact s (told-in s report)
   pub why-stopped : Why-stopped s (told-in s report)
+  pub counted : Counted s (told-in s report)
   pub charged : Charged s (told-in s report)
   pub within-attached : Within-attached s (told-in s report)
 
--- So it is after every call of follow with number 0, whatever the order.
+-- So it is after every call of follow with number 0, whatever the order; and then steps and peaks are the order's.
+pub record Followed-steps (s : Sheet) (order lent report : List ℕ) : Type 0 where
+  pub steps : told-in s report .steps ≡ length order
+  pub peaks : (r : ℕ) → told-in s report .peak r ≡ most-in-use s order (started s lent) r
+
 unfoldable pub Follow-reports : Type 0
 Follow-reports =
     (bs order : List ℕ) (f : Follow-call bs order) → f .number ≡ 0 →
     Reported (sheet-in bs) (f .inbox) (f .inbox-now) (f .report-now)
+    × Followed-steps (sheet-in bs) order (f .inbox) (f .report-now)
 
--- And after every call of run with number 0; and then no board is able, so the verdict is not 0.
+-- And after every call of run with number 0. No board is able then, so the verdict is not 0; and the first bytes of order out,
+-- as many as the report tells steps, are an order that follow accepts, whose steps and peaks these are.
+pub record Ran-order (s : Sheet) (order lent report : List ℕ) : Type 0 where
+  pub ended : told-in s report .verdict ≢ 0
+  pub accepted : accepts s (take (told-in s report .steps) order) lent ≡ true
+  pub followed : Followed-steps s (take (told-in s report .steps) order) lent report
+
 unfoldable pub Run-reports : Type 0
 Run-reports =
     (bs : List ℕ) (f : Run-call bs) → f .number ≡ 0 →
-    Reported (sheet-in bs) (f .inbox) (f .inbox-now) (f .report-now) × (told-in (sheet-in bs) (f .report-now) .verdict ≢ 0)
+    Reported (sheet-in bs) (f .inbox) (f .inbox-now) (f .report-now)
+    × Ran-order (sheet-in bs) (f .order-now) (f .inbox) (f .report-now)
 
 -- Arrival decides, across senders, as two calls of follow tell it, one with a beginning of the other's order.
 unfoldable pub Follow-by-arrival : Type 0

@@ -3,7 +3,7 @@
 -- each under its name in small letters. Assumes nothing: these are statements.
 use mathlib.Core.Path.{_≡_}
 use mathlib.Core.Logic.{_≢_, _↔_}
-use mathlib.Core.Bool.{Bool, true, false, _&&_, cond}
+use mathlib.Core.Bool.{Bool, true, false, _&&_, _||_, cond}
 use mathlib.Core.List.{List, [], _∷_, _++_}
 use mathlib.Core.Option.{Option, none, some}
 use Prim.Native.Nat.{ℕ, zero, suc, _+_, _-_, _≤_, _<_, max}
@@ -14,7 +14,7 @@ use Rattle.rules.specs.Sheet.{Sheet, op, board, sheet-in, P-of, N-of, rank-of, 
 use Rattle.rules.specs.Job.{Job, Entry, Stop, entry, entry-at, place-at, started, with-stop, with-steps}
 use Rattle.rules.specs.Step.{able, step, next-op, in-waiting-half, is-finished, fits-with, is-cut, copied, area-start, charge-of}
 use Rattle.rules.specs.Order.{follow, run, none-able}
-use Rattle.rules.specs.Report.{verdict-of}
+use Rattle.rules.specs.Report.{verdict-of, count-from, pending-messages, pending-receives, cut-messages}
 use Rattle.rules.specs.Claims.{passes, is-any-source, accepts, left-by, Alike, Given}
 
 -- What every claim is given: a sheet that passes check, and inbox room enough. Nothing is asked of the order: the claims hold of
@@ -28,6 +28,11 @@ pub record Lent (bs i : List ℕ) : Type 0 where
 pub record Told : Type 0 where
   pub verdict : ℕ
   pub stop : Option Stop
+  -- steps taken; pending messages, pending receives and cut messages
+  pub steps : ℕ
+  pub messages : ℕ
+  pub receives : ℕ
+  pub cuts : ℕ
   -- the row of an operation
   pub row : ℕ → Entry
   -- of a board: operations finished, buffer in use and peak, whether it is finished, whether it is able
@@ -42,6 +47,10 @@ told-by s x =
     record {
       verdict = verdict-of (x .stop) s x;
       stop = x .stop;
+      steps = x .steps;
+      messages = pending-messages s x;
+      receives = pending-receives s x;
+      cuts = cut-messages s x;
       row = λ i. entry-at x i;
       finished = λ r. place-at x r .finished;
       in-use = λ r. place-at x r .in-use;
@@ -202,6 +211,23 @@ pub record Stopping-step (s : Sheet) (i rs : List ℕ) (p : Stop) : Type 0 where
 unfoldable pub Stopping-steps : Type 0
 Stopping-steps =
     (bs i rs : List ℕ) (p : Stop) → Lent bs i → left-by (sheet-in bs) rs i .stop ≡ some p → Stopping-step (sheet-in bs) i rs p
+
+-- Steps: an order that is accepted took as many steps as it has ranks.
+unfoldable pub Steps : Type 0
+Steps =
+    (bs i rs : List ℕ) → Lent bs i → accepts (sheet-in bs) rs i ≡ true →
+    told-by (sheet-in bs) (left-by (sheet-in bs) rs i) .steps ≡ length rs
+
+-- Counts: pending messages are the sends in state 1 or 2, pending receives the receives in state 1, cut messages the rows that
+-- say so.
+pub record Counted (s : Sheet) (t : Told) : Type 0 where
+  pub messages :
+      t .messages ≡ count-from (N-of s) 0 (λ i. is-send (op s i) && (eqb (t .row i .state) 1 || eqb (t .row i .state) 2))
+  pub receives : t .receives ≡ count-from (N-of s) 0 (λ i. is-receive (op s i) && eqb (t .row i .state) 1)
+  pub cuts : t .cuts ≡ count-from (N-of s) 0 (λ i. eqb (t .row i .cut) 1)
+
+unfoldable pub Counts : Type 0
+Counts = Of-jobs Counted
 
 -- In use is the sum of the charges of the board's buffered sends that are pending (state 2).
 unfoldable pub pending-charges : (n : ℕ) → Sheet → Told → (r : ℕ) → ℕ

@@ -1,7 +1,7 @@
 -- The proofs of the claims, of a sheet's bytes and the lent inboxes.
 --   Deliveries    memory byte by byte
 --   Verdicts      each verdict exactly when it should be given
---   BufferUse     buffer use and its peak
+--   Figures       buffer use, its peak, and steps
 --   OneJob        demand 2 of one job
 --   Matching      demand 2 of its matching
 --   Arrivals      arrival decides, across senders
@@ -15,7 +15,7 @@
 --   SwapSame      exchanged steps
 pub mod Deliveries
 pub mod Verdicts
-pub mod BufferUse
+pub mod Figures
 pub mod OneJob
 pub mod Matching
 pub mod Arrivals

@@ -130,6 +130,7 @@ pub record Run-answer {bs : List ℕ} (f : Run-call bs) : Type 0 where
   pub number-zero : f .number ≡ 0
   pub inbox-is : f .inbox-now ≡ run (sheet-in bs) (f .inbox) .end .memory
   pub report-is : f .report-now ≡ in-front (report (sheet-in bs) (run (sheet-in bs) (f .inbox) .end)) (f .report)
+  pub order-is : f .order-now ≡ in-front (run (sheet-in bs) (f .inbox) .order) (f .order)
 
 pub run-answer : {bs : List ℕ} → passes bs ≡ true → (f : Run-call bs) → Run-answer f
 unfolding Run-says answers run-refusal refusal
@@ -139,6 +140,7 @@ run-answer {bs} p f =
       number-zero = f .said .0 .0 ∙ all-zero;
       inbox-is = f .said .1 ∙ kept-new (answer .number) _ (f .inbox) all-zero;
       report-is = f .said .2 ∙ kept-new (answer .number) _ (f .report) all-zero;
+      order-is = f .said .3 ∙ kept-new (answer .number) _ (f .order) all-zero;
     }
   where
     answer : Refusal

@@ -1,15 +1,18 @@
 -- What every order keeps, said of a sheet's bytes and the lent inboxes: bytes that pass give a valid sheet, an order keeps
 -- the invariant, and so the statements about one job hold of whatever an order leaves.
 --   lent-valid, lent-reached     a valid sheet; the invariant of the job that an order leaves
---   deliveries, verdicts, in-use, peaks, buffers-hold
+--   deliveries, verdicts, in-use, peaks, buffers-hold, counts, steps
 -- Assumes nothing.
+use mathlib.Core.Path.{_≡_, refl, _∙_}
 use mathlib.Core.List.{List}
 use Prim.Native.Nat.{ℕ}
 use native.Mathlib.Omega.{arith}
 use Rattle.rules.specs.Sheet.{sheet-in}
+use Rattle.rules.specs.Job.{job, started}
 use Rattle.rules.specs.Order.{follow}
-use Rattle.rules.specs.Claims.{left-by}
-use Rattle.promises.specs.Statements.{Lent, told-by, Deliveries, Exact, Verdicts, Charged, In-use, Peaks, Within-attached, Buffers-hold}
+use Rattle.rules.specs.Report.{pending-messages, pending-receives, cut-messages, is-pending-message, is-pending-receive}
+use Rattle.rules.specs.Claims.{accepts, left-by}
+use Rattle.promises.specs.Statements.{Lent, told-by, Deliveries, Exact, Verdicts, Charged, In-use, Peaks, Within-attached, Buffers-hold, Counts, Steps}
 use Rattle.invariant.specs.sheet.Valid.{Valid}
 use Rattle.invariant.specs.sheet.FromBytes.{valid-from-bytes}
 use Rattle.invariant.specs.Invariant.{Reached}
@@ -17,7 +20,7 @@ use Rattle.invariant.specs.deliveries.Commute.{delivery-laws}
 use Rattle.invariant.specs.preserve.Orders.{start-peak, start-reached, left-reached}
 use Rattle.promises.specs.claims.Deliveries.{deliveries-reached}
 use Rattle.promises.specs.claims.Verdicts.{verdict-reached}
-use Rattle.promises.specs.claims.BufferUse.{in-use-reached, follow-peak}
+use Rattle.promises.specs.claims.Figures.{in-use-reached, follow-peak, follow-steps}
 
 pub lent-valid : {bs i : List ℕ} → Lent bs i → Valid (sheet-in bs)
 lent-valid {bs} h = valid-from-bytes bs (h .passing)
@@ -50,3 +53,18 @@ peaks bs i rs r h =
 pub buffers-hold : Buffers-hold
 unfolding Buffers-hold Within-attached told-by
 buffers-hold bs i rs h r l = let R = lent-reached h rs in (R .in-use-peak r, R .peak-attached r l)
+
+pub counts : Counts
+unfolding Counts told-by pending-messages pending-receives cut-messages is-pending-message is-pending-receive
+counts bs i rs h =
+    record {
+      messages = refl;
+      receives = refl;
+      cuts = refl;
+    }
+
+pub steps : Steps
+unfolding Steps told-by accepts left-by follow started job
+steps bs i rs h e =
+    follow-steps (lent-valid h) (delivery-laws (sheet-in bs) (lent-valid h)) (h .room) 0 rs (start-reached (lent-valid h) i) e
+    ∙ omega arith

@@ -9,7 +9,7 @@ use mathlib.Core.Bool.{true}
 use mathlib.Core.List.{List, _++_}
 use Prim.Native.Nat.{ℕ}
 use native.Mathlib.Omega.{arith}
-use lib.ListN.{length, drop}
+use lib.ListN.{length, take, drop}
 use borrow.Author.Tests.{eq-eqb}
 use Rattle.rules.specs.Limits.{order-room}
 use Rattle.rules.specs.Sheet.{sheet-in, N-of}
@@ -19,24 +19,28 @@ use Rattle.rules.specs.Step.{able}
 use Rattle.rules.specs.Order.{follow, run, none-able}
 use Rattle.rules.specs.Report.{report}
 use Rattle.rules.specs.Service.{answers, room-refusal, order-refusal, in-front, follow-refusal, Follow-says, run-refusal, Run-says}
-use Rattle.rules.specs.Claims.{passes, left-by}
+use Rattle.rules.specs.Claims.{passes, accepts, left-by}
 use Rattle.laws.specs.Tests.{true-not-false}
 use Rattle.laws.specs.Tabled.{or-else-first}
 use Rattle.invariant.specs.Invariant.{state-at, partner-at}
 use Rattle.invariant.specs.deliveries.Commute.{delivery-laws}
 use Rattle.invariant.specs.step.LowestAble.{next-none}
-use Rattle.promises.specs.Statements.{Lent, Told, told-by, Earlier-first, By-arrival, None-fit, No-overtaking, No-overtaking-receives, Statuses, Send-statuses}
-use Rattle.promises.specs.Statements.{Delivered, Deliveries, Exact, Verdicts, Stop-reasons, In-use, Buffers-hold, Run-ends}
-use Rattle.promises.specs.Statements.{No-pair-left, Sends-in-order, Receives-in-order, Matched-receives, Matched-sends, Why-stopped, Charged, Within-attached}
-use Rattle.promises.specs.ServiceStatements.{Follow-call, Run-call, told-in, Reported, Follow-reports, Run-reports, Follow-by-arrival}
-use Rattle.promises.specs.claims.OneJob.{lent-valid, lent-reached, deliveries, verdicts, in-use, buffers-hold}
+use Rattle.promises.specs.Statements.{Lent, Told, told-by, Earlier-first, By-arrival}
+use Rattle.promises.specs.Statements.{None-fit, No-overtaking, No-overtaking-receives, Statuses, Send-statuses}
+use Rattle.promises.specs.Statements.{Delivered, Deliveries, Exact, Verdicts, Stop-reasons, Steps}
+use Rattle.promises.specs.Statements.{Counted, Counts, In-use, Peaks, Buffers-hold, Ends, Run-ends}
+use Rattle.promises.specs.Statements.{No-pair-left, Sends-in-order, Receives-in-order, Matched-receives}
+use Rattle.promises.specs.Statements.{Matched-sends, Why-stopped, Charged, Within-attached}
+use Rattle.promises.specs.ServiceStatements.{Follow-call, Run-call, told-in, Reported}
+use Rattle.promises.specs.ServiceStatements.{Followed-steps, Ran-order, Follow-reports, Run-reports, Follow-by-arrival}
+use Rattle.promises.specs.claims.OneJob.{lent-valid, lent-reached, deliveries, verdicts, steps, counts, in-use, peaks, buffers-hold}
 use Rattle.promises.specs.claims.Matching.{none-fit, no-overtaking, no-overtaking-receives, statuses, send-statuses}
 use Rattle.promises.specs.claims.Stops.{stop-reasons}
 use Rattle.promises.specs.claims.Arrivals.{by-arrival}
 use Rattle.promises.specs.compare.SamePositions.{positions-rows}
 use Rattle.promises.specs.compare.TwoRooms.{rooms-same-positions}
 use Rattle.promises.specs.claims.EndsAlike.{run-ends}
-use Rattle.promises.specs.claims.Calls.{follow-lent, follow-inbox, follow-report, run-answer, run-lent}
+use Rattle.promises.specs.claims.Calls.{follow-lent, follow-accepted, follow-inbox, follow-report, front-report, run-answer, run-lent}
 use Rattle.promises.specs.claims.Reports.{report-tells}
 
 -- A JOB that an order left, its memory in `inbox` and its report at the front of `out`
@@ -59,7 +63,8 @@ module _ {bs i : List ℕ} (h : Lent bs i) (rs : List ℕ) {inbox out : List ℕ
   of-report C c = subst C (sym tells) c
 
   pub reported : Reported (sheet-in bs) i inbox out
-  unfolding None-fit No-overtaking No-overtaking-receives Statuses Send-statuses Deliveries Verdicts Stop-reasons In-use Buffers-hold
+  unfolding None-fit No-overtaking No-overtaking-receives Statuses Send-statuses Deliveries Verdicts Stop-reasons Counts In-use
+      Buffers-hold
   reported =
       record {
         none-fit = of-report (No-pair-left (sheet-in bs)) (none-fit bs i rs h);
@@ -72,8 +77,18 @@ module _ {bs i : List ℕ} (h : Lent bs i) (rs : List ℕ) {inbox out : List ℕ
             (subst (λ (z : List ℕ). Delivered (sheet-in bs) (told-by (sheet-in bs) x) i z) (sym memory) (deliveries bs i rs h));
         verdict-exact = of-report (Exact (sheet-in bs)) (verdicts bs i rs h);
         why-stopped = of-report (Why-stopped (sheet-in bs)) (stop-reasons bs i rs h);
+        counted = of-report (Counted (sheet-in bs)) (counts bs i rs h);
         charged = of-report (Charged (sheet-in bs)) (in-use bs i rs h);
         within-attached = of-report (Within-attached (sheet-in bs)) (buffers-hold bs i rs h);
+      }
+
+  -- an accepted order's steps and peaks
+  pub followed-steps : accepts (sheet-in bs) rs i ≡ true → Followed-steps (sheet-in bs) rs i out
+  unfolding Steps Peaks told-by
+  followed-steps accepted =
+      record {
+        steps = ap (λ (t : Told). t .steps) tells ∙ steps bs i rs h accepted;
+        peaks = λ r. ap (λ (t : Told). t .peak r) tells ∙ peaks bs i rs r h;
       }
 
   -- where no board is able the verdict is not 0
@@ -98,8 +113,10 @@ module _ {bs o : List ℕ} (f : Follow-call bs o) (success : f .number ≡ 0) wh
 pub follow-reports : Follow-reports
 unfolding Follow-reports
 follow-reports bs o f e =
-    let p = follow-passes f e in
-    reported (follow-lent p f) o (f .report) (follow-inbox p f e) (follow-report p f e)
+    let p = follow-passes f e in (
+      reported (follow-lent p f) o (f .report) (follow-inbox p f e) (follow-report p f e),
+      followed-steps (follow-lent p f) o (f .report) (follow-inbox p f e) (follow-report p f e) (follow-accepted p f e),
+    )
 
 -- one order on two rooms leaves the same rows
 module _ {bs i j : List ℕ} (a : Lent bs i) (b : Lent bs j) (o : List ℕ) where
@@ -153,23 +170,41 @@ module _ {bs : List ℕ} (f : Run-call bs) (success : f .number ≡ 0) where
 
 pub run-reports : Run-reports
 unfolding Run-reports Run-ends
-run-reports bs f e =
-    (reported h order (f .report) memory written, full-verdict h order (f .report) memory written full)
+run-reports bs f e = (
+  reported h order (f .report) memory written,
+  record {
+    ended = full-verdict h order (f .report) memory written full;
+    accepted = subst (λ (o : List ℕ). accepts (sheet-in bs) o (f .inbox) ≡ true) (sym taken) (E .accepted);
+    followed = subst (λ (o : List ℕ). Followed-steps (sheet-in bs) o (f .inbox) (f .report-now)) (sym taken) steps-and-peaks;
+  },
+)
   where
+    p : passes bs ≡ true
+    p = run-passes f e
+
     h : Lent bs (f .inbox)
-    h = run-lent (run-passes f e) f
+    h = run-lent p f
+
+    E : Ends (sheet-in bs) (f .inbox)
+    E = run-ends bs (f .inbox) h
 
     order : List ℕ
     order = run (sheet-in bs) (f .inbox) .order
 
-    same : left-by (sheet-in bs) order (f .inbox) ≡ run (sheet-in bs) (f .inbox) .end
-    same = run-ends bs (f .inbox) h .same-job
-
     memory : f .inbox-now ≡ left-by (sheet-in bs) order (f .inbox) .memory
-    memory = run-answer (run-passes f e) f .inbox-is ∙ ap (λ (z : Job). z .memory) (sym same)
+    memory = run-answer p f .inbox-is ∙ ap (λ (z : Job). z .memory) (sym (E .same-job))
 
     written : f .report-now ≡ in-front (report (sheet-in bs) (left-by (sheet-in bs) order (f .inbox))) (f .report)
-    written = run-answer (run-passes f e) f .report-is ∙ ap (λ (z : Job). in-front (report (sheet-in bs) z) (f .report)) (sym same)
+    written = run-answer p f .report-is ∙ ap (λ (z : Job). in-front (report (sheet-in bs) z) (f .report)) (sym (E .same-job))
 
     full : none-able (sheet-in bs) (left-by (sheet-in bs) order (f .inbox)) ≡ true
-    full = ap (λ (z : Job). none-able (sheet-in bs) z) same ∙ run-ends bs (f .inbox) h .none-left
+    full = ap (λ (z : Job). none-able (sheet-in bs) z) (E .same-job) ∙ E .none-left
+
+    steps-and-peaks : Followed-steps (sheet-in bs) order (f .inbox) (f .report-now)
+    steps-and-peaks = followed-steps h order (f .report) memory written (E .accepted)
+
+    -- the order that run took stands at the front of order out
+    taken : take (told-in (sheet-in bs) (f .report-now) .steps) (f .order-now) ≡ order
+    taken =
+        ap (λ (z : List ℕ). take (told-in (sheet-in bs) (f .report-now) .steps) z) (run-answer p f .order-is)
+        ∙ front-report order (f .order) (told-in (sheet-in bs) (f .report-now) .steps) (sym (steps-and-peaks .steps))

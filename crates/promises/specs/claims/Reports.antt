@@ -18,13 +18,13 @@ use Rattle.rules.specs.Sheet.{Sheet, Board, board, no-board, P-of, N-of, two}
 use Rattle.rules.specs.Job.{Job, Entry, Place, Stop, place, bare-entry, entry-at, place-at}
 use Rattle.rules.specs.Step.{able, is-finished, in-waiting-half, half-complete, is-none, next-op}
 use Rattle.rules.specs.Report.{low-two, verdict-of, stop-bytes, header-bytes, board-state, board-row, board-rows, op-row, op-rows, entry-in, report}
-use Rattle.rules.specs.Report.{pending-messages, pending-receives, cut-messages}
+use Rattle.rules.specs.Report.{count-from, is-pending-message, is-pending-receive, pending-messages, pending-receives, cut-messages}
 use Rattle.laws.specs.Tests.{true-not-false, not-so, cond-false}
 use Rattle.laws.specs.ReportRows.{board-row-length, two-behind, two-bytes, row-read}
 use Rattle.invariant.specs.sheet.Valid.{Valid}
 use Rattle.invariant.specs.Invariant.{Stopped, Reached}
 use Rattle.invariant.specs.Facts.{able-parts}
-use Rattle.invariant.specs.Bounds.{finished-few, peak-few, in-use-few, row-fits}
+use Rattle.invariant.specs.Bounds.{finished-few, steps-few, peak-few, in-use-few, row-fits}
 use Rattle.promises.specs.Statements.{Told, told-by}
 use Rattle.promises.specs.ServiceStatements.{board-row-at, board-figure, board-state-is, stop-in, told-in}
 use Rattle.promises.specs.compare.ReportBytes.{header-length, board-rows-length, op-rows-length}
@@ -54,6 +54,16 @@ ops-split [] i d l = absurd (omega arith)
 ops-split (e ∷ es) zero d l = refl
 ops-split (e ∷ es) (suc i) d l =
     ap (λ (z : List ℕ). op-row e ++ z) (ops-split es i d (omega arith)) ∙ sym (append-assoc (op-row e) (op-rows (take i es)) _)
+
+-- as many as are asked, at the most
+count-most : (k i : ℕ) (f : ℕ → Bool) → count-from k i f ≤ k
+unfolding count-from
+count-most zero i f = omega arith
+count-most (suc k) i f = go (f i) (count-most k (suc i) f)
+  where
+    go : (b : Bool) → count-from k (suc i) f ≤ k → cond b 1 0 + count-from k (suc i) f ≤ suc k
+    go true l = omega arith
+    go false l = omega arith
 
 module _ {s : Sheet} (g : Valid s) {lent : List ℕ} {x : Job} (R : Reached s lent x) (rest : List ℕ) where
   abbrev told : List ℕ
@@ -230,20 +240,23 @@ module _ {s : Sheet} (g : Valid s) {lent : List ℕ} {x : Job} (R : Reached s le
   unfolding report header-bytes
   verdict-told = refl
 
+  -- the header's figures, behind the stop
+  abbrev figures : List ℕ
+  figures =
+      low-two (x .steps)
+      ++ (low-two (P-of s)
+      ++ (low-two (N-of s)
+      ++ (low-two (pending-messages s x) ++ (low-two (pending-receives s x) ++ low-two (cut-messages s x)))))
+
+  -- and the whole report, where the job's stop is o
+  abbrev told-with : Option Stop → List ℕ
+  told-with o =
+      ((verdict-of o s x ∷ (stop-bytes o ++ figures)) ++ (board-rows (P-of s) 0 s x ++ op-rows (x .entries))) ++ rest
+
   stop-told : stop-in told ≡ x .stop
   unfolding report header-bytes stop-in stop-bytes low-two verdict-of two
   stop-told = go (x .stop) refl
     where
-      figures : List ℕ
-      figures =
-          low-two (x .steps)
-          ++ (low-two (P-of s)
-          ++ (low-two (N-of s)
-          ++ (low-two (pending-messages s x) ++ (low-two (pending-receives s x) ++ low-two (cut-messages s x)))))
-
-      rows : List ℕ
-      rows = board-rows (P-of s) 0 s x ++ op-rows (x .entries)
-
       with-op : Stop → ℕ → Option Stop
       with-op t k =
           some
@@ -253,13 +266,49 @@ module _ {s : Sheet} (g : Valid s) {lent : List ℕ} {x : Job} (R : Reached s le
             at-op = k;
           })
 
-      go : (o : Option Stop) → x .stop ≡ o → stop-in (((verdict-of o s x ∷ (stop-bytes o ++ figures)) ++ rows) ++ rest) ≡ o
+      go : (o : Option Stop) → x .stop ≡ o → stop-in (told-with o) ≡ o
       go none e = refl
       go (some t) e =
           let known = R .stop-at t e in
           cond-false (eqb (t .rank) 255) none (with-op t (t .at-op % 256 + 256 * (t .at-op / 256 % 256)))
           (ne-eqb (t .rank) 255 (λ z. omega (arith, known .rank-small, g .boards-few)))
           ∙ ap (with-op t) (two-bytes (t .at-op) (omega (arith, known .op-small, g .ops-few)))
+
+  steps-told : two told 4 ≡ x .steps
+  unfolding report header-bytes stop-bytes low-two two
+  steps-told = go (x .stop) (omega (arith, steps-few g R))
+    where
+      go : (o : Option Stop) → x .steps < 65536 → two (told-with o) 4 ≡ x .steps
+      go none l = two-bytes (x .steps) l
+      go (some t) l = two-bytes (x .steps) l
+
+  -- counts of operations are at most N
+  count-small : (f : ℕ → Bool) → count-from (N-of s) 0 f < 65536
+  count-small f = omega (arith, count-most (N-of s) 0 f, g .ops-few)
+
+  messages-told : two told 10 ≡ pending-messages s x
+  unfolding report header-bytes stop-bytes low-two two pending-messages
+  messages-told = go (x .stop) (count-small (is-pending-message s x))
+    where
+      go : (o : Option Stop) → pending-messages s x < 65536 → two (told-with o) 10 ≡ pending-messages s x
+      go none l = two-bytes (pending-messages s x) l
+      go (some t) l = two-bytes (pending-messages s x) l
+
+  receives-told : two told 12 ≡ pending-receives s x
+  unfolding report header-bytes stop-bytes low-two two pending-receives
+  receives-told = go (x .stop) (count-small (is-pending-receive s x))
+    where
+      go : (o : Option Stop) → pending-receives s x < 65536 → two (told-with o) 12 ≡ pending-receives s x
+      go none l = two-bytes (pending-receives s x) l
+      go (some t) l = two-bytes (pending-receives s x) l
+
+  cuts-told : two told 14 ≡ cut-messages s x
+  unfolding report header-bytes stop-bytes low-two two cut-messages
+  cuts-told = go (x .stop) (count-small (λ i. eqb (entry-at x i .cut) 1))
+    where
+      go : (o : Option Stop) → cut-messages s x < 65536 → two (told-with o) 14 ≡ cut-messages s x
+      go none l = two-bytes (cut-messages s x) l
+      go (some t) l = two-bytes (cut-messages s x) l
 
   -- THE LAW
   pub report-tells : told-in s told ≡ told-by s x
@@ -269,6 +318,10 @@ module _ {s : Sheet} (g : Valid s) {lent : List ℕ} {x : Job} (R : Reached s le
       record {
         verdict = verdict-told i;
         stop = stop-told i;
+        steps = steps-told i;
+        messages = messages-told i;
+        receives = receives-told i;
+        cuts = cuts-told i;
         row = λ j. row-told j i;
         finished = λ r. figure-told (λ q. q .finished) 0 r refl (finished-there r) i;
         in-use = λ r. figure-told (λ q. q .in-use) 2 r refl (in-use-there r) i;

@@ -1,7 +1,9 @@
--- Buffer use: what is in use is the sum of the charges pending, and the peak is the most in use after any step so far.
+-- Figures along an order: what is in use is the sum of the charges pending, the peak is the most in use after any step so far,
+-- and steps are counted.
 --   in-use-reached     the statement In-use, of one job that keeps the invariant
 --   step-peak          a step raises the peak to what is then in use
 --   follow-peak        so the peak that an order leaves is the most of them
+--   follow-steps       an accepted order has as many steps as ranks
 -- Assumes nothing.
 use mathlib.Core.Path.{_≡_, refl, sym, ap, subst, _∙_}
 use mathlib.Core.Bool.{Bool, true, false, cond}
@@ -12,15 +14,16 @@ use native.Mathlib.Omega.{arith}
 use lib.ListN.{length, getD}
 use Rattle.rules.specs.Sheet.{Sheet, P-of, N-of, inbox-total}
 use Rattle.rules.specs.Job.{Job, Place, place, place-at}
-use Rattle.rules.specs.Step.{able, step}
+use Rattle.rules.specs.Step.{able, step, is-none}
 use Rattle.rules.specs.Order.{follow-from, followed}
+use Rattle.laws.specs.Tests.{true-not-false}
 use Rattle.promises.specs.Statements.{told-by, pending-charges, most-in-use}
 use Rattle.invariant.specs.sheet.Valid.{Valid}
 use Rattle.invariant.specs.deliveries.Laws.{Delivery-laws}
 use Rattle.laws.specs.Sums.{sum-below}
 use Rattle.invariant.specs.Invariant.{charge-in, Reached}
 use Rattle.invariant.specs.step.Places.{moved-peak}
-use Rattle.promises.specs.compare.AfterStep.{After, continues, stops-job, step-after}
+use Rattle.promises.specs.compare.AfterStep.{After, continues, stops-job, step-after, step-counted}
 use Rattle.invariant.specs.preserve.Step.{step-sound}
 
 -- IN USE
@@ -69,3 +72,20 @@ follow-peak {s} g A room r k (q ∷ rs) {x} R =
         max (place-at x r .peak) (cond b (max (place-at y r .in-use) (most-in-use s rs y r)) 0)
     go true e on = omega (arith, on e, step-peak g R q e r)
     go false e on = omega arith
+
+-- STEPS: every rank of an accepted order is a step
+pub follow-steps : {s : Sheet} (g : Valid s) → Delivery-laws s → {i : List ℕ} → inbox-total s ≤ length i →
+    (k : ℕ) (rs : List ℕ) {x : Job} → Reached s i x → is-none (follow-from k s rs x .refused-at) ≡ true →
+    follow-from k s rs x .left .steps ≡ x .steps + length rs
+unfolding follow-from followed is-none
+follow-steps g A room k [] R e = omega arith
+follow-steps {s} g A room k (q ∷ rs) {x} R e =
+    go (able s x q) refl e (λ a. follow-steps g A room (suc k) rs (step-sound g A room R q a .reached))
+  where
+    go : (b : Bool) → able s x q ≡ b →
+        is-none (cond b (follow-from (suc k) s rs (step s q x)) (followed (some k) x) .refused-at) ≡ true →
+        (able s x q ≡ true → is-none (follow-from (suc k) s rs (step s q x) .refused-at) ≡ true →
+        follow-from (suc k) s rs (step s q x) .left .steps ≡ step s q x .steps + length rs) →
+        cond b (follow-from (suc k) s rs (step s q x)) (followed (some k) x) .left .steps ≡ x .steps + suc (length rs)
+    go true a h on = omega (arith, on a h, step-counted g R q a)
+    go false a h on = true-not-false h refl
