@@ -274,41 +274,37 @@ module _ {s : Sheet} (g : Valid s) {lent : List ℕ} {x : Job} (R : Reached s le
           (ne-eqb (t .rank) 255 (λ z. omega (arith, known .rank-small, g .boards-few)))
           ∙ ap (with-op t) (two-bytes (t .at-op) (omega (arith, known .op-small, g .ops-few)))
 
-  steps-told : two told 4 ≡ x .steps
-  unfolding report header-bytes stop-bytes low-two two
-  steps-told = go (x .stop) (omega (arith, steps-few g R))
+  -- figures stand behind verdict and stop, four bytes
+  header-there : (k : ℕ) → two told (4 + k) ≡ two ((figures ++ (board-rows (P-of s) 0 s x ++ op-rows (x .entries))) ++ rest) k
+  unfolding report header-bytes stop-bytes low-two verdict-of
+  header-there k = go (x .stop)
     where
-      go : (o : Option Stop) → x .steps < 65536 → two (told-with o) 4 ≡ x .steps
-      go none l = two-bytes (x .steps) l
-      go (some t) l = two-bytes (x .steps) l
+      behind : List ℕ
+      behind = (figures ++ (board-rows (P-of s) 0 s x ++ op-rows (x .entries))) ++ rest
+
+      go : (o : Option Stop) → two (told-with o) (4 + k) ≡ two behind k
+      go none = two-behind (verdict-of none s x ∷ stop-bytes none) behind k
+      go (some t) = two-behind (verdict-of (some t) s x ∷ stop-bytes (some t)) behind k
+
+  steps-told : two told 4 ≡ x .steps
+  unfolding low-two two
+  steps-told = header-there 0 ∙ two-bytes (x .steps) (omega (arith, steps-few g R))
 
   -- counts of operations are at most N
   count-small : (f : ℕ → Bool) → count-from (N-of s) 0 f < 65536
   count-small f = omega (arith, count-most (N-of s) 0 f, g .ops-few)
 
   messages-told : two told 10 ≡ pending-messages s x
-  unfolding report header-bytes stop-bytes low-two two pending-messages
-  messages-told = go (x .stop) (count-small (is-pending-message s x))
-    where
-      go : (o : Option Stop) → pending-messages s x < 65536 → two (told-with o) 10 ≡ pending-messages s x
-      go none l = two-bytes (pending-messages s x) l
-      go (some t) l = two-bytes (pending-messages s x) l
+  unfolding low-two two pending-messages
+  messages-told = header-there 6 ∙ two-bytes (pending-messages s x) (count-small (is-pending-message s x))
 
   receives-told : two told 12 ≡ pending-receives s x
-  unfolding report header-bytes stop-bytes low-two two pending-receives
-  receives-told = go (x .stop) (count-small (is-pending-receive s x))
-    where
-      go : (o : Option Stop) → pending-receives s x < 65536 → two (told-with o) 12 ≡ pending-receives s x
-      go none l = two-bytes (pending-receives s x) l
-      go (some t) l = two-bytes (pending-receives s x) l
+  unfolding low-two two pending-receives
+  receives-told = header-there 8 ∙ two-bytes (pending-receives s x) (count-small (is-pending-receive s x))
 
   cuts-told : two told 14 ≡ cut-messages s x
-  unfolding report header-bytes stop-bytes low-two two cut-messages
-  cuts-told = go (x .stop) (count-small (λ i. eqb (entry-at x i .cut) 1))
-    where
-      go : (o : Option Stop) → cut-messages s x < 65536 → two (told-with o) 14 ≡ cut-messages s x
-      go none l = two-bytes (cut-messages s x) l
-      go (some t) l = two-bytes (cut-messages s x) l
+  unfolding low-two two cut-messages
+  cuts-told = header-there 10 ∙ two-bytes (cut-messages s x) (count-small (λ i. eqb (entry-at x i .cut) 1))
 
   -- THE LAW
   pub report-tells : told-in s told ≡ told-by s x
