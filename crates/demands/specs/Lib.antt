@@ -1,5 +1,5 @@
 -- What the functions of this crate ensure, in the order of document 01, and the laws that join it to promises.
---   Demands    the conclusions of demand 3, of what callers see
---   Calls      from what follow and run ensure to these conclusions
+--   Demands    the conclusions of the three demands, of what callers see
+--   Calls      from what the services ensure to these conclusions
 pub mod Demands
 pub mod Calls

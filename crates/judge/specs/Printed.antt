@@ -27,7 +27,7 @@ use Rattle.invariant.specs.preserve.Orders.{left-reached}
 use Rattle.promises.specs.claims.RunEnds.{run-ended}
 use Rattle.promises.specs.compare.ReportBytes.{report-length}
 use Rattle.promises.specs.claims.Calls.{front-report}
-use Rattle.jamturret.specs.Chain.{number-of}
+use Rattle.laws.specs.Answers.{answers-number}
 use Rattle.jamturret.specs.Rooms.{Ready}
 use Rattle.laws.specs.Rooms.{rooms-enough}
 use Rattle.jamturret.specs.Outcomes.{ready}
@@ -107,7 +107,7 @@ module _ (bs i i' r r' o o' c c' : List ℕ) (n p : ℕ) (said : Run-says bs n p
   unfolding Run-says kept-or
   reported =
       let f = run-refusal bs (length i) (length r) (length o) (length c) in
-      let e : f .number ≡ 0 = sym (number-of f n p (said .0)) ∙ z in
+      let e : f .number ≡ 0 = sym (answers-number f n p (said .0)) ∙ z in
       said .2 ∙ cond-true (eqb (f .number) 0) (in-front (report s (run s i .end)) r) r (eq-eqb (f .number) 0 e)
 
   -- the report's own bytes are the report

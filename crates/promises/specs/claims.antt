@@ -8,7 +8,7 @@
 --   Stops         why a job stopped, and what the stopping step changed
 --   RunEnds       a run ends
 --   Calls         what a call of follow or run has answered
---   Reports       a report tells what its job does
+--   ReportTells   a report tells what its job does
 --   Services      demand 3 of the services, from demand 3 of the orders
 --   EndsAlike     full orders end alike
 --   Reported      demand 2 of the services
@@ -22,7 +22,7 @@ pub mod Arrivals
 pub mod Stops
 pub mod RunEnds
 pub mod Calls
-pub mod Reports
+pub mod ReportTells
 pub mod Services
 pub mod EndsAlike
 pub mod SwapSame

@@ -41,7 +41,7 @@ use Rattle.promises.specs.compare.SamePositions.{positions-rows}
 use Rattle.promises.specs.compare.TwoRooms.{rooms-same-positions}
 use Rattle.promises.specs.claims.EndsAlike.{run-ends}
 use Rattle.promises.specs.claims.Calls.{follow-lent, follow-accepted, follow-inbox, follow-report, front-report, run-answer, run-lent}
-use Rattle.promises.specs.claims.Reports.{report-tells}
+use Rattle.promises.specs.claims.ReportTells.{report-tells}
 
 -- A JOB that an order left, its memory in `inbox` and its report at the front of `out`
 module _ {bs i : List ℕ} (h : Lent bs i) (rs : List ℕ) {inbox out : List ℕ} (old : List ℕ)

@@ -1,4 +1,4 @@
-//! *Check* on the largest sheets and on a small one.
+//! *Check* and *premise* on the largest sheets and on a small one.
 
 use crate::timing::{heading, line, medians};
 use jamturret_host::answer::Answer;
@@ -12,21 +12,29 @@ use std::hint::black_box;
 const SCRIPT: usize = 64;
 const INBOX: u16 = 1024;
 
+/// A service that is asked of a sheet alone.
+type Service = fn(&[u8]) -> Answer;
+
+pub fn tables(rounds: usize) {
+    table("check", ffi::check, judge::check, rounds);
+    table("premise", ffi::premise, judge::premise, rounds);
+}
+
 /// The sheets are accepted, so that every rule is asked of all of them.
-pub fn table(rounds: usize) {
-    heading("check");
+fn table(service: &str, library: Service, ours: Service, rounds: usize) {
+    heading(service);
     for (name, calls, sheet) in sheets() {
         let sheet = sheet.bytes();
-        assert_eq!(ffi::check(&sheet), Answer::SUCCESS, "library");
-        assert_eq!(judge::check(&sheet), Answer::SUCCESS, "judge");
+        assert_eq!(library(&sheet), Answer::SUCCESS, "library");
+        assert_eq!(ours(&sheet), Answer::SUCCESS, "judge");
         let times = medians(
             rounds,
             calls,
             || {
-                black_box(ffi::check(black_box(&sheet)));
+                black_box(library(black_box(&sheet)));
             },
             || {
-                black_box(judge::check(black_box(&sheet)));
+                black_box(ours(black_box(&sheet)));
             },
         );
         line(name, sheet.len(), times);

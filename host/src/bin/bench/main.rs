@@ -23,7 +23,7 @@ fn main() {
     println!("Medians of {rounds} rounds in nanoseconds a call, library and judge in turn;");
     println!("both sides are release builds and the buffers were warm.");
     println!("A ratio from 0.85 to 1.15 does not tell the two apart.");
-    check::table(rounds);
+    check::tables(rounds);
     jobs::table(rounds);
     jobs::growth(rounds);
 }
