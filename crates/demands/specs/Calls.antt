@@ -33,12 +33,12 @@ use Rattle.laws.specs.Broken.{or-else-stopped}
 use Rattle.invariant.specs.step.LowestAble.{next-able}
 use Rattle.promises.specs.Statements.{told-by, Exact, Verdicts}
 use Rattle.promises.specs.ServiceStatements.{Follow-call, Run-call, told-in, Left-alike, Follow-reports}
-use Rattle.promises.specs.ServiceStatements.{Run-reports, Follow-by-arrival, Follows-alike, Run-alike, Follow-swaps}
-use Rattle.promises.specs.Theorems.{verdicts, follow-reports, run-reports, follow-by-arrival, follows-alike, run-alike, follow-swaps}
+use Rattle.promises.specs.ServiceStatements.{Run-reports, Run-replayed, Follow-by-arrival, Follows-alike, Run-alike, Follow-swaps}
+use Rattle.promises.specs.Theorems.{verdicts, follow-reports, run-reports, run-replayed, follow-by-arrival, follows-alike, run-alike, follow-swaps}
 use Rattle.promises.specs.claims.Calls.{follow-answer, follow-lent, follow-report, run-answer}
 use Rattle.promises.specs.claims.Reported.{follow-passes, run-passes}
 use Rattle.demands.specs.Demands.{Seen, Kept-rules, Same-answer, Check-and-follow, Run-keeps, Ended, Calls-alike}
-use Rattle.demands.specs.Demands.{Arrival-told, Two-orders, Exchanged, Follow-demands, Follow-and-run, As-run, One-for-all}
+use Rattle.demands.specs.Demands.{Arrival-told, Two-orders, Exchanged, Follow-demands, Run-as-followed, Replayed, Follow-and-run, As-run, One-for-all}
 
 -- NO BOARD IS ABLE, by the report
 verdict-byte : (s : Sheet) (x : Job) (old : List ℕ) → getD (in-front (report s x) old) 0 0 ≡ verdict-of (x .stop) s x
@@ -224,13 +224,25 @@ module _ {bs one other : List ℕ} {f g : Seen} (a : Follow-seen bs one f) (b : 
         arrival = arrival;
       }
 
-pub follow-and-run : {bs o : List ℕ} {f g : Seen} {w w-now : List ℕ} → Follow-seen bs o f → Run-seen bs g w w-now →
-    Follow-and-run bs f g
-unfolding Follow-and-run Ended Calls-alike Run-alike
-follow-and-run {bs} {o} a b h end-f =
-    let F = follow-call a (h .not-short) in
-    run-alike bs o F (run-call b (h .not-short-too)) (h .passing) (h .calm-sheet) (h .same-start) (end-f .0)
-    (none-left (h .passing) F (end-f .0) (end-f .1))
+module _ {bs o : List ℕ} {f g : Seen} {w w-now : List ℕ} (a : Follow-seen bs o f) (b : Run-seen bs g w w-now) where
+  run-as-followed : Run-as-followed bs f g
+  unfolding Run-as-followed Ended Calls-alike Run-alike
+  run-as-followed h end-f =
+      let F = follow-call a (h .not-short) in
+      run-alike bs o F (run-call b (h .not-short-too)) (h .passing) (h .calm-sheet) (h .same-start) (end-f .0)
+      (none-left (h .passing) F (end-f .0) (end-f .1))
+
+  replayed : Replayed bs o w-now f g
+  unfolding Replayed Run-replayed
+  replayed order-is not-short zero-g same =
+      run-replayed bs (run-success b zero-g) (follow-call (subst (λ (z : List ℕ). Follow-seen bs z f) order-is a) not-short) zero-g same
+
+  pub follow-and-run : Follow-and-run bs o w-now f g
+  follow-and-run =
+      record {
+        end-alike = run-as-followed;
+        replay = replayed;
+      }
 
 -- THE PREMISE SERVICE AND RUN
 -- the first byte of a report is no peak

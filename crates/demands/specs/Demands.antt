@@ -5,13 +5,13 @@ use mathlib.Core.Logic.{_≢_, _↔_}
 use mathlib.Core.Bool.{true}
 use mathlib.Core.List.{List, _∷_, _++_}
 use Prim.Native.Nat.{ℕ, _≤_}
-use lib.ListN.{getD}
+use lib.ListN.{getD, take}
 use Rattle.rules.specs.Sheet.{sheet-in}
 use Rattle.rules.specs.Step.{able}
 use Rattle.rules.specs.Claims.{passes, calm, accepts, left-by}
 use Rattle.sheet.specs.declared.Answer.{Answer}
 use Rattle.promises.specs.Statements.{Earlier-first}
-use Rattle.promises.specs.ServiceStatements.{Follow-call, told-in, Reported, Followed-steps, Ran-order, Same-start, Left-alike}
+use Rattle.promises.specs.ServiceStatements.{Follow-call, told-in, Reported, Followed-steps, Ran-order, Same-start, Same-left, Left-alike}
 
 -- what a caller sees of a call of follow or run: the answer, and inbox and report as they were lent and as the call left them
 pub record Seen : Type 0 where
@@ -113,11 +113,22 @@ pub record Follow-demands (bs one other : List ℕ) (f g : Seen) : Type 0 where
   pub exchange : Exchanged bs one other f g
   pub arrival : Arrival-told bs one other f g
 
--- DEMAND 3 of a call of follow, f, and one of run, g
+-- DEMANDS 2 AND 3 of a call of follow, f, and one of run, g, which left `order-now` in order out
 
 -- Run ends alike with every order that follow accepts and after which no board is able.
-unfoldable pub Follow-and-run : (bs : List ℕ) (f g : Seen) → Type 0
-Follow-and-run bs f g = Compared bs f g → Ended f → (g .answer .number ≡ 0) × Calls-alike bs f g
+unfoldable pub Run-as-followed : (bs : List ℕ) (f g : Seen) → Type 0
+Run-as-followed bs f g = Compared bs f g → Ended f → (g .answer .number ≡ 0) × Calls-alike bs f g
+
+-- On any sheet: the order that run wrote down, followed, leaves what run left, peaks included (promises: Run-replayed).
+unfoldable pub Replayed : (bs order order-now : List ℕ) (f g : Seen) → Type 0
+Replayed bs order order-now f g =
+    order ≡ take (told-in (sheet-in bs) (g .report-now) .steps) order-now → f .answer .number ≢ 8 → g .answer .number ≡ 0 →
+    Same-start bs (f .inbox) (g .inbox) →
+    (f .answer .number ≡ 0) × Same-left bs (f .inbox-now) (f .report-now) (g .inbox-now) (g .report-now)
+
+pub record Follow-and-run (bs order order-now : List ℕ) (f g : Seen) : Type 0 where
+  pub end-alike : Run-as-followed bs f g
+  pub replay : Replayed bs order order-now f g
 
 -- THE PREMISE SERVICE AND RUN: one verdict for all orders
 

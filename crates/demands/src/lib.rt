@@ -82,7 +82,7 @@ pub fn follow_and_run(
     order2: &mut [u8],
     scratch: &mut [u8],
 ) -> Answers
-    ensures { λ a. ⌜ Follow-and-run (now (sheet .entry))
+    ensures { λ a. ⌜ Follow-and-run (now (sheet .entry)) (now (order1 .entry)) (now (order2 .exit))
         (seen (a .first) (now (inbox1 .entry)) (now (inbox1 .exit)) (now (report1 .entry)) (now (report1 .exit)))
         (seen (a .second) (now (inbox2 .entry)) (now (inbox2 .exit)) (now (report2 .entry)) (now (report2 .exit))) ⌝ }
 {

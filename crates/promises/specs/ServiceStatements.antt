@@ -46,6 +46,10 @@ pub record Run-call (bs : List ℕ) : Type 0 where
   pub said : Run-says bs number place inbox inbox-now report report-now order order-now scratch scratch-now
   pub not-short : number ≢ 8
 
+-- inboxes start with the same bytes; lent rooms may be longer, and of different lengths
+unfoldable pub Same-start : (bs i j : List ℕ) → Type 0
+Same-start bs i j = take (inbox-total (sheet-in bs)) i ≡ take (inbox-total (sheet-in bs)) j
+
 -- DEMAND 2 OF THE SERVICES
 
 -- What the bytes of a report tell (document 01, "The report"). Row r of the boards stands at report-size r 0, row i of the
@@ -125,6 +129,20 @@ Run-reports =
     Reported (sheet-in bs) (f .inbox) (f .inbox-now) (f .report-now)
     × Ran-order (sheet-in bs) (f .order-now) (f .inbox) (f .report-now)
 
+-- The order that a run wrote down, followed from inboxes that start with the same bytes, is accepted and leaves what the run
+-- left: inboxes and the whole report, peaks included. Nothing is asked of the sheet.
+unfoldable pub Same-left : (bs i r j q : List ℕ) → Type 0
+Same-left bs i r j q =
+    let s = sheet-in bs in
+    let n = report-size (P-of s) (N-of s) in
+    (take (inbox-total s) i ≡ take (inbox-total s) j) × (take n r ≡ take n q)
+
+unfoldable pub Run-replayed : Type 0
+Run-replayed =
+    (bs : List ℕ) (g : Run-call bs) (f : Follow-call bs (take (told-in (sheet-in bs) (g .report-now) .steps) (g .order-now))) →
+    g .number ≡ 0 → Same-start bs (f .inbox) (g .inbox) →
+    (f .number ≡ 0) × Same-left bs (f .inbox-now) (f .report-now) (g .inbox-now) (g .report-now)
+
 -- Arrival decides, across senders, as two calls of follow tell it, one with a beginning of the other's order.
 unfoldable pub Follow-by-arrival : Type 0
 Follow-by-arrival =
@@ -132,10 +150,6 @@ Follow-by-arrival =
     Earlier-first (sheet-in bs) (told-in (sheet-in bs) (f .report-now)) (told-in (sheet-in bs) (g .report-now))
 
 -- DEMAND 3 OF THE SERVICES
-
--- inboxes start with the same bytes; lent rooms may be longer, and of different lengths
-unfoldable pub Same-start : (bs i j : List ℕ) → Type 0
-Same-start bs i j = take (inbox-total (sheet-in bs)) i ≡ take (inbox-total (sheet-in bs)) j
 
 -- inboxes and reports as the calls left them are equal byte for byte, save the peaks, as far as the sheet's own room goes
 unfoldable pub Left-alike : (bs i r j q : List ℕ) → Type 0

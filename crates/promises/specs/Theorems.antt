@@ -3,12 +3,12 @@
 --                        by-arrival (claims.Arrivals); stop-reasons, stopping-steps (claims.Stops);
 --                        deliveries, verdicts, steps, counts, in-use, peaks, buffers-hold (claims.OneJob)
 --   run, demand 3        run-ends, ends-alike (claims.EndsAlike); swap-general, swap-same (claims.SwapSame)
---   of the services      follow-reports, run-reports, follow-by-arrival (claims.Reported);
+--   of the services      follow-reports, run-reports, follow-by-arrival (claims.Reported); run-replayed (claims.Replays);
 --                        follows-alike, run-alike (claims.EndsAlike); follow-swaps (claims.SwapSame)
 -- Assumes nothing.
 use Rattle.promises.specs.Statements.{None-fit, No-overtaking, No-overtaking-receives, By-arrival, Statuses, Send-statuses, Deliveries}
 use Rattle.promises.specs.Statements.{Verdicts, Stop-reasons, Stopping-steps, Steps, Counts, In-use, Peaks, Buffers-hold, Run-ends, Ends-alike, Swap-same, Swap-general}
-use Rattle.promises.specs.ServiceStatements.{Follow-reports, Run-reports, Follow-by-arrival, Follows-alike, Run-alike, Follow-swaps}
+use Rattle.promises.specs.ServiceStatements.{Follow-reports, Run-reports, Run-replayed, Follow-by-arrival, Follows-alike, Run-alike, Follow-swaps}
 use Rattle.promises.specs.claims.Matching
 use Rattle.promises.specs.claims.OneJob
 use Rattle.promises.specs.claims.Arrivals
@@ -16,6 +16,7 @@ use Rattle.promises.specs.claims.Stops
 use Rattle.promises.specs.claims.EndsAlike
 use Rattle.promises.specs.claims.SwapSame
 use Rattle.promises.specs.claims.Reported
+use Rattle.promises.specs.claims.Replays
 
 -- DEMAND 2
 pub none-fit : None-fit
@@ -83,6 +84,9 @@ follow-reports = Reported.follow-reports
 
 pub run-reports : Run-reports
 run-reports = Reported.run-reports
+
+pub run-replayed : Run-replayed
+run-replayed = Replays.run-replayed
 
 pub follow-by-arrival : Follow-by-arrival
 follow-by-arrival = Reported.follow-by-arrival

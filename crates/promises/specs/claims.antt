@@ -12,6 +12,7 @@
 --   Services      demand 3 of the services, from demand 3 of the orders
 --   EndsAlike     full orders end alike
 --   Reported      demand 2 of the services
+--   Replays       the order that a run wrote, followed
 --   SwapSame      exchanged steps
 pub mod Deliveries
 pub mod Verdicts
@@ -27,3 +28,4 @@ pub mod Services
 pub mod EndsAlike
 pub mod SwapSame
 pub mod Reported
+pub mod Replays

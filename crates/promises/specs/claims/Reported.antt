@@ -2,6 +2,7 @@
 -- what is told, since the report tells what its job does.
 --   reported          from a job that an order left
 --   follow-passes, run-passes    number 0 says that the sheet passes
+--   run-order-taken   the order that run took stands at the front of order out
 --   follow-reports, follow-by-arrival, run-reports
 -- Assumes nothing.
 use mathlib.Core.Path.{_≡_, sym, ap, subst, _∙_}
@@ -168,43 +169,46 @@ module _ {bs : List ℕ} (f : Run-call bs) (success : f .number ≡ 0) where
       (room-refusal (sheet-in bs) (length (f .inbox)) (length (f .report)) (length (f .order)) (length (f .scratch)))
       (sym (f .said .0 .0) ∙ success))
 
+  run-there : Lent bs (f .inbox)
+  run-there = run-lent run-passes f
+
+  run-ended : Ends (sheet-in bs) (f .inbox)
+  unfolding Run-ends
+  run-ended = run-ends bs (f .inbox) run-there
+
+  abbrev ran : List ℕ
+  ran = run (sheet-in bs) (f .inbox) .order
+
+  run-memory : f .inbox-now ≡ left-by (sheet-in bs) ran (f .inbox) .memory
+  run-memory = run-answer run-passes f .inbox-is ∙ ap (λ (z : Job). z .memory) (sym (run-ended .same-job))
+
+  run-written : f .report-now ≡ in-front (report (sheet-in bs) (left-by (sheet-in bs) ran (f .inbox))) (f .report)
+  run-written =
+      run-answer run-passes f .report-is
+      ∙ ap (λ (z : Job). in-front (report (sheet-in bs) z) (f .report)) (sym (run-ended .same-job))
+
+  run-full : none-able (sheet-in bs) (left-by (sheet-in bs) ran (f .inbox)) ≡ true
+  run-full = ap (λ (z : Job). none-able (sheet-in bs) z) (run-ended .same-job) ∙ run-ended .none-left
+
+  run-steps : Followed-steps (sheet-in bs) ran (f .inbox) (f .report-now)
+  run-steps = followed-steps run-there ran (f .report) run-memory run-written (run-ended .accepted)
+
+  -- the order that run took stands at the front of order out
+  pub run-order-taken : take (told-in (sheet-in bs) (f .report-now) .steps) (f .order-now) ≡ ran
+  run-order-taken =
+      ap (λ (z : List ℕ). take (told-in (sheet-in bs) (f .report-now) .steps) z) (run-answer run-passes f .order-is)
+      ∙ front-report ran (f .order) (told-in (sheet-in bs) (f .report-now) .steps) (sym (run-steps .steps))
+
 pub run-reports : Run-reports
-unfolding Run-reports Run-ends
+unfolding Run-reports
 run-reports bs f e = (
-  reported h order (f .report) memory written,
+  reported (run-there f e) (ran f e) (f .report) (run-memory f e) (run-written f e),
   record {
-    ended = full-verdict h order (f .report) memory written full;
-    accepted = subst (λ (o : List ℕ). accepts (sheet-in bs) o (f .inbox) ≡ true) (sym taken) (E .accepted);
-    followed = subst (λ (o : List ℕ). Followed-steps (sheet-in bs) o (f .inbox) (f .report-now)) (sym taken) steps-and-peaks;
+    ended = full-verdict (run-there f e) (ran f e) (f .report) (run-memory f e) (run-written f e) (run-full f e);
+    accepted =
+        subst (λ (o : List ℕ). accepts (sheet-in bs) o (f .inbox) ≡ true) (sym (run-order-taken f e)) (run-ended f e .accepted);
+    followed =
+        subst (λ (o : List ℕ). Followed-steps (sheet-in bs) o (f .inbox) (f .report-now)) (sym (run-order-taken f e))
+        (run-steps f e);
   },
 )
-  where
-    p : passes bs ≡ true
-    p = run-passes f e
-
-    h : Lent bs (f .inbox)
-    h = run-lent p f
-
-    E : Ends (sheet-in bs) (f .inbox)
-    E = run-ends bs (f .inbox) h
-
-    order : List ℕ
-    order = run (sheet-in bs) (f .inbox) .order
-
-    memory : f .inbox-now ≡ left-by (sheet-in bs) order (f .inbox) .memory
-    memory = run-answer p f .inbox-is ∙ ap (λ (z : Job). z .memory) (sym (E .same-job))
-
-    written : f .report-now ≡ in-front (report (sheet-in bs) (left-by (sheet-in bs) order (f .inbox))) (f .report)
-    written = run-answer p f .report-is ∙ ap (λ (z : Job). in-front (report (sheet-in bs) z) (f .report)) (sym (E .same-job))
-
-    full : none-able (sheet-in bs) (left-by (sheet-in bs) order (f .inbox)) ≡ true
-    full = ap (λ (z : Job). none-able (sheet-in bs) z) (E .same-job) ∙ E .none-left
-
-    steps-and-peaks : Followed-steps (sheet-in bs) order (f .inbox) (f .report-now)
-    steps-and-peaks = followed-steps h order (f .report) memory written (E .accepted)
-
-    -- the order that run took stands at the front of order out
-    taken : take (told-in (sheet-in bs) (f .report-now) .steps) (f .order-now) ≡ order
-    taken =
-        ap (λ (z : List ℕ). take (told-in (sheet-in bs) (f .report-now) .steps) z) (run-answer p f .order-is)
-        ∙ front-report order (f .order) (told-in (sheet-in bs) (f .report-now) .steps) (sym (steps-and-peaks .steps))

@@ -60,9 +60,9 @@ front-next a b =
     }
 
 -- inbox and report as a call left them show a job
-record Shows (s : Sheet) (x : Job) (i r : List ℕ) : Type 0 where
-  memory : i ≡ x .memory
-  reported : take (report-size (P-of s) (N-of s)) r ≡ report s x
+pub record Shows (s : Sheet) (x : Job) (i r : List ℕ) : Type 0 where
+  pub memory : i ≡ x .memory
+  pub reported : take (report-size (P-of s) (N-of s)) r ≡ report s x
 
 shows : (s : Sheet) (x : Job) {i r : List ℕ} (old : List ℕ) → length (x .entries) ≡ N-of s → i ≡ x .memory →
     r ≡ in-front (report s x) old → Shows s x i r
@@ -95,13 +95,13 @@ module _ {bs : List ℕ} (p : passes bs ≡ true) where
         room = follow-answer p f .inbox-room;
       }
 
-  follow-shows : {o : List ℕ} (f : Follow-call bs o) → f .number ≡ 0 →
+  pub follow-shows : {o : List ℕ} (f : Follow-call bs o) → f .number ≡ 0 →
       Shows (sheet-in bs) (left-by (sheet-in bs) o (f .inbox)) (f .inbox-now) (f .report-now)
   follow-shows {o} f h =
       shows (sheet-in bs) (left-by (sheet-in bs) o (f .inbox)) (f .report) (lent-reached (follow-lent p f) o .placed .entries-long)
       (follow-inbox p f h) (follow-report p f h)
 
-  run-shows : (g : Run-call bs) → Ends (sheet-in bs) (g .inbox) →
+  pub run-shows : (g : Run-call bs) → Ends (sheet-in bs) (g .inbox) →
       Shows (sheet-in bs) (run (sheet-in bs) (g .inbox) .end) (g .inbox-now) (g .report-now)
   run-shows g E =
       shows (sheet-in bs) (run (sheet-in bs) (g .inbox) .end) (g .report)
@@ -110,7 +110,7 @@ module _ {bs : List ℕ} (p : passes bs ≡ true) where
       (run-answer p g .report-is)
 
 -- calls on rooms that start with the same bytes
-near-start : (bs : List ℕ) {i j : List ℕ} → inbox-total (sheet-in bs) ≤ length i → inbox-total (sheet-in bs) ≤ length j →
+pub near-start : (bs : List ℕ) {i j : List ℕ} → inbox-total (sheet-in bs) ≤ length i → inbox-total (sheet-in bs) ≤ length j →
     Same-start bs i j → Near (inbox-total (sheet-in bs)) i j
 unfolding Same-start
 near-start bs a b h =
@@ -135,7 +135,7 @@ module _ {bs i j : List ℕ} (a : Lent bs i) (b : Lent bs j) (same : Same-start 
   two-refused : follow s rs i .refused-at ≡ follow s rs j .refused-at
   two-refused = two-rooms .refused
 
-  two-accepted : accepts s rs i ≡ true → accepts s rs j ≡ true
+  pub two-accepted : accepts s rs i ≡ true → accepts s rs j ≡ true
   unfolding accepts
   two-accepted e = ap (λ (o : Option ℕ). is-none o) (sym two-refused) ∙ e
 

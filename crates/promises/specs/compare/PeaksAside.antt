@@ -4,6 +4,7 @@
 --   equal-able         the same boards are able; equal-none-able: and none is in both
 --   equal-report       the reports without peaks are equal
 --   equal-alike        with equal memory the jobs are alike
+--   whole-report       with equal peaks the whole reports are equal
 -- Assumes nothing.
 use mathlib.Core.Path.{_≡_, refl, sym, ap, _∙_}
 use mathlib.Core.Bool.{Bool, true, false, _&&_, _||_, not, cond}
@@ -20,7 +21,7 @@ use Rattle.rules.specs.Job.{Job, Entry, Stop, bare-entry, entry-at, place-at}
 use Rattle.rules.specs.Step.{able, is-finished, next-op, in-waiting-half, half-complete, complete, complete-if, waited, is-none}
 use Rattle.rules.specs.Order.{lowest-able, next-rank, none-able}
 use Rattle.rules.specs.Report.{count-from, is-pending-message, is-pending-receive, pending-messages, pending-receives, cut-messages, all-finished}
-use Rattle.rules.specs.Report.{verdict-of, header-bytes, board-state, report}
+use Rattle.rules.specs.Report.{verdict-of, header-bytes, board-state, board-row, board-rows, report}
 use Rattle.rules.specs.Claims.{without-peaks, Alike}
 use Rattle.promises.specs.compare.ReportBytes.{bare-row, bare-rows, bare-report, report-bare}
 
@@ -153,3 +154,18 @@ module _ (s : Sheet) (x y : Job) (e : Equal-but-peaks s x y) where
   pub equal-alike : x .memory ≡ y .memory → Alike s x y
   unfolding Alike
   equal-alike m = (m, equal-report)
+
+  -- WITH PEAKS
+  module _ (peaks : (r : ℕ) → r < P-of s → place-at x r .peak ≡ place-at y r .peak) where
+    whole-row : (r : ℕ) → r < P-of s → board-row s x r ≡ board-row s y r
+    unfolding board-row board-state
+    whole-row r l = cc (e .finished r l, e .in-use r l, peaks r l, equal-finished r l, equal-able r)
+
+    whole-rows : (k r : ℕ) → r + k ≤ P-of s → board-rows k r s x ≡ board-rows k r s y
+    unfolding board-rows
+    whole-rows zero r l = refl
+    whole-rows (suc k) r l = cc (whole-row r (omega arith), whole-rows k (suc r) (omega arith))
+
+    pub whole-report : report s x ≡ report s y
+    unfolding report
+    whole-report = cc (equal-header, whole-rows (P-of s) 0 (omega arith), e .entries)

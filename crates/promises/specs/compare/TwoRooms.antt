@@ -1,17 +1,18 @@
 -- Nothing in the inboxes influences a step: an order is followed alike on any two rooms that are long enough, and where they
 -- start with the same bytes, so do the inboxes that it leaves.
 --   rooms-same-positions    one order, two rooms
+--   most-same               one order on two rooms has the same peaks
 --   positions-near          the inboxes of two such jobs start with the same bytes if the lent ones did
 -- Assumes nothing.
-use mathlib.Core.Path.{_≡_, refl, sym, subst, _∙_}
+use mathlib.Core.Path.{_≡_, refl, sym, ap₂, subst, _∙_}
 use mathlib.Core.Bool.{Bool, true, false, _&&_, cond}
-use mathlib.Core.List.{List}
-use Prim.Native.Nat.{ℕ, zero, suc, _≤_}
+use mathlib.Core.List.{List, [], _∷_}
+use Prim.Native.Nat.{ℕ, zero, suc, _≤_, _<_, max}
 use lib.Dec.{eqb}
 use lib.ListN.{length}
-use Rattle.rules.specs.Sheet.{Sheet, op, N-of, inbox-total, is-receive}
-use Rattle.rules.specs.Job.{Job, job, started}
-use Rattle.rules.specs.Step.{delivered}
+use Rattle.rules.specs.Sheet.{Sheet, op, P-of, N-of, inbox-total, is-receive}
+use Rattle.rules.specs.Job.{Job, job, place-at, started}
+use Rattle.rules.specs.Step.{able, step, delivered}
 use Rattle.rules.specs.Order.{follow}
 use Rattle.invariant.specs.sheet.Valid.{Valid}
 use Rattle.invariant.specs.deliveries.Laws.{Delivery-laws}
@@ -20,7 +21,9 @@ use Rattle.invariant.specs.matching.Monotone.{Same-order}
 use Rattle.laws.specs.SpliceOrder.{Near, splice-near}
 use Rattle.invariant.specs.preserve.Memory.{replayed-rows}
 use Rattle.invariant.specs.preserve.Orders.{start-reached, start-position, none-entered}
-use Rattle.promises.specs.compare.SamePositions.{Same-positions, positions-rows}
+use Rattle.laws.specs.Tests.{true-not-false}
+use Rattle.promises.specs.Statements.{most-in-use}
+use Rattle.promises.specs.compare.SamePositions.{Same-positions, positions-rows, positions-in-use, positions-able, positions-step}
 use Rattle.promises.specs.compare.WholeOrders.{Left-same-positions, positions-follow}
 
 -- ONE ORDER, TWO ROOMS
@@ -29,7 +32,7 @@ start-order : {s : Sheet} (g : Valid s) (i j : List ℕ) →
     Same-order s (start-reached g i .arrival) (started s i) (start-reached g j .arrival) (started s j)
 start-order g i j k m q sk sm rr fk fm there-m = none-entered g i m there-m
 
-start-same-positions : {s : Sheet} (g : Valid s) (i j : List ℕ) → Same-positions (start-reached g i) (start-reached g j)
+pub start-same-positions : {s : Sheet} (g : Valid s) (i j : List ℕ) → Same-positions (start-reached g i) (start-reached g j)
 unfolding started job
 start-same-positions g i j =
     record {
@@ -70,3 +73,26 @@ positions-near {s} g {n} {i} {j} {x} {y} {X} {Y} K h =
   where
     replayed-rows-back : replayed s x (N-of s) j ≡ replayed s y (N-of s) j
     replayed-rows-back = sym (replayed-rows s x y (N-of s) j (positions-rows g K))
+
+-- THE SAME PEAKS: what is in use after each step is the same
+pub most-same : {s : Sheet} → Valid s → Delivery-laws s → {i j : List ℕ} → inbox-total s ≤ length i → inbox-total s ≤ length j →
+    (r : ℕ) → r < P-of s → (rs : List ℕ) {x y : Job} {X : Reached s i x} {Y : Reached s j y} → Same-positions X Y →
+    most-in-use s rs x r ≡ most-in-use s rs y r
+unfolding most-in-use
+most-same g A room-x room-y r l [] K = refl
+most-same {s} g A room-x room-y r l (q ∷ rs) {x} {y} K =
+    go (able s x q) refl (able s y q) refl
+    (λ a b.
+    let after = positions-step g K A room-x room-y q a b in
+    ap₂ max (positions-in-use g after r l) (most-same g A room-x room-y r l rs after))
+  where
+    go : (a : Bool) → able s x q ≡ a → (b : Bool) → able s y q ≡ b →
+        (able s x q ≡ true → able s y q ≡ true →
+        max (place-at (step s q x) r .in-use) (most-in-use s rs (step s q x) r)
+        ≡ max (place-at (step s q y) r .in-use) (most-in-use s rs (step s q y) r)) →
+        cond a (max (place-at (step s q x) r .in-use) (most-in-use s rs (step s q x) r)) 0
+        ≡ cond b (max (place-at (step s q y) r .in-use) (most-in-use s rs (step s q y) r)) 0
+    go true e true f same = same e f
+    go true e false f same = true-not-false (sym (positions-able g K q) ∙ e) f
+    go false e true f same = true-not-false (positions-able g K q ∙ f) e
+    go false e false f same = refl
