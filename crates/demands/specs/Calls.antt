@@ -11,20 +11,19 @@ use mathlib.Core.Logic.{_≢_}
 use mathlib.Core.Bool.{Bool, true, false}
 use mathlib.Core.List.{List}
 use mathlib.Core.Option.{Option, none, some}
-use Prim.Native.Nat.{ℕ, zero, suc, _+_, _≤_}
+use Prim.Native.Nat.{ℕ, _≤_}
 use native.Mathlib.Omega.{arith}
 use lib.Dec.{eqb}
-use lib.ListN.{length, getD, set, take}
-use lib.Seq.{getD-set-other, getD-take}
+use lib.ListN.{length, getD}
 use borrow.Author.Tests.{eq-eqb, ne-eqb}
-use Rattle.rules.specs.Limits.{order-room, report-size, report-header-size, board-row-size}
+use Rattle.rules.specs.Limits.{order-room}
 use Rattle.rules.specs.Sheet.{Sheet, sheet-in, P-of, N-of}
 use Rattle.rules.specs.Job.{Job}
 use Rattle.rules.specs.Refusal.{Refusal, refusal, or-else, sheet-refusal}
 use Rattle.rules.specs.Order.{follow, none-able}
 use Rattle.rules.specs.Report.{verdict-of, header-bytes, report}
 use Rattle.rules.specs.Service.{answers, room-refusal, order-refusal, in-front, kept-or, Check-says, follow-refusal, Follow-says, Run-says}
-use Rattle.rules.specs.Claims.{passes, calm, left-by, rows-without-peaks, without-peaks}
+use Rattle.rules.specs.Claims.{passes, calm, left-by}
 use Rattle.rules.specs.Premise.{Premise-says}
 use Rattle.laws.specs.Premise.{premise-holds, calm-premise}
 use Rattle.sheet.specs.declared.Answer.{Answer}
@@ -35,6 +34,7 @@ use Rattle.promises.specs.Statements.{told-by, Exact, Verdicts}
 use Rattle.promises.specs.ServiceStatements.{Follow-call, Run-call, told-in, Left-alike, Follow-reports}
 use Rattle.promises.specs.ServiceStatements.{Run-reports, Run-replayed, Follow-by-arrival, Follows-alike, Run-alike, Follow-swaps}
 use Rattle.promises.specs.Theorems.{verdicts, follow-reports, run-reports, run-replayed, follow-by-arrival, follows-alike, run-alike, follow-swaps}
+use Rattle.promises.specs.compare.ReportBytes.{first-byte}
 use Rattle.promises.specs.claims.Calls.{follow-answer, follow-lent, follow-report, run-answer}
 use Rattle.promises.specs.claims.Reported.{follow-passes, run-passes}
 use Rattle.demands.specs.Demands.{Seen, Kept-rules, Same-answer, Check-and-follow, Run-keeps, Ended, Calls-alike}
@@ -245,27 +245,13 @@ module _ {bs o : List ℕ} {f g : Seen} {w w-now : List ℕ} (a : Follow-seen bs
       }
 
 -- THE PREMISE SERVICE AND RUN
--- the first byte of a report is no peak
-first-kept : (k at : ℕ) (r : List ℕ) → getD (rows-without-peaks k at r) 0 0 ≡ getD r 0 0
-unfolding rows-without-peaks
-first-kept zero at r = refl
-first-kept (suc k) at r =
-    first-kept k (at + board-row-size) (set (set r (at + 4) 0) (at + 5) 0)
-    ∙ getD-set-other (set r (at + 4) 0) (at + 5) 0 0 0 (λ e. omega arith)
-    ∙ getD-set-other r (at + 4) 0 0 0 (λ e. omega arith)
-
-first-told : (p n : ℕ) (r : List ℕ) → getD (without-peaks p (take (report-size p n) r)) 0 0 ≡ getD r 0 0
-unfolding without-peaks
-first-told p n r =
-    first-kept p report-header-size (take (report-size p n) r) ∙ getD-take (report-size p n) r 0 0 (omega arith)
-
--- so reports that are left alike tell one verdict
+-- reports that are left alike tell one verdict
 alike-verdict : (bs i r j q : List ℕ) → Left-alike bs i r j q → getD r 0 0 ≡ getD q 0 0
 unfolding Left-alike
 alike-verdict bs i r j q h =
     let p = P-of (sheet-in bs) in
     let n = N-of (sheet-in bs) in
-    sym (first-told p n r) ∙ ap (λ (z : List ℕ). getD z 0 0) (h .1) ∙ first-told p n q
+    sym (first-byte p n r) ∙ ap (λ (z : List ℕ). getD z 0 0) (h .1) ∙ first-byte p n q
 
 module _ {bs : List ℕ} (asked : Answer) (c : Premise-says bs (asked .number) (asked .place)) {f : Seen} {o o-now : List ℕ}
     (a : Run-seen bs f o o-now) where

@@ -18,15 +18,15 @@ use Rattle.rules.specs.Step.{charge-of}
 use Rattle.rules.specs.Claims.{calm, none-wild, is-any-source, all-charges, script, all-covered}
 use Rattle.laws.specs.Tests.{and-left, and-right, and-both}
 
--- an operation that lets the order matter in no way: no any-source receive, no ready send
-abbrev pub Tame : Op → Type 0
-Tame o = (is-any-source o ≡ false) × (is-ready o ≡ false)
+-- neither a receive from any source (MPI: a wildcard) nor a ready send
+abbrev pub Not-wild : Op → Type 0
+Not-wild o = (is-any-source o ≡ false) × (is-ready o ≡ false)
 
 -- a board whose attached buffer covers the charges of all its buffered sends
 abbrev pub Covered : Board → List Op → Type 0
 Covered b os = all-charges (script b os) ≤ b .attached
 
-wild-none : (os : List Op) → none-wild os ≡ true → (k : ℕ) → k < length os → Tame (getD os k no-op)
+wild-none : (os : List Op) → none-wild os ≡ true → (k : ℕ) → k < length os → Not-wild (getD os k no-op)
 unfolding none-wild
 wild-none [] h k l = absurd (omega arith)
 wild-none (o ∷ os) h zero l =
@@ -37,12 +37,12 @@ wild-none (o ∷ os) h zero l =
 wild-none (o ∷ os) h (suc k) l =
     wild-none os (and-right (not (is-any-source o) && not (is-ready o)) (none-wild os) h) k (omega arith)
 
-tame-all : (os : List Op) → ((k : ℕ) → k < length os → Tame (getD os k no-op)) → none-wild os ≡ true
+not-wild-all : (os : List Op) → ((k : ℕ) → k < length os → Not-wild (getD os k no-op)) → none-wild os ≡ true
 unfolding none-wild
-tame-all [] h = refl
-tame-all (o ∷ os) h =
-    let first : Tame o = h 0 (omega arith) in
-    and-both (and-both (ap not (first .0)) (ap not (first .1))) (tame-all os (λ k l. h (suc k) (omega arith)))
+not-wild-all [] h = refl
+not-wild-all (o ∷ os) h =
+    let first : Not-wild o = h 0 (omega arith) in
+    and-both (and-both (ap not (first .0)) (ap not (first .1))) (not-wild-all os (λ k l. h (suc k) (omega arith)))
 
 covered-each : (bs : List Board) (os : List Op) → all-covered bs os ≡ true → (r : ℕ) → r < length bs → Covered (getD bs r no-board) os
 unfolding all-covered
@@ -61,7 +61,7 @@ covered-all (b ∷ bs) os h =
     (covered-all bs os (λ r l. h (suc r) (omega arith)))
 
 module _ (s : Sheet) (c : calm s ≡ true) where
-  pub calm-op : (k : ℕ) → k < N-of s → Tame (op s k)
+  pub calm-op : (k : ℕ) → k < N-of s → Not-wild (op s k)
   unfolding calm op N-of
   calm-op k l = wild-none (s .ops) (and-left (none-wild (s .ops)) (all-covered (s .boards) (s .ops)) c) k l
 
@@ -69,10 +69,10 @@ module _ (s : Sheet) (c : calm s ≡ true) where
   unfolding calm board P-of
   calm-covered r l = covered-each (s .boards) (s .ops) (and-right (none-wild (s .ops)) (all-covered (s .boards) (s .ops)) c) r l
 
-pub calm-each : (s : Sheet) → ((k : ℕ) → k < N-of s → Tame (op s k)) → ((r : ℕ) → r < P-of s → Covered (board s r) (s .ops))
+pub calm-each : (s : Sheet) → ((k : ℕ) → k < N-of s → Not-wild (op s k)) → ((r : ℕ) → r < P-of s → Covered (board s r) (s .ops))
     → calm s ≡ true
 unfolding calm op N-of board P-of
-calm-each s t c = and-both (tame-all (s .ops) t) (covered-all (s .boards) (s .ops) c)
+calm-each s t c = and-both (not-wild-all (s .ops) t) (covered-all (s .boards) (s .ops) c)
 
 -- CHARGES
 charges-last : (a : List Op) (o : Op) → all-charges (a ++ (o ∷ [])) ≡ all-charges a + cond (is-buffered o) (charge-of o) 0

@@ -3,13 +3,15 @@
 --   report-length     the report's length
 --   bare-report       the report with zero for every peak
 --   report-bare       which is what without-peaks leaves
+--   first-byte        the verdict, which it leaves as it was
 -- Assumes nothing.
 use mathlib.Core.Path.{_≡_, refl, sym, ap, _∙_}
 use mathlib.Core.List.{List, [], _∷_, _++_, append-assoc}
 use mathlib.Core.Option.{Option, none, some}
 use Prim.Native.Nat.{ℕ, zero, suc, _+_, _*_}
 use native.Mathlib.Omega.{arith}
-use lib.ListN.{length, set, length-append}
+use lib.ListN.{length, getD, set, take, length-append}
+use lib.Seq.{getD-set-other, getD-take}
 use Rattle.laws.specs.ReportRows.{board-row-length}
 use Rattle.rules.specs.Limits.{report-header-size, board-row-size, op-row-size, report-size}
 use Rattle.rules.specs.Sheet.{Sheet, P-of, N-of}
@@ -126,3 +128,17 @@ rows-bare (suc k) r at s x front rest h =
 pub report-bare : (s : Sheet) (x : Job) → without-peaks (P-of s) (report s x) ≡ bare-report s x
 unfolding without-peaks report bare-report
 report-bare s x = rows-bare (P-of s) 0 report-header-size s x (header-bytes s x) (op-rows (x .entries)) (header-length s x)
+
+-- the first byte is no peak
+first-kept : (k at : ℕ) (r : List ℕ) → getD (rows-without-peaks k at r) 0 0 ≡ getD r 0 0
+unfolding rows-without-peaks
+first-kept zero at r = refl
+first-kept (suc k) at r =
+    first-kept k (at + board-row-size) (set (set r (at + 4) 0) (at + 5) 0)
+    ∙ getD-set-other (set r (at + 4) 0) (at + 5) 0 0 0 (λ e. omega arith)
+    ∙ getD-set-other r (at + 4) 0 0 0 (λ e. omega arith)
+
+pub first-byte : (p n : ℕ) (r : List ℕ) → getD (without-peaks p (take (report-size p n) r)) 0 0 ≡ getD r 0 0
+unfolding without-peaks
+first-byte p n r =
+    first-kept p report-header-size (take (report-size p n) r) ∙ getD-take (report-size p n) r 0 0 (omega arith)
