@@ -1,4 +1,5 @@
 // CRC-16 by a constant table of all 256 remainders (document 01, "The sheet, byte by byte").
+ghost use mathlib.Core.Path.{_≡_};
 ghost use Prim.Native.Nat.{_<_};
 ghost use lib.ListN.{length, getD};
 ghost use Rattle.rules.specs.Crc.{crc-from, crc};
@@ -331,4 +332,25 @@ pub fn crc_of(s: &[u8]) -> usize
 {
     let table = remainders();
     crc_by(&table, s)
+}
+
+// The same of bytes that end before a header does: of bytes 0 to 13 what there is.
+fn crc_of_short(s: &[u8]) -> usize
+    requires { ⌜ length (now s) < 16 ⌝ }
+    ensures { λ r. ⌜ Word (crc (now (s .entry))) r ⌝ }
+{
+    if s.len() < CRC_AT {
+        return crc_of_bytes(s);
+    }
+    crc_of_bytes(&s[0..CRC_AT])
+}
+
+// The CRC that a sheet of these bytes has to carry, whatever their number.
+pub fn crc_of_any(s: &[u8]) -> u16
+    ensures { λ r. ⌜ r ≡ crc (now (s .entry)) ⌝ }
+{
+    if s.len() < limits::HEADER_SIZE {
+        return crc_of_short(s) as u16;
+    }
+    crc_of(s) as u16
 }

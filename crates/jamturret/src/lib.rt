@@ -1,5 +1,7 @@
 // The public services, exported to C and Rust. A slice passes as a pointer and a length. Each service states its whole outcome
 // for every input, with no `requires`.
+ghost use mathlib.Core.Path.{_≡_};
+ghost use Rattle.rules.specs.Crc.{crc};
 ghost use Rattle.rules.specs.Service.{Check-says, Follow-says, Run-says};
 ghost use Rattle.rules.specs.Premise.{Premise-says};
 
@@ -9,6 +11,16 @@ mod rooms;
 use premise::premise;
 use refusals::check;
 use sheet::Answer;
+
+// CRC that a sheet of these bytes has to carry, for whoever lays one out: over bytes 0 to 13 and then 16 to the end, of short
+// sheets over what there is of them. Shut out, among others: one that counts the header's own CRC, and one that leaves out what
+// stands behind the header.
+#[no_mangle]
+pub extern "C" fn jamturret_crc(sheet: &[u8]) -> u16
+    ensures { λ r. ⌜ r ≡ crc (now (sheet .entry)) ⌝ }
+{
+    crc::crc_of_any(sheet)
+}
 
 // CHECK a sheet: refusals 1 to 7, or number 0 and place 0. Shut out, among others: a check that refuses everything, and one
 // that accepts everything.

@@ -1,6 +1,7 @@
 -- Why the judge may stop reading one byte behind the longest sheet: of an input longer than that, its start of so many bytes is
 -- refused as the whole input is (document 01, "When the desk says no"). 1 asks for 16 bytes, 2 reads only the header, and where
--- 2 is out the header asks for at most the longest sheet, so 3 is given for both. Assumes nothing.
+-- 2 is out the header asks for at most the longest sheet, so 3 is given for both. The same is then printed and told.
+-- Assumes nothing.
 use mathlib.Core.Path.{_≡_, refl, sym, _∙_, ap}
 use mathlib.Core.Bool.{Bool, true, false, not, cond}
 use mathlib.Core.List.{List}
@@ -13,6 +14,8 @@ use Rattle.rules.specs.Limits.{header-size, most-boards, most-ops, most-payload
 use Rattle.rules.specs.Sheet.{two, sheet-in}
 use Rattle.rules.specs.Refusal.{Refusal, refusal, sizes-good, layout-good, crc-good, tables-refusal, sheet-refusal}
 use Rattle.laws.specs.Laid.{laid}
+use Rattle.judge.specs.Printed.{refusal-line, report-line, facts-line, unless-refused, printed, told}
+use Rattle.judge.specs.Refused.{unless-stopped}
 
 -- the longest sheet
 abbrev pub longest : ℕ
@@ -41,7 +44,7 @@ module _ (bs : List ℕ) (h : longest < length bs) where
       ap (λ (t : Bool). cond t (refusal 1 0) (cond (not (sizes-good bs)) (refusal 2 0) (cond (not (layout-good bs)) (refusal 3 0) rest))) (le-ltb (length bs) header-size (omega arith))
       ∙ by-sizes (sizes-good bs) refl
 
-two-of-start : (bs : List ℕ) (n at : ℕ) → at + 1 < n → two (take n bs) at ≡ two bs at
+pub two-of-start : (bs : List ℕ) (n at : ℕ) → at + 1 < n → two (take n bs) at ≡ two bs at
 unfolding two
 two-of-start bs n at l =
     ap (λ (a : ℕ). a + 256 * getD (take n bs) (at + 1) 0) (getD-take n bs at 0 (omega arith))
@@ -59,3 +62,28 @@ start-refused-alike bs h =
     longer-refused (take (longest + 1) bs) (omega (arith, length-take-le (longest + 1) bs (omega arith)))
     ∙ (ap (λ (t : Bool). cond (not t) (refusal 2 0) (refusal 3 0)) (sizes-of-start bs (longest + 1) (omega arith))
     ∙ sym (longer-refused bs h))
+
+longer-stopped : (bs : List ℕ) → longest < length bs → sheet-refusal bs .number ≡ 0 → ⊥
+unfolding refusal
+longer-stopped bs h z = go (sizes-good bs) (sym (ap (λ (f : Refusal). f .number) (longer-refused bs h)) ∙ z)
+  where
+    go : (b : Bool) → cond (not b) (refusal 2 0) (refusal 3 0) .number ≡ 0 → ⊥
+    go true e = omega (arith, e)
+    go false e = omega (arith, e)
+
+-- so that the same is printed of both, and the same is told
+module _ (bs : List ℕ) (h : longest < length bs) where
+  start-alike : (a b : List ℕ) → unless-refused (take (longest + 1) bs) a ≡ unless-refused bs b
+  start-alike a b =
+      let start = take (longest + 1) bs in
+      let stopped = longer-stopped start (omega (arith, length-take-le (longest + 1) bs (omega arith))) in
+      unless-stopped start a stopped
+      ∙ (ap (λ (f : Refusal). refusal-line (f .number) (f .place)) (start-refused-alike bs h) ∙ sym (unless-stopped bs b (longer-stopped bs h)))
+
+  pub start-printed-alike : printed (take (longest + 1) bs) ≡ printed bs
+  unfolding printed
+  start-printed-alike = start-alike (report-line (take (longest + 1) bs)) (report-line bs)
+
+  pub start-told-alike : told (take (longest + 1) bs) ≡ told bs
+  unfolding told
+  start-told-alike = start-alike (facts-line (take (longest + 1) bs)) (facts-line bs)

@@ -1,12 +1,12 @@
--- `judge::text::digit` meets its contract, by the test on ten. Assumes nothing.
+-- `text::digit` meets its contract, by the test on ten. Assumes nothing.
 use borrow.Author.Tests.{lt-ltb, le-ltb}
 use mathlib.Core.Path.{sym, ap}
 use mathlib.Core.Bool.{Bool, cond}
 use Prim.Native.Nat.{_+_}
-use Rattle.judge.specs.Text.{digit-of}
+use Rattle.text.specs.Text.{digit-of}
 use borrow.Author.Needs.{needs}
-use Rattle.judge.proofs.text.digit.Statement.{statement}
-use Rattle.judge.proofs.text.digit.Tie as tie
+use Rattle.text.proofs.digit.Statement.{statement}
+use Rattle.text.proofs.digit.Tie as tie
 
 returns : tie.Need-returns
 unfolding digit-of

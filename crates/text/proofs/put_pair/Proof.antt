@@ -1,14 +1,14 @@
--- `judge::text::put_pair` meets its contract: three stores are a splice of three bytes. Assumes nothing.
+-- `text::put_pair` meets its contract: three stores are a splice of three bytes. Assumes nothing.
 use mathlib.Core.Path.{_≡_, _∙_, ap₂}
 use Prim.Native.Nat.{ℕ, suc, _+_, _/_, _%_}
 use native.Mathlib.Omega.{arith}
 use native.Mathlib.Numerals.{add-one}
 use lib.ListN.{length-set, set}
-use Rattle.judge.specs.Text.{digit-of, pair}
+use Rattle.text.specs.Text.{digit-of, pair}
 use Rattle.laws.specs.Splice.{sets-splice}
 use borrow.Author.Needs.{needs}
-use Rattle.judge.proofs.text.put_pair.Statement.{statement}
-use Rattle.judge.proofs.text.put_pair.Tie as tie
+use Rattle.text.proofs.put_pair.Statement.{statement}
+use Rattle.text.proofs.put_pair.Tie as tie
 
 returns : tie.Need-returns
 unfolding pair
