@@ -1,150 +1,185 @@
 /*
- * Bench job 1 of document 01: rank 0 sends 3 bytes with tag 7, synchronous;
- * rank 1 receives from rank 0, any tag, into 4 bytes. Builds the sheet, asks
- * whether the order of steps can matter for it, runs it, prints the report and
- * what it says.
+ * One block of eight bytes that nobody receives, sent buffered and sent
+ * synchronously: the first job finishes and delivers nothing, the second hangs.
+ * Then bench job 1 of document 01, whole, and what refusals look like.
  */
 #include "jamturret.h"
 
+#include <inttypes.h>
 #include <stdio.h>
-#include <string.h>
 
-enum { BOARDS = 2, OPERATIONS = 2, PAYLOAD = 3, INBOX = 4 };
-
-#define SHEET_BYTES JAMTURRET_SHEET(BOARDS, OPERATIONS, PAYLOAD)
-#define REPORT_BYTES JAMTURRET_REPORT(BOARDS, OPERATIONS)
-#define ORDER_BYTES JAMTURRET_ORDER_OUT(OPERATIONS)
-
-static uint8_t sheet[SHEET_BYTES];
-static uint8_t inbox[INBOX];
-static uint8_t report[REPORT_BYTES];
-static uint8_t order[ORDER_BYTES];
+/*
+ * Rooms for any sheet, zeroed. What one sheet needs: JAMTURRET_SHEET,
+ * JAMTURRET_REPORT, JAMTURRET_ORDER_OUT, and its own inboxes.
+ */
+static uint8_t sheet[JAMTURRET_MOST_SHEET];
+static uint8_t inbox[JAMTURRET_MOST_INBOXES];
+static uint8_t report[JAMTURRET_MOST_REPORT];
+static uint8_t order[JAMTURRET_MOST_ORDER];
 static uint8_t scratch[JAMTURRET_SCRATCH];
 
-/* All numbers are little-endian. */
-static void put_word(size_t at, unsigned value)
+static void print_refusal(const char *what, jamturret_answer answer)
 {
-    sheet[at] = (uint8_t)(value & 0xFF);
-    sheet[at + 1] = (uint8_t)(value >> 8);
-}
-
-static void put_words(size_t at, const unsigned *values, size_t count)
-{
-    for (size_t i = 0; i < count; i++) {
-        put_word(at + 2 * i, values[i]);
+    printf("%s: refusal %" PRIu32 ", %s %" PRIu64, what, answer.number,
+           jamturret_place_words(answer.number), answer.place);
+    if (answer.number == JAMTURRET_ROOM) {
+        printf(" (%s)", jamturret_room_words(answer.place));
     }
-}
-
-static unsigned word_at(const uint8_t *bytes, size_t at)
-{
-    return bytes[at] + 256u * bytes[at + 1];
-}
-
-/* CRC-16/IBM-3740 over the sheet without its CRC field (bytes 14 and 15). */
-static unsigned crc_of_sheet(void)
-{
-    unsigned crc = 0xFFFF;
-    for (size_t at = 0; at < sizeof sheet; at++) {
-        if (at == 14 || at == 15) {
-            continue;
-        }
-        crc ^= (unsigned)sheet[at] << 8;
-        for (int shift = 0; shift < 8; shift++) {
-            crc = (crc & 0x8000) ? (crc << 1) ^ 0x1021 : crc << 1;
-            crc &= 0xFFFF;
-        }
-    }
-    return crc;
-}
-
-static void build_sheet(void)
-{
-    const unsigned boards = 16, operations = boards + 8 * BOARDS;
-    const unsigned payload = operations + 16 * OPERATIONS;
-    /* P, C, N, the three offsets, L. */
-    const unsigned header[] = {BOARDS, 1, OPERATIONS, boards, operations, payload, PAYLOAD};
-    /* First operation, count, attached buffer size, inbox size. */
-    const unsigned entries[BOARDS][4] = {{0, 1, 0, 0}, {1, 1, 0, INBOX}};
-    /* Kind and flag, peer, communicator, zero, tag, offset, length, slot. */
-    const unsigned scripts[OPERATIONS][8] = {
-        {3, 1, 0, 0, 7, 0, PAYLOAD, 0},
-        {5, 0, 0, 0, JAMTURRET_ANY, 0, INBOX, 0},
-    };
-    put_words(0, header, 7);
-    for (size_t rank = 0; rank < BOARDS; rank++) {
-        put_words(boards + 8 * rank, entries[rank], 4);
-    }
-    for (size_t i = 0; i < OPERATIONS; i++) {
-        put_words(operations + 16 * i, scripts[i], 8);
-    }
-    memcpy(sheet + payload, "JAM", PAYLOAD);
-    put_word(14, crc_of_sheet());
+    printf(": %s\n", jamturret_refusal_words(answer.number));
 }
 
 static void print_bytes(const char *name, const uint8_t *bytes, size_t count)
 {
-    printf("%s", name);
-    for (size_t i = 0; i < count; i++) {
+    size_t i;
+    printf("  %s:", name);
+    for (i = 0; i < count; i++) {
         printf(" %02X", bytes[i]);
     }
     printf("\n");
 }
 
-static void print_report(void)
+/* Does the verdict of one run hold for every order? */
+static void print_premise(size_t sheet_len)
 {
-    static const char *const verdicts[] = {"still able", "finished", "deadlock", "overflow",
-                                           "not ready"};
-    const uint8_t *receive = report + 16 + 8 * BOARDS + 12;
-    const unsigned steps = word_at(report, 4);
-    print_bytes("report:", report, sizeof report);
-    printf("verdict: %s, %u steps\n", verdicts[report[0]], steps);
-    print_bytes("order:", order, steps);
-    printf("pending messages %u, pending receives %u, cut messages %u\n", word_at(report, 10),
-           word_at(report, 12), word_at(report, 14));
-    printf("operation 1: matched with operation %u, source %u, tag %u, %u bytes\n",
-           word_at(receive, 2), word_at(receive, 4), word_at(receive, 6), word_at(receive, 8));
-    print_bytes("inbox of rank 1:", inbox, sizeof inbox);
+    const jamturret_answer answer = jamturret_premise(sheet, sheet_len);
+    if (answer.number == JAMTURRET_SUCCESS) {
+        printf("  premise: every order, taken until no board is able, ends like this\n");
+    } else {
+        print_refusal("  premise: another order may end otherwise", answer);
+    }
 }
 
-static jamturret_answer run(size_t report_room)
+static const char *delivery_words(unsigned verdict, unsigned pending)
 {
-    return jamturret_run(sheet, sizeof sheet, inbox, sizeof inbox, report, report_room, order,
-                         sizeof order, scratch, sizeof scratch);
+    if (pending == 0) {
+        return "every message sent was matched";
+    }
+    return verdict == JAMTURRET_FINISHED ? "finished but not delivered" : "not delivered";
 }
 
-static void print_refusal(const char *what, jamturret_answer answer)
+/* The verdict alone does not say that the messages arrived. */
+static void print_verdict(void)
 {
-    printf("%s: refusal %lu, place %lu\n", what, (unsigned long)answer.number,
-           (unsigned long)answer.place);
+    const unsigned verdict = jamturret_report_verdict(report);
+    const unsigned pending = jamturret_report_pending_messages(report);
+    printf("  verdict: %s, steps: %u\n", jamturret_verdict_words(verdict),
+           jamturret_report_steps(report));
+    printf("  pending messages: %u, %s\n", pending, delivery_words(verdict, pending));
+}
+
+/* Run checks the sheet itself. */
+static int run(size_t sheet_len)
+{
+    const jamturret_answer answer
+        = jamturret_run(sheet, sheet_len, inbox, sizeof inbox, report, sizeof report, order,
+                        sizeof order, scratch, sizeof scratch);
+    if (answer.number != JAMTURRET_SUCCESS) {
+        print_refusal("run", answer);
+    }
+    return answer.number == JAMTURRET_SUCCESS;
+}
+
+/*
+ * Rank 0 sends the block to rank 1, which has an inbox for it and no receive.
+ * These are the bytes of sheets/block-buffered.sheet and
+ * sheets/block-synchronous.sheet.
+ */
+static int block(const char *title, uint32_t mode)
+{
+    static const uint8_t payload[] = {0x0B, 0x0C, 0x0D, 0x0E, 0x0F, 0x10, 0x11, 0x12};
+    /* number of operations, attached buffer, inbox */
+    const jamturret_board boards[] = {{1, 8, 0}, {0, 0, 8}};
+    const jamturret_operation operations[] = {jamturret_send(mode, 1, 1, 0, sizeof payload)};
+    const jamturret_job job = {1, boards, 2, operations, 1, payload, sizeof payload};
+    const size_t sheet_len = JAMTURRET_SHEET(2, 1, sizeof payload);
+    const jamturret_answer answer = jamturret_build(&job, sheet, sizeof sheet);
+    if (answer.number != JAMTURRET_SUCCESS) {
+        print_refusal("build", answer);
+        return 0;
+    }
+    printf("%s\n", title);
+    printf("  sheet: %zu bytes, CRC %04X\n", sheet_len, jamturret_crc(sheet, sheet_len));
+    if (!run(sheet_len)) {
+        return 0;
+    }
+    print_verdict();
+    printf("  operation 0: %s\n",
+           jamturret_operation_state_words(jamturret_operation_row_state(report, 0)));
+    printf("  rank 0: %s, buffer in use: %u\n",
+           jamturret_board_state_words(jamturret_board_row_state(report, 0)),
+           jamturret_board_row_in_use(report, 0));
+    print_premise(sheet_len);
+    return 1;
+}
+
+/* Rank 0 sends 3 bytes with tag 7, synchronous; rank 1 receives any tag into 4 bytes. */
+static size_t build_handshake(void)
+{
+    static const uint8_t payload[] = {'J', 'A', 'M'};
+    const jamturret_board boards[] = {{1, 0, 0}, {1, 0, 4}};
+    const jamturret_operation operations[] = {
+        jamturret_send(JAMTURRET_KIND_SYNCHRONOUS, 1, 7, 0, sizeof payload),
+        jamturret_receive(0, JAMTURRET_ANY, 0, 4),
+    };
+    const jamturret_job job = {1, boards, 2, operations, 2, payload, sizeof payload};
+    const jamturret_answer answer = jamturret_build(&job, sheet, sizeof sheet);
+    if (answer.number != JAMTURRET_SUCCESS) {
+        print_refusal("build", answer);
+        return 0;
+    }
+    return JAMTURRET_SHEET(2, 2, sizeof payload);
+}
+
+static int handshake(size_t sheet_len)
+{
+    printf("Bench job 1, a synchronous send that is received\n");
+    if (!run(sheet_len)) {
+        return 0;
+    }
+    print_verdict();
+    print_premise(sheet_len);
+    print_bytes("report", report, JAMTURRET_REPORT(2, 2));
+    print_bytes("order", order, jamturret_report_steps(report));
+    printf("  operation 1: %s with operation %u, source %u, tag %u, %u bytes\n",
+           jamturret_operation_state_words(jamturret_operation_row_state(report, 1)),
+           jamturret_operation_row_partner(report, 1), jamturret_operation_row_source(report, 1),
+           jamturret_operation_row_tag(report, 1), jamturret_operation_row_length(report, 1));
+    print_bytes("inbox of rank 1", inbox, 4);
+    return 1;
+}
+
+/* What is wrong is answered, and no room is touched. */
+static void refusals(size_t sheet_len)
+{
+    /* The job has finished after four steps: nobody is able to take a fifth. */
+    static const uint8_t too_long[] = {0, 1, 0, 1, 1};
+    const jamturret_board board = {1, 0, 0};
+    const jamturret_operation wide = jamturret_send(JAMTURRET_KIND_STANDARD, 0, 70000, 0, 0);
+    const jamturret_job job = {1, &board, 1, &wide, 1, NULL, 0};
+    printf("Refusals\n");
+    print_refusal("  a tag of 70,000", jamturret_build(&job, sheet, sizeof sheet));
+    print_refusal("  report room one byte short",
+                  jamturret_run(sheet, sheet_len, inbox, sizeof inbox, report,
+                                JAMTURRET_REPORT(2, 2) - 1, order, sizeof order, scratch,
+                                sizeof scratch));
+    print_refusal("  order with a fifth step",
+                  jamturret_follow(sheet, sheet_len, too_long, sizeof too_long, inbox, sizeof inbox,
+                                   report, sizeof report, scratch, sizeof scratch));
+    sheet[sheet_len - 1] ^= 1;
+    print_refusal("  a bit of the payload flipped", jamturret_check(sheet, sheet_len));
 }
 
 int main(void)
 {
-    /* Rank 1 steps where nobody is able any more. */
-    static const uint8_t too_long[] = {0, 1, 0, 1, 1};
-    jamturret_answer answer;
-
-    build_sheet();
-    answer = jamturret_check(sheet, sizeof sheet);
-    if (answer.number != JAMTURRET_SUCCESS) {
-        print_refusal("check", answer);
+    size_t sheet_len;
+    if (!block("A block that nobody receives, sent buffered", JAMTURRET_KIND_BUFFERED)
+        || !block("The same block, sent synchronously", JAMTURRET_KIND_SYNCHRONOUS)) {
         return 1;
     }
-    answer = jamturret_premise(sheet, sizeof sheet);
-    printf("the order of steps %s\n",
-           answer.number == JAMTURRET_SUCCESS ? "cannot matter" : "may matter");
-    answer = run(sizeof report);
-    if (answer.number != JAMTURRET_SUCCESS) {
-        print_refusal("run", answer);
+    sheet_len = build_handshake();
+    if (sheet_len == 0 || !handshake(sheet_len)) {
         return 1;
     }
-    print_report();
-
-    print_refusal("report room one byte short", run(sizeof report - 1));
-    answer = jamturret_follow(sheet, sizeof sheet, too_long, sizeof too_long, inbox, sizeof inbox,
-                              report, sizeof report, scratch, sizeof scratch);
-    print_refusal("order with a fifth step", answer);
-    sheet[sizeof sheet - 1] ^= 1;
-    print_refusal("a bit of the payload flipped", jamturret_check(sheet, sizeof sheet));
+    refusals(sheet_len);
     return 0;
 }

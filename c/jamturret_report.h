@@ -1,0 +1,217 @@
+/*
+ * A report: its format (document 01, The report), and a reader of each field.
+ * Include jamturret.h.
+ *
+ * A report is a header, a row a board in rank order, and a row an operation in
+ * the sheet's order. All numbers are little-endian: the low byte first.
+ *
+ * Finished is not delivered: a job can finish with messages pending, since a
+ * buffered send is complete once it is in its sender's buffer. Look at the
+ * pending messages, too.
+ */
+/* Before the guard: jamturret.h includes its parts in their order. */
+#include "jamturret.h"
+
+#ifndef JAMTURRET_REPORT_H
+#define JAMTURRET_REPORT_H
+
+#ifdef __cplusplus
+extern "C" {
+#endif
+
+/* None: as stop operation, partner, source and tag; and as stop rank. */
+#define JAMTURRET_NONE 65535
+#define JAMTURRET_NO_RANK 255
+
+/* Where the header's fields stand. */
+#define JAMTURRET_REPORT_VERDICT_AT 0           /* 1 byte: an enum jamturret_verdict */
+#define JAMTURRET_REPORT_STOP_RANK_AT 1         /* 1 byte: whose step stopped the job, or none */
+#define JAMTURRET_REPORT_STOP_OPERATION_AT 2    /* 2 bytes: its operation, or none */
+#define JAMTURRET_REPORT_STEPS_AT 4             /* 2 bytes: steps taken, a stopping one too */
+#define JAMTURRET_REPORT_BOARDS_AT 6            /* 2 bytes: the sheet's P */
+#define JAMTURRET_REPORT_OPERATIONS_AT 8        /* 2 bytes: the sheet's N */
+#define JAMTURRET_REPORT_PENDING_MESSAGES_AT 10 /* 2 bytes: sent and not matched, buffered too */
+#define JAMTURRET_REPORT_PENDING_RECEIVES_AT 12 /* 2 bytes: posted and not matched */
+#define JAMTURRET_REPORT_CUT_MESSAGES_AT 14     /* 2 bytes: matched, longer than the capacity */
+#define JAMTURRET_REPORT_HEADER_BYTES 16
+
+/* Where a board row's fields stand. Rank r's row is at 16 + 8 r. */
+#define JAMTURRET_BOARD_ROW_FINISHED_AT 0 /* 2 bytes: operations finished */
+#define JAMTURRET_BOARD_ROW_IN_USE_AT 2   /* 2 bytes: buffer bytes charged and not yet matched */
+#define JAMTURRET_BOARD_ROW_PEAK_AT 4     /* 2 bytes: the most in use after any step so far */
+#define JAMTURRET_BOARD_ROW_STATE_AT 6    /* 1 byte: an enum jamturret_board_state */
+#define JAMTURRET_BOARD_ROW_ZERO_AT 7     /* 1 byte: 0 */
+#define JAMTURRET_BOARD_ROW_BYTES 8
+
+/*
+ * Where an operation row's fields stand. Operation i's row is at
+ * 16 + 8 P + 12 i. Source, tag and length tell what a matched receive got, as
+ * an MPI status does, also of a cut message, of which nothing is copied. In
+ * all other rows they are none, none and 0.
+ */
+#define JAMTURRET_OPERATION_ROW_STATE_AT 0   /* 1 byte: an enum jamturret_operation_state */
+#define JAMTURRET_OPERATION_ROW_CUT_AT 1     /* 1 byte: 1 in a receive whose message was cut */
+#define JAMTURRET_OPERATION_ROW_PARTNER_AT 2 /* 2 bytes: the operation matched with, or none */
+#define JAMTURRET_OPERATION_ROW_SOURCE_AT 4  /* 2 bytes: the sender's rank */
+#define JAMTURRET_OPERATION_ROW_TAG_AT 6     /* 2 bytes: the message's tag */
+#define JAMTURRET_OPERATION_ROW_LENGTH_AT 8  /* 2 bytes: the message's full length */
+#define JAMTURRET_OPERATION_ROW_ZERO_AT 10   /* 2 bytes: 0 */
+#define JAMTURRET_OPERATION_ROW_BYTES 12
+
+enum jamturret_verdict {
+    JAMTURRET_STILL_ABLE = 0, /* the order stopped early; follow only */
+    JAMTURRET_FINISHED = 1,   /* all boards are; messages may be pending */
+    JAMTURRET_DEADLOCK = 2,   /* some board is unfinished and none is able */
+    JAMTURRET_OVERFLOW = 3,   /* stopped: an unmatched buffered send found too little room */
+    JAMTURRET_NOT_READY = 4   /* stopped: a ready send found no posted receive */
+};
+
+enum jamturret_board_state {
+    JAMTURRET_BOARD_NEITHER = 0, /* waiting for what is not complete, or the job is stopped */
+    JAMTURRET_BOARD_ABLE = 1,    /* could take a step */
+    JAMTURRET_BOARD_FINISHED = 2
+};
+
+/* Pending messages are the sends in states 1 and 2. */
+enum jamturret_operation_state {
+    JAMTURRET_OPERATION_NOT_ENTERED = 0, /* also the one that stopped the job */
+    JAMTURRET_OPERATION_PENDING = 1,
+    JAMTURRET_OPERATION_BUFFERED = 2, /* a send: complete, and no receive has taken it */
+    JAMTURRET_OPERATION_MATCHED = 3,
+    JAMTURRET_OPERATION_WAIT_FINISHED = 5
+};
+
+/* The length of a report, and of the longest. */
+#define JAMTURRET_REPORT(boards, operations)                                  \
+    (JAMTURRET_REPORT_HEADER_BYTES                                            \
+     + JAMTURRET_BOARD_ROW_BYTES * JAMTURRET_CAST(size_t, boards)             \
+     + JAMTURRET_OPERATION_ROW_BYTES * JAMTURRET_CAST(size_t, operations))
+#define JAMTURRET_MOST_REPORT JAMTURRET_REPORT(JAMTURRET_MOST_BOARDS, JAMTURRET_MOST_OPERATIONS)
+
+/*
+ * THE READERS
+ *
+ * For a report that follow or run filled. Each is named as its field above,
+ * in small letters.
+ */
+static inline unsigned jamturret_word_at(const uint8_t *bytes, size_t at)
+{
+    return bytes[at] + 256u * bytes[at + 1];
+}
+
+static inline unsigned jamturret_report_verdict(const uint8_t *report)
+{
+    return report[JAMTURRET_REPORT_VERDICT_AT];
+}
+
+static inline unsigned jamturret_report_stop_rank(const uint8_t *report)
+{
+    return report[JAMTURRET_REPORT_STOP_RANK_AT];
+}
+
+static inline unsigned jamturret_report_stop_operation(const uint8_t *report)
+{
+    return jamturret_word_at(report, JAMTURRET_REPORT_STOP_OPERATION_AT);
+}
+
+static inline unsigned jamturret_report_steps(const uint8_t *report)
+{
+    return jamturret_word_at(report, JAMTURRET_REPORT_STEPS_AT);
+}
+
+static inline unsigned jamturret_report_boards(const uint8_t *report)
+{
+    return jamturret_word_at(report, JAMTURRET_REPORT_BOARDS_AT);
+}
+
+static inline unsigned jamturret_report_operations(const uint8_t *report)
+{
+    return jamturret_word_at(report, JAMTURRET_REPORT_OPERATIONS_AT);
+}
+
+static inline unsigned jamturret_report_pending_messages(const uint8_t *report)
+{
+    return jamturret_word_at(report, JAMTURRET_REPORT_PENDING_MESSAGES_AT);
+}
+
+static inline unsigned jamturret_report_pending_receives(const uint8_t *report)
+{
+    return jamturret_word_at(report, JAMTURRET_REPORT_PENDING_RECEIVES_AT);
+}
+
+static inline unsigned jamturret_report_cut_messages(const uint8_t *report)
+{
+    return jamturret_word_at(report, JAMTURRET_REPORT_CUT_MESSAGES_AT);
+}
+
+/* Rows. The rank is below jamturret_report_boards; that is not looked at. */
+static inline const uint8_t *jamturret_board_row(const uint8_t *report, size_t rank)
+{
+    return report + JAMTURRET_REPORT(rank, 0);
+}
+
+static inline unsigned jamturret_board_row_finished(const uint8_t *report, size_t rank)
+{
+    return jamturret_word_at(jamturret_board_row(report, rank), JAMTURRET_BOARD_ROW_FINISHED_AT);
+}
+
+static inline unsigned jamturret_board_row_in_use(const uint8_t *report, size_t rank)
+{
+    return jamturret_word_at(jamturret_board_row(report, rank), JAMTURRET_BOARD_ROW_IN_USE_AT);
+}
+
+static inline unsigned jamturret_board_row_peak(const uint8_t *report, size_t rank)
+{
+    return jamturret_word_at(jamturret_board_row(report, rank), JAMTURRET_BOARD_ROW_PEAK_AT);
+}
+
+static inline unsigned jamturret_board_row_state(const uint8_t *report, size_t rank)
+{
+    return jamturret_board_row(report, rank)[JAMTURRET_BOARD_ROW_STATE_AT];
+}
+
+/* The operation is below jamturret_report_operations; that is not looked at. */
+static inline const uint8_t *jamturret_operation_row(const uint8_t *report, size_t operation)
+{
+    return report + JAMTURRET_REPORT(jamturret_report_boards(report), operation);
+}
+
+static inline unsigned jamturret_operation_row_state(const uint8_t *report, size_t operation)
+{
+    return jamturret_operation_row(report, operation)[JAMTURRET_OPERATION_ROW_STATE_AT];
+}
+
+static inline unsigned jamturret_operation_row_cut(const uint8_t *report, size_t operation)
+{
+    return jamturret_operation_row(report, operation)[JAMTURRET_OPERATION_ROW_CUT_AT];
+}
+
+static inline unsigned jamturret_operation_row_partner(const uint8_t *report, size_t operation)
+{
+    return jamturret_word_at(jamturret_operation_row(report, operation),
+                             JAMTURRET_OPERATION_ROW_PARTNER_AT);
+}
+
+static inline unsigned jamturret_operation_row_source(const uint8_t *report, size_t operation)
+{
+    return jamturret_word_at(jamturret_operation_row(report, operation),
+                             JAMTURRET_OPERATION_ROW_SOURCE_AT);
+}
+
+static inline unsigned jamturret_operation_row_tag(const uint8_t *report, size_t operation)
+{
+    return jamturret_word_at(jamturret_operation_row(report, operation),
+                             JAMTURRET_OPERATION_ROW_TAG_AT);
+}
+
+static inline unsigned jamturret_operation_row_length(const uint8_t *report, size_t operation)
+{
+    return jamturret_word_at(jamturret_operation_row(report, operation),
+                             JAMTURRET_OPERATION_ROW_LENGTH_AT);
+}
+
+#ifdef __cplusplus
+}
+#endif
+
+#endif
