@@ -1,11 +1,11 @@
 //! Puts one call of *follow* or *run* to the naive judge, the efficient one
 //! and the library, and compares answers and every byte of the lent rooms.
 
-use crate::answer::Answer;
 use crate::desk::Desk;
 use crate::guarded;
 use crate::judge::{self, SCRATCH_ROOM};
 use crate::random::Random;
+use jamturret::lent::Answer;
 use std::fmt;
 
 #[derive(Clone, Debug, PartialEq, Eq)]
@@ -34,8 +34,8 @@ pub struct Outcome {
 pub fn naive(sheet: &[u8], call: &Call, before: &Desk) -> Outcome {
     let mut desk = before.clone();
     let answer = match call {
-        Call::Follow(order) => desk.follow(sheet, order),
-        Call::Run => desk.run(sheet),
+        Call::Follow(order) => desk.naive_follow(sheet, order),
+        Call::Run => desk.naive_run(sheet),
     };
     Outcome { answer, desk }
 }

@@ -1,8 +1,8 @@
 //! The rooms lent to *follow* and *run*, and reading the report, for tests.
 
-use crate::answer::Answer;
 use crate::judge::{self, Rooms, SCRATCH_ROOM};
 use crate::layout::word;
+use jamturret::lent::Answer;
 
 /// What every byte of a lent room holds before the call.
 pub const FILL: u8 = 0xEE;
@@ -51,14 +51,14 @@ impl Desk {
         ]
     }
 
-    /// The naive judge's *run*.
-    pub fn run(&mut self, sheet: &[u8]) -> Answer {
+    /// The naive judge's *run*, which is not proved.
+    pub fn naive_run(&mut self, sheet: &[u8]) -> Answer {
         let (rooms, order_out) = self.rooms();
         judge::run(sheet, rooms, order_out)
     }
 
-    /// The naive judge's *follow*.
-    pub fn follow(&mut self, sheet: &[u8], order: &[u8]) -> Answer {
+    /// The naive judge's *follow*, which is not proved.
+    pub fn naive_follow(&mut self, sheet: &[u8], order: &[u8]) -> Answer {
         judge::follow(sheet, order, self.rooms().0)
     }
 

@@ -3,10 +3,9 @@
 //! is likely to change an answer, and a buffer starts at every alignment.
 //! After a call the guards have to be unchanged, and what is only read too.
 
-use crate::answer::Answer;
 use crate::desk::Desk;
-use crate::ffi;
 use crate::random::Random;
+use jamturret::lent::{self, Answer};
 
 const MOST_GUARD: usize = 64;
 
@@ -74,20 +73,21 @@ fn guard_byte(random: &mut Random) -> u8 {
 
 /// The library's *check*: its answer, or what it did to the lent buffer.
 pub fn check(sheet: &[u8], random: &mut Random) -> Result<Answer, String> {
-    of_sheet(ffi::check, sheet, random)
+    of_sheet(lent::check, sheet, random)
 }
 
 /// The library's *premise*.
 pub fn premise(sheet: &[u8], random: &mut Random) -> Result<Answer, String> {
-    of_sheet(ffi::premise, sheet, random)
+    of_sheet(lent::premise, sheet, random)
+}
+
+/// The library's CRC of a sheet.
+pub fn crc(sheet: &[u8], random: &mut Random) -> Result<u16, String> {
+    of_sheet(lent::crc, sheet, random)
 }
 
 /// A service that is lent nothing but the sheet.
-fn of_sheet(
-    service: fn(&[u8]) -> Answer,
-    sheet: &[u8],
-    random: &mut Random,
-) -> Result<Answer, String> {
+fn of_sheet<T>(service: fn(&[u8]) -> T, sheet: &[u8], random: &mut Random) -> Result<T, String> {
     let mut sheet = Guarded::around("sheet", sheet, random);
     let answer = service(sheet.lent());
     sheet.unchanged()?;
@@ -106,7 +106,7 @@ pub fn follow(
     let mut inbox = Guarded::around("inbox", &desk.inbox, random);
     let mut report = Guarded::around("report", &desk.report, random);
     let mut scratch = Guarded::around("scratch", &desk.scratch, random);
-    let answer = ffi::follow(
+    let answer = lent::follow(
         sheet.lent(),
         order.lent(),
         inbox.lent(),
@@ -128,7 +128,7 @@ pub fn run(sheet: &[u8], desk: &mut Desk, random: &mut Random) -> Result<Answer,
     let mut report = Guarded::around("report", &desk.report, random);
     let mut order_out = Guarded::around("order out", &desk.order_out, random);
     let mut scratch = Guarded::around("scratch", &desk.scratch, random);
-    let answer = ffi::run(
+    let answer = lent::run(
         sheet.lent(),
         inbox.lent(),
         report.lent(),

@@ -1,9 +1,10 @@
-//! The Rust side of Jamturret: a safe wrapper of the proved library, a judge
-//! of our own written from document 01, and what is needed to compare them.
+//! Our tests of Jamturret: a judge of our own, written from document 01 and
+//! not proved, what is needed to compare the proved library with it, and
+//! benchmarks. Not for customers: the library is the crate `jamturret` in
+//! rust/, and this crate takes it from there.
 //!
-//! - `answer`: number and place of an answer.
-//! - `layout`: where the fields of a sheet stand, and their limits.
-//! - `ffi`: the library behind safe functions.
+//! - `layout`: where the fields of a sheet stand, and their limits, read from
+//!   document 01 once more for our judge.
 //! - `judge`: our own judge, in an ordinary and in a naive form.
 //! - `sheet`: builds job sheets, right ones and damaged ones.
 //! - `bench_jobs`: the bench jobs of document 01 as sheets.
@@ -17,12 +18,10 @@
 //! - `settled`: answers to cases that never change, kept as digests.
 //! - `traffic`: the jobs that are timed.
 
-pub mod answer;
 pub mod bench_jobs;
 pub mod command;
 pub mod compare;
 pub mod desk;
-pub mod ffi;
 pub mod generate;
 pub mod guarded;
 pub mod judge;

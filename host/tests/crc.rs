@@ -1,6 +1,7 @@
 //! CRC vectors: the catalogue's check value of CRC-16/IBM-3740, and values
-//! that can be worked out by hand.
+//! that can be worked out by hand; and the library's CRC of a sheet.
 
+use jamturret_host::guarded;
 use jamturret_host::judge::crc::crc;
 use jamturret_host::judge::naive;
 use jamturret_host::random::Random;
@@ -54,5 +55,25 @@ fn own_crc_leaves_nothing() {
         let value = crc(&bytes);
         bytes.extend(value.to_be_bytes());
         both(&bytes, 0);
+    }
+}
+
+/// The CRC that the library gives to a sheet.
+fn library(sheet: &[u8]) -> u16 {
+    guarded::crc(sheet, &mut Random::new(sheet.len() as u64)).expect("it is only read")
+}
+
+/// Bytes 14 and 15, where the CRC stands, do not count.
+#[test]
+fn library_leaves_the_field_out() {
+    assert_eq!(library(b""), 0xFFFF);
+    assert_eq!(library(b"123456789"), 0x29B1);
+    let mut random = Random::new(2);
+    for length in 0..300 {
+        let sheet = random.bytes(length);
+        let counted = sheet.iter().enumerate();
+        let counted = counted.filter(|(at, _)| !(14..16).contains(at));
+        let counted: Vec<u8> = counted.map(|(_, &byte)| byte).collect();
+        both(&counted, library(&sheet));
     }
 }

@@ -2,7 +2,7 @@
 //! and of both judges: verdicts, orders, matches, cut messages and inbox
 //! bytes.
 
-use jamturret_host::answer::Answer;
+use jamturret::lent::Answer;
 use jamturret_host::bench_jobs;
 use jamturret_host::compare::{self, Call};
 use jamturret_host::desk::{Desk, FILL};

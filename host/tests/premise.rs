@@ -1,7 +1,7 @@
 //! Whether the order of steps can matter for a sheet: 20 to 22, the lowest
 //! number first, each at its first place (document 01, What is pinned down).
 
-use jamturret_host::answer::Answer;
+use jamturret::lent::Answer;
 use jamturret_host::layout::kind::{BUFFERED, READY, STANDARD, SYNCHRONOUS};
 use jamturret_host::layout::{operation, ANY};
 use jamturret_host::random::Random;

@@ -1,7 +1,7 @@
 //! Refusals 8 and 9 of our judge's *follow* and *run*, what they leave of the
 //! lent rooms, and claims that hold of every order.
 
-use jamturret_host::answer::Answer;
+use jamturret::lent::Answer;
 use jamturret_host::desk::{Desk, FILL};
 use jamturret_host::layout::{board, kind, operation, word, ANY};
 use jamturret_host::random::Random;
@@ -26,10 +26,10 @@ fn first_short_room() {
             .iter()
             .for_each(|(_, shorten)| shorten(&mut desk));
         let before = desk.clone();
-        assert_eq!(desk.run(&sheet), Answer::refusal(8, ROOMS[from].0));
+        assert_eq!(desk.naive_run(&sheet), Answer::refusal(8, ROOMS[from].0));
         // Follow has no order out.
         let place = if ROOMS[from].0 == 3 { 4 } else { ROOMS[from].0 };
-        assert_eq!(desk.follow(&sheet, &[9]), Answer::refusal(8, place));
+        assert_eq!(desk.naive_follow(&sheet, &[9]), Answer::refusal(8, place));
         assert_eq!(desk, before);
     }
 }
@@ -40,8 +40,8 @@ fn sheet_refusals_come_first() {
     let mut desk = Desk::for_sheet(&sheet);
     ROOMS.iter().for_each(|(_, shorten)| shorten(&mut desk));
     let before = desk.clone();
-    assert_eq!(desk.run(&sheet), Answer::refusal(6, 0));
-    assert_eq!(desk.follow(&sheet, &[9]), Answer::refusal(6, 0));
+    assert_eq!(desk.naive_run(&sheet), Answer::refusal(6, 0));
+    assert_eq!(desk.naive_follow(&sheet, &[9]), Answer::refusal(6, 0));
     assert_eq!(desk, before);
 }
 
@@ -58,7 +58,7 @@ fn orders_refused() {
     for (order, place) in orders {
         let mut desk = Desk::for_sheet(&sheet);
         let before = desk.clone();
-        assert_eq!(desk.follow(&sheet, order), Answer::refusal(9, place));
+        assert_eq!(desk.naive_follow(&sheet, order), Answer::refusal(9, place));
         assert!(desk.scratch.iter().all(|&byte| byte == 0));
         desk.scratch = before.scratch.clone();
         assert_eq!(desk, before, "only scratch is written");
@@ -70,14 +70,14 @@ fn orders_refused() {
 fn nothing_after_a_stop() {
     let sheet = bench_jobs::case_9().bytes();
     let mut desk = Desk::for_sheet(&sheet);
-    assert_eq!(desk.follow(&sheet, &[0, 1]), Answer::refusal(9, 1));
+    assert_eq!(desk.naive_follow(&sheet, &[0, 1]), Answer::refusal(9, 1));
 }
 
 #[test]
 fn longer_rooms() {
     let sheet = bench_jobs::case_7().bytes();
     let mut exact = Desk::for_sheet(&sheet);
-    assert_eq!(exact.run(&sheet), Answer::SUCCESS);
+    assert_eq!(exact.naive_run(&sheet), Answer::SUCCESS);
     let mut longer = Desk::for_sheet(&sheet);
     for room in [
         &mut longer.inbox,
@@ -87,7 +87,7 @@ fn longer_rooms() {
     ] {
         room.extend([FILL; 5]);
     }
-    assert_eq!(longer.run(&sheet), Answer::SUCCESS);
+    assert_eq!(longer.naive_run(&sheet), Answer::SUCCESS);
     assert!(
         longer.scratch.iter().all(|&byte| byte == 0),
         "scratch is zeroed whole"
@@ -117,9 +117,9 @@ fn run_is_a_followed_order() {
     let mut verdicts = [0; 5];
     for (sheet, _) in accepted(11, 6000) {
         let mut ran = Desk::for_sheet(&sheet);
-        assert_eq!(ran.run(&sheet), Answer::SUCCESS);
+        assert_eq!(ran.naive_run(&sheet), Answer::SUCCESS);
         let mut followed = Desk::for_sheet(&sheet);
-        assert_eq!(followed.follow(&sheet, ran.order()), Answer::SUCCESS);
+        assert_eq!(followed.naive_follow(&sheet, ran.order()), Answer::SUCCESS);
         assert_eq!(
             (&followed.inbox, &followed.report),
             (&ran.inbox, &ran.report)
@@ -139,7 +139,7 @@ fn run_is_a_followed_order() {
 /// What follow leaves of an order that it accepts.
 fn followed(sheet: &[u8], order: &[u8]) -> Desk {
     let mut desk = Desk::for_sheet(sheet);
-    assert_eq!(desk.follow(sheet, order), Answer::SUCCESS);
+    assert_eq!(desk.naive_follow(sheet, order), Answer::SUCCESS);
     desk
 }
 
@@ -150,7 +150,7 @@ fn whole_orders_end_alike() {
     for (mut sheet, mut random) in accepted(12, 3000) {
         bring_under_claim(&mut sheet);
         let mut ran = Desk::for_sheet(&sheet);
-        assert_eq!(ran.run(&sheet), Answer::SUCCESS);
+        assert_eq!(ran.naive_run(&sheet), Answer::SUCCESS);
         let mut order = Vec::new();
         loop {
             let desk = followed(&sheet, &order);
@@ -195,7 +195,7 @@ fn neighbours_exchanged() {
 /// The answer, inboxes and report, peaks aside.
 fn end(sheet: &[u8], order: &[u8]) -> (Answer, (Vec<u8>, Vec<u8>)) {
     let mut desk = Desk::for_sheet(sheet);
-    let answer = desk.follow(sheet, order);
+    let answer = desk.naive_follow(sheet, order);
     let rooms = match answer {
         Answer::SUCCESS => desk.without_peaks(),
         _ => (desk.inbox, desk.report),

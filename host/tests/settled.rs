@@ -1,8 +1,7 @@
 //! The settled answers: the cases are the recorded ones, and the comparison
 //! can fail. The program `settled` compares all of them.
 
-use jamturret_host::answer::Answer;
-use jamturret_host::ffi;
+use jamturret::lent::{self, Answer};
 use jamturret_host::judge::{self, Rooms};
 use jamturret_host::settled::ask::{Digests, Run, Services, LIBRARY};
 use jamturret_host::settled::cases::{case, inputs, CASES, SEED};
@@ -96,7 +95,7 @@ fn spoiled<const ROOM: usize>(
     order_out: &mut [u8],
     scratch: &mut [u8],
 ) -> Answer {
-    let answer = ffi::run(sheet, inbox, report, order_out, scratch);
+    let answer = lent::run(sheet, inbox, report, order_out, scratch);
     let rooms = [inbox, report, order_out, scratch];
     if let Some(last) = rooms[ROOM].last_mut() {
         *last ^= 0x40;
@@ -129,7 +128,7 @@ fn every_answer_counts() {
     let [check, follow, run] = differing(Services {
         check: |_| Answer::SUCCESS,
         follow: |sheet, order, inbox, report, scratch| {
-            let answer = ffi::follow(sheet, order, inbox, report, scratch);
+            let answer = lent::follow(sheet, order, inbox, report, scratch);
             Answer::refusal(answer.number, answer.place ^ 1)
         },
         ..LIBRARY

@@ -2,10 +2,10 @@
 //! follow and run is what is lent. A thread that needs more ends the whole
 //! test program.
 
-use jamturret_host::answer::Answer;
+use jamturret::lent::{self, Answer};
 use jamturret_host::desk::Desk;
 use jamturret_host::sheet::Sheet;
-use jamturret_host::{ffi, judge, traffic};
+use jamturret_host::{judge, traffic};
 use std::thread;
 
 const STACK: usize = 64 * 1024;
@@ -30,7 +30,7 @@ fn on_small_stack<T: Send + 'static>(call: impl FnOnce() -> T + Send + 'static) 
 fn check() {
     for sheet in jobs() {
         let bytes = sheet.bytes();
-        assert_eq!(on_small_stack(move || ffi::check(&bytes)), Answer::SUCCESS);
+        assert_eq!(on_small_stack(move || lent::check(&bytes)), Answer::SUCCESS);
     }
 }
 
@@ -39,7 +39,7 @@ fn premise() {
     for sheet in jobs() {
         let bytes = sheet.bytes();
         let expected = judge::premise(&bytes);
-        assert_eq!(on_small_stack(move || ffi::premise(&bytes)), expected);
+        assert_eq!(on_small_stack(move || lent::premise(&bytes)), expected);
     }
 }
 
@@ -49,9 +49,9 @@ fn run() {
         let bytes = sheet.bytes();
         let mut expected = Desk::for_sheet(&bytes);
         let mut desk = expected.clone();
-        assert_eq!(expected.run(&bytes), Answer::SUCCESS);
+        assert_eq!(expected.naive_run(&bytes), Answer::SUCCESS);
         let (answer, desk) = on_small_stack(move || {
-            let answer = ffi::run(
+            let answer = lent::run(
                 &bytes,
                 &mut desk.inbox,
                 &mut desk.report,
@@ -70,10 +70,10 @@ fn follow() {
         let bytes = sheet.bytes();
         let mut ran = Desk::for_sheet(&bytes);
         let mut desk = ran.clone();
-        assert_eq!(ran.run(&bytes), Answer::SUCCESS);
+        assert_eq!(ran.naive_run(&bytes), Answer::SUCCESS);
         let order = ran.order().to_vec();
         let (answer, desk) = on_small_stack(move || {
-            let answer = ffi::follow(
+            let answer = lent::follow(
                 &bytes,
                 &order,
                 &mut desk.inbox,

@@ -10,7 +10,7 @@ ghost use Rattle.words.specs.Read.{Word};
 const START: usize = 0xffff;
 
 // Where the header's own CRC stands, which is left out.
-const CRC_AT: usize = 14;
+pub const CRC_AT: usize = 14;
 
 // Entry k is what eight shifts leave of the byte k at the high end.
 const REMAINDERS: [u16; 256] = [

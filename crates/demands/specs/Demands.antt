@@ -4,10 +4,13 @@ use mathlib.Core.Path.{_≡_}
 use mathlib.Core.Logic.{_≢_, _↔_}
 use mathlib.Core.Bool.{true}
 use mathlib.Core.List.{List, _∷_, _++_}
-use Prim.Native.Nat.{ℕ, _≤_}
-use lib.ListN.{getD, take}
+use Prim.Native.Nat.{ℕ, _<_, _≤_}
+use lib.ListN.{length, getD, take}
+use Rattle.rules.specs.Limits.{header-size}
+use Rattle.rules.specs.Crc.{crc}
 use Rattle.rules.specs.Sheet.{sheet-in}
-use Rattle.rules.specs.Step.{able}
+use Rattle.rules.specs.Step.{splice, able}
+use Rattle.rules.specs.Report.{low-two}
 use Rattle.rules.specs.Claims.{passes, calm, accepts, left-by}
 use Rattle.sheet.specs.declared.Answer.{Answer}
 use Rattle.promises.specs.Statements.{Earlier-first}
@@ -43,6 +46,13 @@ pub record Kept-rules (bs : List ℕ) (f : Seen) : Type 0 where
   pub refused : f .answer .number ≢ 0 → (f .inbox-now ≡ f .inbox) × (f .report-now ≡ f .report)
   pub passing : f .answer .number ≡ 0 → passes bs ≡ true
   pub reported : f .answer .number ≡ 0 → Reported (sheet-in bs) (f .inbox) (f .inbox-now) (f .report-now)
+
+-- A sheet that carries the CRC it is told to carry is not refused with 4. Nothing else of it was changed; one that is short of
+-- a header was not changed at all.
+pub record Crc-carried (bs bs-now : List ℕ) (checked : Answer) : Type 0 where
+  pub put : header-size ≤ length bs → bs-now ≡ splice bs 14 (low-two (crc bs))
+  pub short : length bs < header-size → bs-now ≡ bs
+  pub not-refused : checked .number ≢ 4
 
 -- Check refuses exactly what follow refuses with 1 to 7, with the same number and place.
 unfoldable pub Same-answer : (a b : Answer) → Type 0

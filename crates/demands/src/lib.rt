@@ -1,8 +1,9 @@
 // The demands of the services themselves (document 01, "What is pinned down"): small functions that call the services and
 // ensure the demands' conclusions, with no `requires`. Their proofs know of a service only what its contract says, so a
 // contract that is weakened fails here.
-ghost use Rattle.demands.specs.Demands.{seen, Check-and-follow, Run-keeps, Follow-demands, Follow-and-run, One-for-all};
+ghost use Rattle.demands.specs.Demands.{seen, Crc-carried, Check-and-follow, Run-keeps, Follow-demands, Follow-and-run, One-for-all};
 use jamturret::jamturret_check;
+use jamturret::jamturret_crc;
 use jamturret::jamturret_follow;
 use jamturret::jamturret_premise;
 use jamturret::jamturret_run;
@@ -12,6 +13,18 @@ use sheet::Answer;
 pub struct Answers {
     pub first: Answer,
     pub second: Answer,
+}
+
+// The CRC put where a sheet has it, in bytes 14 and 15, and CHECK: as whoever lays out a sheet does.
+pub fn crc_and_check(sheet: &mut [u8]) -> Answer
+    ensures { λ a. ⌜ Crc-carried (now (sheet .entry)) (now (sheet .exit)) a ⌝ }
+{
+    if sheet.len() < limits::HEADER_SIZE {
+        return jamturret_check(sheet);
+    }
+    let value = jamturret_crc(sheet);
+    words::put_two(sheet, crc::CRC_AT, value as usize);
+    jamturret_check(sheet)
 }
 
 // CHECK a sheet, and FOLLOW it with an order: one call of each.

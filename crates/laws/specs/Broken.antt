@@ -1,6 +1,7 @@
 -- Laws of `or-else` and `first-broken`: what a search from the front may forget, and what it answers when it stops. A search's invariant is
 -- that the answer over the whole range is the answer over what is left. Assumes nothing.
 use mathlib.Core.Path.{_≡_, refl, sym, _∙_, ap, subst}
+use mathlib.Core.Logic.{_≢_}
 use mathlib.Core.Bool.{Bool, true, false, not, cond}
 use Prim.Native.Nat.{ℕ, zero, suc, _+_, _<_, _≤_, _-_}
 use native.Mathlib.Omega.{arith}
@@ -19,6 +20,14 @@ or-else-passed a b h = cond-true (eqb (a .number) 0) b a (eq-eqb (a .number) 0 h
 pub or-else-stopped : (a b : Refusal) → (a .number ≡ 0 → ⊥) → or-else a b ≡ a
 unfolding or-else
 or-else-stopped a b h = cond-false (eqb (a .number) 0) b a (ne-eqb (a .number) 0 h)
+
+-- a chain gives no number that neither part gives
+pub or-else-not : (m : ℕ) (a b : Refusal) → a .number ≢ m → b .number ≢ m → or-else a b .number ≢ m
+or-else-not m a b p q e = go (ℕ-discrete (a .number) 0)
+  where
+    go : Dec (a .number ≡ 0) → ⊥
+    go (yes z) = q (sym (ap (λ (f : Refusal). f .number) (or-else-passed a b z)) ∙ e)
+    go (no h) = p (sym (ap (λ (f : Refusal). f .number) (or-else-stopped a b h)) ∙ e)
 
 -- TESTS that code makes by `if !good`, where `good` is a rule's answer
 pub rule-kept : {good rule : Bool} → good ≡ rule → not good ≡ false → rule ≡ true
@@ -49,6 +58,16 @@ module _ (n : ℕ) (f : ℕ → Bool) where
   unfolding first-broken
   broken-none zero i h = refl
   broken-none (suc k) i h = absurd (omega arith)
+
+  -- a search gives its own number, or 0
+  pub broken-not : (m : ℕ) → n ≢ m → 0 ≢ m → (left i : ℕ) → first-broken n f left i .number ≢ m
+  unfolding first-broken refusal
+  broken-not m h z zero i = z
+  broken-not m h z (suc k) i = go (f i) (broken-not m h z k (suc i))
+    where
+      go : (t : Bool) → first-broken n f k (suc i) .number ≢ m → cond t (first-broken n f k (suc i)) (refusal n i) .number ≢ m
+      go true q = q
+      go false q = h
 
   -- a range in two parts: the first part's refusal, else the second's
   pub broken-parts : (a b i : ℕ) → (n ≡ 0 → ⊥) → first-broken n f (a + b) i ≡ or-else (first-broken n f a i) (first-broken n f b (i + a))

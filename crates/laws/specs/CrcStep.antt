@@ -144,6 +144,11 @@ pub crc-byte-bound : (c b : ℕ) → crc-byte c b < 65536
 unfolding crc-byte
 crc-byte-bound c b = shifts-bound 8 (xor 16 c (256 * b)) (xor-bound 16 c (256 * b))
 
+pub crc-from-bound : (c : ℕ) (xs : List ℕ) → c < 65536 → crc-from c xs < 65536
+unfolding crc-from
+crc-from-bound c [] h = h
+crc-from-bound c (x ∷ xs) h = crc-from-bound (crc-byte c x) xs (crc-byte-bound c x)
+
 -- the CRC of what is left of a list, one byte on
 pub crc-from-more : (c : ℕ) (xs : List ℕ) (i : ℕ) → i < length xs → crc-from c (drop i xs) ≡ crc-from (crc-byte c (getD xs i 0)) (drop (i + 1) xs)
 unfolding crc-from

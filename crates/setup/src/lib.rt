@@ -1,5 +1,5 @@
-// Scratch at the start of a job: the two tables that are written once, then bare rows and zero places (document 01, "The
-// job starts with nothing entered, no buffer in use"). The tables come first: rows and places lie below them and leave them.
+// Scratch at the start of a job: the two tables that are written once, then bare rows and zero places (document 01, "What is
+// pinned down": nothing entered, no buffer in use). The tables come first: rows and places lie below them and leave them.
 ghost use mathlib.Core.Path.{_≡_};
 ghost use Prim.Native.Nat.{_+_, _<_, _≤_};
 ghost use lib.ListN.{length};

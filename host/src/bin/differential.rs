@@ -4,7 +4,7 @@
 //! the first difference prints what is needed to see it and exits with 1, as
 //! it does where an answer of premise to accepted sheets never came up.
 
-use jamturret_host::answer::Answer;
+use jamturret::lent::Answer;
 use jamturret_host::command::{argument, difference};
 use jamturret_host::generate::{self, KINDS};
 use jamturret_host::random::Random;

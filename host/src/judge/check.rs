@@ -5,8 +5,8 @@ use super::boards::Boards;
 use super::crc::crc_of_sheet;
 use super::header::Header;
 use super::{operations, requests};
-use crate::answer::Answer;
 use crate::layout::{header as at, word};
+use jamturret::lent::Answer;
 
 pub fn check(sheet: &[u8]) -> Answer {
     match refusal(sheet) {

@@ -3,7 +3,7 @@
 //! shares no code with the ordinary judge, so that neither is a copy of the
 //! other.
 
-use crate::answer::Answer;
+use jamturret::lent::Answer;
 
 pub fn check(sheet: &[u8]) -> Answer {
     let view = View(sheet);

@@ -7,8 +7,8 @@ use super::boards::Boards;
 use super::check::check;
 use super::header::Header;
 use super::operations::{rows, Operation};
-use crate::answer::Answer;
 use crate::layout::{kind, ANY};
+use jamturret::lent::Answer;
 
 pub fn premise(sheet: &[u8]) -> Answer {
     let checked = check(sheet);

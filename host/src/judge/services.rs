@@ -7,7 +7,7 @@ use super::job::Job;
 use super::report;
 use super::rooms::{Needs, Rooms};
 use super::script::Script;
-use crate::answer::Answer;
+use jamturret::lent::Answer;
 
 /// Longer room is accepted and its excess untouched.
 fn write(rooms: &mut Rooms, job: &Job) {

@@ -4,8 +4,7 @@
 use super::cases::{self, Case};
 use super::digest::Digest;
 use super::reached::Reached;
-use crate::answer::Answer;
-use crate::ffi;
+use jamturret::lent::{self, Answer};
 
 /// How often a refused byte is dropped from an order. After that the order is
 /// cut before the next one, and followed once more.
@@ -19,7 +18,7 @@ pub const SERVICES: [&str; 3] = ["check", "follow", "run"];
 /// One digest a service.
 pub type Digests = [u32; SERVICES.len()];
 
-/// The arguments are those of `ffi`.
+/// The arguments are those of `jamturret::lent`.
 pub type Check = fn(&[u8]) -> Answer;
 pub type Follow = fn(&[u8], &[u8], &mut [u8], &mut [u8], &mut [u8]) -> Answer;
 pub type Run = fn(&[u8], &mut [u8], &mut [u8], &mut [u8], &mut [u8]) -> Answer;
@@ -33,9 +32,9 @@ pub struct Services {
 }
 
 pub const LIBRARY: Services = Services {
-    check: ffi::check,
-    follow: ffi::follow,
-    run: ffi::run,
+    check: lent::check,
+    follow: lent::follow,
+    run: lent::run,
 };
 
 pub struct Asker {

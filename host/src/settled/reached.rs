@@ -5,7 +5,7 @@ use super::ask::SERVICES;
 use super::cases::Case;
 use super::features::FEATURES;
 use super::sheet::{scripts, second_edition, word, BOARDS, OPERATIONS, READY, STANDARD};
-use crate::answer::Answer;
+use jamturret::lent::Answer;
 use std::fmt;
 
 /// Verdicts 0 to 4, then refusals 1 to 9.

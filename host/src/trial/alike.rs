@@ -4,13 +4,13 @@
 //! sets the peaks aside.
 
 use super::{orders, Trial};
-use crate::answer::Answer;
 use crate::compare::Call;
 use crate::desk::Desk;
 use crate::judge;
 use crate::layout::{board, header, kind, operation, word, ANY};
 use crate::random::Random;
 use crate::sheet::{board_at, operation_at};
+use jamturret::lent::Answer;
 
 /// Whether the claim speaks of an accepted sheet: no receive from any source,
 /// no ready send, and on each board all buffered sends together are covered.

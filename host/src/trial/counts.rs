@@ -1,9 +1,9 @@
 //! What the trials reached, so that a reader sees that nothing is left out.
 
 use super::{KINDS, ORDERS};
-use crate::answer::Answer;
 use crate::compare::Outcome;
 use crate::layout::word;
+use jamturret::lent::Answer;
 use std::fmt;
 
 /// Verdicts 0 to 4, then refusals 1 to 9.

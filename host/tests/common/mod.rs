@@ -1,6 +1,6 @@
 //! What the tests share: one question put to the library and both judges.
 
-use jamturret_host::answer::Answer;
+use jamturret::lent::Answer;
 use jamturret_host::random::Random;
 use jamturret_host::{guarded, judge};
 

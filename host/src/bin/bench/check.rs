@@ -1,11 +1,11 @@
 //! *Check* and *premise* on the largest sheets and on a small one.
 
 use crate::timing::{heading, line, medians};
-use jamturret_host::answer::Answer;
+use jamturret::lent::{self, Answer};
 use jamturret_host::layout::kind::STANDARD;
 use jamturret_host::layout::{MOST_BOARDS, MOST_PAYLOAD, SLOTS};
 use jamturret_host::sheet::{Board, Operation, Sheet};
-use jamturret_host::{bench_jobs, ffi, judge};
+use jamturret_host::{bench_jobs, judge};
 use std::hint::black_box;
 
 /// Operations a board: 1,024 on sixteen boards.
@@ -16,8 +16,8 @@ const INBOX: u16 = 1024;
 type Service = fn(&[u8]) -> Answer;
 
 pub fn tables(rounds: usize) {
-    table("check", ffi::check, judge::check, rounds);
-    table("premise", ffi::premise, judge::premise, rounds);
+    table("check", lent::check, judge::check, rounds);
+    table("premise", lent::premise, judge::premise, rounds);
 }
 
 /// The sheets are accepted, so that every rule is asked of all of them.

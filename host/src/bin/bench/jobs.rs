@@ -2,11 +2,11 @@
 //! judge, which keeps its entries the same way; and how the times grow.
 
 use crate::timing::{heading, line, medians};
-use jamturret_host::answer::Answer;
+use jamturret::lent::{self, Answer};
 use jamturret_host::desk::Desk;
 use jamturret_host::judge::engine;
 use jamturret_host::sheet::Sheet;
-use jamturret_host::{bench_jobs, ffi, traffic};
+use jamturret_host::{bench_jobs, traffic};
 use std::hint::black_box;
 
 /// A job, the order that run chooses, and rooms.
@@ -21,7 +21,7 @@ impl Timed {
     fn new(sheet: &Sheet) -> Timed {
         let sheet = sheet.bytes();
         let mut desk = Desk::for_sheet(&sheet);
-        assert_eq!(desk.run(&sheet), Answer::SUCCESS, "judge");
+        assert_eq!(desk.naive_run(&sheet), Answer::SUCCESS, "judge");
         assert_eq!(desk.verdict(), 1, "finished");
         Timed {
             order: desk.order().to_vec(),
@@ -49,7 +49,7 @@ impl Timed {
         self.beside(
             (rounds, calls),
             |desk| {
-                black_box(ffi::run(
+                black_box(lent::run(
                     black_box(&self.sheet),
                     &mut desk.inbox,
                     &mut desk.report,
@@ -68,7 +68,7 @@ impl Timed {
         self.beside(
             (rounds, calls),
             |desk| {
-                black_box(ffi::follow(
+                black_box(lent::follow(
                     black_box(&self.sheet),
                     &self.order,
                     &mut desk.inbox,

@@ -25,7 +25,7 @@ use self::job::Job;
 use self::view::View;
 use super::check::check;
 use super::rooms::Rooms;
-use crate::answer::Answer;
+use jamturret::lent::Answer;
 
 pub fn follow(sheet: &[u8], order: &[u8], rooms: Rooms) -> Answer {
     let view = match accepted(sheet, &rooms, None) {

@@ -1,0 +1,73 @@
+//! The numbers of document 01, each named once: the limits of a sheet (The
+//! sheet, byte by byte), the sizes of its tables and of a report's rows (The
+//! report), and the rooms that are lent (When the desk says no).
+//!
+//! The functions are total: a size above `usize` is given as `usize::MAX`.
+
+/// Most boards of a sheet. It has at least one.
+pub const MOST_BOARDS: usize = 16;
+/// Most communicators of a sheet. It has at least one.
+pub const MOST_COMMUNICATORS: usize = 8;
+/// Most operations of a sheet, all scripts together.
+pub const MOST_OPERATIONS: usize = 1_024;
+/// Most payload bytes of a sheet.
+pub const MOST_PAYLOAD: usize = 16_384;
+/// The largest buffer that a board can have attached.
+pub const MOST_ATTACHED: usize = 16_384;
+/// Most inbox bytes of a sheet, all boards together.
+pub const MOST_INBOXES: usize = 16_384;
+/// The longest message of a send, and the largest capacity of a receive.
+pub const MOST_LENGTH: usize = 4_096;
+/// The largest tag.
+pub const MOST_TAG: usize = 32_767;
+/// The largest request slot of a board.
+pub const MOST_SLOT: usize = 31;
+/// Bytes of scratch that [`follow`](crate::lent::follow) and
+/// [`run`](crate::lent::run) are lent, whatever the sheet.
+pub const SCRATCH_ROOM: usize = 32_768;
+
+/// In a receive's field: any source, any tag. In a report: none.
+pub(crate) const ANY: usize = 65_535;
+/// A report's stop rank where nothing stopped the job.
+pub(crate) const NO_RANK: u8 = 255;
+
+/// The header of a sheet, and where its board table starts.
+pub(crate) const HEADER_BYTES: u16 = 16;
+/// Where a sheet's CRC stands.
+pub(crate) const CRC_AT: usize = 14;
+pub(crate) const BOARD_BYTES: usize = 8;
+pub(crate) const OPERATION_BYTES: usize = 16;
+
+pub(crate) const REPORT_HEADER_BYTES: usize = 16;
+pub(crate) const BOARD_ROW_BYTES: usize = 8;
+pub(crate) const OPERATION_ROW_BYTES: usize = 12;
+
+/// Where the operation table of a sheet starts.
+pub(crate) const fn operation_table(boards: usize) -> usize {
+    table_end(HEADER_BYTES as usize, boards, BOARD_BYTES)
+}
+
+/// Where the payload of a sheet starts.
+pub(crate) const fn payload_start(boards: usize, operations: usize) -> usize {
+    table_end(operation_table(boards), operations, OPERATION_BYTES)
+}
+
+/// The length of a sheet.
+pub const fn sheet_length(boards: usize, operations: usize, payload: usize) -> usize {
+    payload_start(boards, operations).saturating_add(payload)
+}
+
+/// The length of a report: the report room that `follow` and `run` need.
+pub const fn report_room(boards: usize, operations: usize) -> usize {
+    let board_rows = table_end(REPORT_HEADER_BYTES, boards, BOARD_ROW_BYTES);
+    table_end(board_rows, operations, OPERATION_ROW_BYTES)
+}
+
+/// The room that `run` needs for the order that it writes down.
+pub const fn order_room(operations: usize) -> usize {
+    operations.saturating_mul(2)
+}
+
+const fn table_end(start: usize, count: usize, size: usize) -> usize {
+    start.saturating_add(count.saturating_mul(size))
+}

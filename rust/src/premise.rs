@@ -1,0 +1,92 @@
+//! Whether the order of steps can matter for a sheet: the answer of
+//! *premise* by name.
+
+use crate::lent::Answer;
+use crate::refusal::Refusal;
+use std::fmt;
+
+/// What *premise* says of a sheet that passes check. Where it holds, any two
+/// full orders (orders after which no board is able) end alike from the same
+/// inbox bytes: the same inboxes and the same report, peaks aside. Then the
+/// verdict of one run is the verdict of every full order. Else the value says
+/// why another order may end otherwise: the lowest number that applies, at its
+/// first place.
+#[derive(Clone, Copy, Debug, PartialEq, Eq, Hash)]
+pub enum Premise {
+    /// The outcome holds for every order.
+    Holds,
+    /// 20: a receive names any source.
+    AnySource {
+        /// The first such operation.
+        operation: usize,
+    },
+    /// 21: a send is ready.
+    ReadySend {
+        /// The first such operation.
+        operation: usize,
+    },
+    /// 22: an attached buffer does not cover all buffered sends of its board.
+    Uncovered {
+        /// The first such rank.
+        rank: usize,
+    },
+}
+
+impl Premise {
+    /// Whether the outcome holds for every order.
+    pub fn holds(&self) -> bool {
+        *self == Premise::Holds
+    }
+
+    /// The number of [`lent::premise`](crate::lent::premise): 0, 20, 21 or 22.
+    pub fn number(&self) -> u32 {
+        match self {
+            Premise::Holds => 0,
+            Premise::AnySource { .. } => 20,
+            Premise::ReadySend { .. } => 21,
+            Premise::Uncovered { .. } => 22,
+        }
+    }
+
+    /// The place of [`lent::premise`](crate::lent::premise): an operation, an
+    /// operation or a rank; 0 where the premise holds.
+    pub fn place(&self) -> u64 {
+        match *self {
+            Premise::Holds => 0,
+            Premise::AnySource { operation: place }
+            | Premise::ReadySend { operation: place }
+            | Premise::Uncovered { rank: place } => place as u64,
+        }
+    }
+
+    /// What an answer of [`lent::premise`](crate::lent::premise) to a call
+    /// with this sheet says.
+    pub fn of_answer(answer: Answer, sheet: &[u8]) -> Result<Premise, Refusal> {
+        match (answer.number, usize::try_from(answer.place)) {
+            (20, Ok(operation)) => Ok(Premise::AnySource { operation }),
+            (21, Ok(operation)) => Ok(Premise::ReadySend { operation }),
+            (22, Ok(rank)) => Ok(Premise::Uncovered { rank }),
+            _ => answer.result(sheet).map(|()| Premise::Holds),
+        }
+    }
+}
+
+impl fmt::Display for Premise {
+    fn fmt(&self, out: &mut fmt::Formatter) -> fmt::Result {
+        let why = match self {
+            Premise::Holds => return write!(out, "holds for every order"),
+            Premise::AnySource { operation } => {
+                format!("operation {operation} receives from any source")
+            }
+            Premise::ReadySend { operation } => format!("operation {operation} is a ready send"),
+            Premise::Uncovered { rank } => {
+                format!("the attached buffer of rank {rank} does not cover its buffered sends")
+            }
+        };
+        let (number, place) = (self.number(), self.place());
+        write!(
+            out,
+            "number {number}, place {place}: another order may end otherwise: {why}"
+        )
+    }
+}

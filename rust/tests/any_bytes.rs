@@ -1,0 +1,238 @@
+//! No input makes this crate panic: random and damaged bytes put to every
+//! service, and to the readers of sheets and reports. In a build with overflow
+//! checks an overflow panics too.
+//!
+//! On the way each case is asked for what has to agree, and at the end every
+//! number, verdict and error has to have come up, so that the cases say
+//! something.
+
+mod common;
+
+use common::parts::random_sheet;
+use common::random::Random;
+use jamturret::{
+    check, follow, lent, premise, run, Outcome, Premise, Refusal, Report, ReportError, Sheet,
+};
+use std::collections::BTreeMap;
+
+const CASES: usize = 100_000;
+
+/// How often something came up, by name.
+#[derive(Default)]
+struct Counts(BTreeMap<String, usize>);
+
+impl Counts {
+    fn add(&mut self, name: String) {
+        *self.0.entry(name).or_default() += 1;
+    }
+
+    /// By the name of its variant.
+    fn refusal(&mut self, refusal: Refusal) {
+        let named = format!("{refusal:?}");
+        let end = named.find([' ', '(']).unwrap_or(named.len());
+        self.add(named[..end].into());
+        assert!(refusal.to_string().contains(": "));
+    }
+
+    /// All of these came up, and none that is unknown.
+    fn have(&self, names: impl IntoIterator<Item = String>) {
+        let mut names: Vec<String> = names.into_iter().collect();
+        names.sort();
+        let came_up: Vec<&String> = self.0.keys().collect();
+        assert_eq!(came_up, names.iter().collect::<Vec<_>>());
+    }
+}
+
+/// Writes the right CRC, if there is room for one.
+fn mend_crc(bytes: &mut [u8]) {
+    let crc = lent::crc(bytes);
+    if let Some(place) = bytes.get_mut(14..16) {
+        place.copy_from_slice(&crc.to_le_bytes());
+    }
+}
+
+/// Changes a few bytes, mostly by little, and sometimes the length.
+fn damage(bytes: &mut Vec<u8>, random: &mut Random) {
+    for _ in 0..random.below(4) {
+        if bytes.is_empty() {
+            break;
+        }
+        let at = random.below(bytes.len());
+        bytes[at] = match random.below(3) {
+            0 => random.byte(),
+            1 => bytes[at].wrapping_add(1),
+            _ => bytes[at] ^ (1 << random.below(8)),
+        };
+    }
+    match random.below(20) {
+        0 => bytes.truncate(random.between(0, bytes.len())),
+        1 => bytes.push(random.byte()),
+        _ => (),
+    }
+}
+
+/// Plain noise, or a sheet with some damage, its CRC mostly mended.
+fn any_sheet(random: &mut Random) -> Vec<u8> {
+    if random.chance(10) {
+        let length = random.below(80);
+        return random.bytes(length);
+    }
+    let sheet = random_sheet(random).expect("every number fits");
+    let mut bytes = sheet.bytes().to_vec();
+    if random.chance(70) {
+        damage(&mut bytes, random);
+    }
+    if random.chance(90) {
+        mend_crc(&mut bytes);
+    }
+    bytes
+}
+
+/// Ranks that mostly exist; often the beginning of the order that run takes.
+fn any_order(ran: Option<&Outcome>, random: &mut Random) -> Vec<u8> {
+    let mut order = match ran {
+        Some(ran) => ran.order[..random.between(0, ran.order.len())].to_vec(),
+        None => Vec::new(),
+    };
+    if random.chance(50) {
+        order.extend((0..random.below(4)).map(|_| random.below(5) as u8));
+    }
+    order
+}
+
+/// Zeros, or bytes of any length.
+fn any_start(random: &mut Random) -> Option<Vec<u8>> {
+    let length = random.pick(&[0, 1, 40, 40, 20_000]);
+    random.chance(50).then(|| random.bytes(length))
+}
+
+/// Check, premise and parse agree with each other.
+fn read(bytes: &[u8], counts: &mut Counts) -> Result<(), Refusal> {
+    let checked = check(bytes);
+    match Sheet::parse(bytes) {
+        Ok(sheet) => {
+            assert_eq!(checked, Ok(()));
+            let boards = sheet.boards().to_vec();
+            let built = Sheet::build(sheet.communicators(), boards, sheet.payload());
+            assert_eq!(built.as_ref(), Ok(&sheet));
+            assert_eq!(sheet.bytes(), bytes);
+        }
+        Err(refusal) => {
+            assert_eq!(checked, Err(refusal));
+            counts.refusal(refusal);
+        }
+    }
+    match premise(bytes) {
+        Ok(premise) => {
+            assert_eq!(checked, Ok(()));
+            counts.add(format!("premise {}", premise.number()));
+            assert_eq!(premise.holds(), premise == Premise::Holds);
+        }
+        Err(refusal) => assert_eq!(checked, Err(refusal)),
+    }
+    checked
+}
+
+/// What has to hold of an outcome of these bytes.
+fn look(outcome: &Outcome, bytes: &[u8], counts: &mut Counts) {
+    let Outcome {
+        report,
+        inboxes,
+        order,
+    } = outcome;
+    counts.add(format!("verdict {}", report.verdict()));
+    assert_eq!(order.len(), report.steps());
+    let sheet = Sheet::parse(bytes).expect("a refused sheet has no outcome");
+    assert_eq!(report.boards().len(), sheet.boards().len());
+    let sizes = sheet.boards().iter().map(|board| board.inbox);
+    assert!(sizes.eq(inboxes.iter().map(Vec::len)));
+    let scripts = sheet.boards().iter().map(|board| board.script.len());
+    assert_eq!(report.operations().len(), scripts.sum());
+    assert_eq!(Report::parse(report.bytes()).as_ref(), Ok(report));
+}
+
+fn read_damaged_report(report: &Report, random: &mut Random, counts: &mut Counts) {
+    let mut bytes = report.bytes().to_vec();
+    damage(&mut bytes, random);
+    match Report::parse(&bytes) {
+        Ok(read) => {
+            assert_eq!(read.bytes(), bytes);
+            counts.add("report".into());
+        }
+        Err(error) => counts.add(match error {
+            ReportError::Length { .. } => "report length".into(),
+            ReportError::Header => "report header".into(),
+            ReportError::Board { .. } => "report board".into(),
+            ReportError::Operation { .. } => "report operation".into(),
+        }),
+    }
+}
+
+/// One case: the services on one sheet.
+fn ask(random: &mut Random, counts: &mut Counts) {
+    let bytes = any_sheet(random);
+    let checked = read(&bytes, counts);
+    let start = any_start(random);
+    let start = start.as_deref();
+    let ran = run(&bytes, start);
+    let order = any_order(ran.as_ref().ok(), random);
+    let followed = follow(&bytes, &order, start);
+    for outcome in [&ran, &followed] {
+        match outcome {
+            Ok(outcome) => {
+                assert_eq!(checked, Ok(()));
+                look(outcome, &bytes, counts);
+            }
+            Err(refusal) => {
+                let later = matches!(refusal, Refusal::Room(_) | Refusal::Order { .. });
+                assert!(later || checked == Err(*refusal));
+                counts.refusal(*refusal);
+            }
+        }
+    }
+    if let (Ok(ran), Ok(followed)) = (&ran, &followed) {
+        assert!(followed.order != ran.order || followed == ran);
+        read_damaged_report(&ran.report, random, counts);
+    }
+    let noise = random.below(60);
+    assert!(Report::parse(&random.bytes(noise)).is_err());
+}
+
+#[test]
+fn nothing_panics() {
+    let mut random = Random::new(8);
+    let mut counts = Counts::default();
+    for _ in 0..CASES {
+        ask(&mut random, &mut counts);
+    }
+    let refusals = [
+        "Short",
+        "Range",
+        "Layout",
+        "Crc",
+        "Board",
+        "Counts",
+        "Operation",
+        "Request",
+        "Room",
+        "Order",
+    ];
+    let premises = [0, 20, 21, 22].map(|number| format!("premise {number}"));
+    let verdicts = [
+        "still able",
+        "finished",
+        "deadlock",
+        "overflow",
+        "not ready",
+    ];
+    let verdicts = verdicts.map(|words| format!("verdict {words}"));
+    let reports = [
+        "report",
+        "report length",
+        "report header",
+        "report board",
+        "report operation",
+    ];
+    let plain = refusals.into_iter().chain(reports).map(String::from);
+    counts.have(plain.chain(premises).chain(verdicts));
+}

@@ -1,0 +1,20 @@
+//! What the tests share: a seeded generator of numbers, random parts of
+//! sheets, and the sample sheets of the repository.
+
+// Each test program uses a part of it.
+#![allow(dead_code)]
+
+pub mod parts;
+#[path = "../../../host/src/random.rs"]
+pub mod random;
+
+use std::fs;
+use std::path::Path;
+
+/// The bytes of a sample sheet. They were laid out by another program than
+/// this crate.
+pub fn sample(name: &str) -> Vec<u8> {
+    let folder = Path::new(env!("CARGO_MANIFEST_DIR")).join("../sheets");
+    let file = folder.join(name).with_extension("sheet");
+    fs::read(&file).unwrap_or_else(|error| panic!("{}: {error}", file.display()))
+}

@@ -1,0 +1,236 @@
+//! Sheets built and parsed: the bytes are those of document 01, The sheet,
+//! byte by byte, and both ways agree.
+
+mod common;
+
+use common::parts::random_sheet;
+use common::random::Random;
+use common::sample;
+use jamturret::limits::{
+    MOST_ATTACHED, MOST_BOARDS, MOST_COMMUNICATORS, MOST_INBOXES, MOST_LENGTH, MOST_OPERATIONS,
+    MOST_PAYLOAD, MOST_SLOT, MOST_TAG,
+};
+use jamturret::{
+    check, Board, Mode, Operation, ReceiveOperation, Refusal, SendOperation, Sheet, Source, Tag,
+};
+
+fn send(mode: Mode, to: usize) -> SendOperation {
+    SendOperation::new(mode, to)
+}
+
+fn receive(from: usize) -> ReceiveOperation {
+    ReceiveOperation::new(Source::Rank(from))
+}
+
+/// The payload of the sample sheets: 11, 12, ..
+fn payload(length: u8) -> Vec<u8> {
+    (11..11 + length).collect()
+}
+
+/// The parts of a sample sheet, worked out from sheets/README.md and document
+/// 01, give its bytes; and its bytes give the parts.
+fn is_sample(name: &str, boards: Vec<Board>, length: u8) {
+    let built = Sheet::build(1, boards.clone(), &payload(length)).expect("every number fits");
+    assert_eq!(built.bytes(), sample(name), "{name}");
+    let parsed = Sheet::parse(&sample(name)).expect("the samples pass");
+    assert_eq!(parsed.communicators(), 1, "{name}");
+    assert_eq!(parsed.boards(), boards, "{name}");
+    assert_eq!(parsed.payload(), payload(length), "{name}");
+}
+
+#[test]
+fn blocks_that_nobody_receives() {
+    for (name, mode) in [
+        ("block-buffered", Mode::Buffered),
+        ("block-synchronous", Mode::Synchronous),
+    ] {
+        let sender = Board::new()
+            .attached(8)
+            .then(send(mode, 1).tag(1).bytes(0, 8));
+        is_sample(name, vec![sender, Board::new().inbox(8)], 8);
+    }
+}
+
+#[test]
+fn ready_send() {
+    let sender = Board::new().then(send(Mode::Ready, 1).tag(3).bytes(0, 2));
+    let receiver = receive(0).tag(Tag::Is(3)).area(0, 2);
+    let receiver = Board::new().inbox(2).then(receiver);
+    is_sample("ready", vec![sender, receiver], 2);
+}
+
+#[test]
+fn any_source() {
+    let from = |at| Board::new().then(send(Mode::Standard, 2).tag(1 + at).bytes(at, 1));
+    let any = |at| ReceiveOperation::new(Source::Any).tag(Tag::Any).area(at, 1);
+    let receiver = Board::new().inbox(2).then(any(0)).then(any(1));
+    is_sample("any-source", vec![from(0), from(1), receiver], 2);
+}
+
+#[test]
+fn nonblocking_and_waits() {
+    let sends = |at| send(Mode::Standard, 1).bytes(2 * at, 2).nonblocking(at);
+    let wait = |slot| Operation::Wait { slot };
+    let sender = Board::new()
+        .then(sends(0))
+        .then(sends(1))
+        .then(wait(0))
+        .then(wait(1));
+    let receiver = Board::new()
+        .inbox(4)
+        .then(receive(0).tag(Tag::Any).area(0, 2).nonblocking(0))
+        .then(receive(0).area(2, 2).nonblocking(1))
+        .then(wait(0))
+        .then(wait(1));
+    is_sample("nonblocking", vec![sender, receiver], 4);
+}
+
+/// Every field of every kind with a number of its own, byte by byte. Bytes 14
+/// and 15 are the CRC.
+#[test]
+fn bytes_by_hand() {
+    let boards = vec![
+        Board::new()
+            .attached(0x0102)
+            .inbox(0x0304)
+            .then(
+                ReceiveOperation::new(Source::Rank(1))
+                    .tag(Tag::Is(0x0506))
+                    .area(0x0201, 0x0007)
+                    .on(2)
+                    .nonblocking(9),
+            )
+            .then(Operation::Wait { slot: 9 }),
+        Board::new()
+            .attached(0x0a)
+            .inbox(0x0b)
+            .then(
+                send(Mode::Buffered, 0)
+                    .tag(0x0c0d)
+                    .bytes(1, 2)
+                    .on(1)
+                    .nonblocking(0x1f),
+            )
+            .then(send(Mode::Ready, 1).tag(0x0e)),
+    ];
+    let sheet = Sheet::build(3, boards, &[0xAA, 0xBB, 0xCC]).expect("every number fits");
+    #[rustfmt::skip]
+    let expected = [
+        2, 0,  3, 0,  4, 0,  16, 0,  32, 0,  96, 0,  3, 0,  0, 0,
+        0, 0,  2, 0,  0x02, 0x01,  0x04, 0x03,
+        2, 0,  2, 0,  0x0a, 0,  0x0b, 0,
+        5, 1,  1, 0,  2, 0,  0, 0,  0x06, 0x05,  0x01, 0x02,  7, 0,  9, 0,
+        6, 0,  0, 0,  0, 0,  0, 0,  0, 0,  0, 0,  0, 0,  9, 0,
+        2, 1,  0, 0,  1, 0,  0, 0,  0x0d, 0x0c,  1, 0,  2, 0,  0x1f, 0,
+        4, 0,  1, 0,  0, 0,  0, 0,  0x0e, 0,  0, 0,  0, 0,  0, 0,
+        0xAA, 0xBB, 0xCC,
+    ];
+    let mut bytes = sheet.bytes().to_vec();
+    bytes[14..16].fill(0);
+    assert_eq!(bytes, expected);
+    assert_eq!(check(&sheet), Ok(()));
+    assert_eq!(Sheet::parse(sheet.bytes()), Ok(sheet.clone()));
+    assert_eq!(sheet.operation(1), Some(&Operation::Wait { slot: 9 }));
+    assert_eq!(sheet.operation(4), None);
+}
+
+#[test]
+fn random_sheets_both_ways() {
+    let mut random = Random::new(1);
+    let mut operations = 0;
+    for case in 0..20_000 {
+        let sheet = random_sheet(&mut random).expect("every number fits");
+        let parsed = Sheet::parse(sheet.bytes()).expect("the generator keeps the rules");
+        assert_eq!(parsed, sheet, "case {case}");
+        let boards = parsed.boards().to_vec();
+        let again = Sheet::build(parsed.communicators(), boards, parsed.payload());
+        assert_eq!(again, Ok(sheet), "case {case}");
+        operations += usize::from(parsed.operation(0).is_some());
+    }
+    assert!(operations > 10_000, "{operations} sheets have operations");
+}
+
+#[test]
+fn only_a_sheet_that_passes_is_parsed() {
+    let mut bytes = sample("handshake");
+    assert!(Sheet::parse(&bytes).is_ok());
+    bytes[64] ^= 1;
+    assert_eq!(Sheet::parse(&bytes), Err(Refusal::Crc));
+    assert_eq!(Sheet::parse(&bytes[..15]), Err(Refusal::Short));
+}
+
+/// Two boards, the first with an inbox of this size and one operation; and so
+/// much payload.
+fn with(inbox: usize, operation: impl Into<Operation>, payload: usize) -> Sheet {
+    let boards = vec![Board::new().inbox(inbox).then(operation), Board::new()];
+    Sheet::build(1, boards, &vec![0; payload]).expect("every number fits")
+}
+
+/// A limit is the library's, from both sides: what is beyond it can be built,
+/// and check refuses it.
+fn is_limit(most: usize, beyond: Refusal, sheet: impl Fn(usize) -> Sheet) {
+    assert_eq!(check(sheet(most)), Ok(()), "{most}");
+    assert_eq!(check(sheet(most + 1)), Err(beyond), "{}", most + 1);
+}
+
+#[test]
+fn limits_of_sizes() {
+    let built = |communicators, boards| {
+        Sheet::build(communicators, boards, &[]).expect("every number fits")
+    };
+    is_limit(MOST_BOARDS, Refusal::Range, |most| {
+        built(1, vec![Board::new(); most])
+    });
+    is_limit(MOST_COMMUNICATORS, Refusal::Range, |most| {
+        built(most, vec![Board::new()])
+    });
+    is_limit(MOST_OPERATIONS, Refusal::Range, |most| {
+        let script = vec![send(Mode::Standard, 0).into(); most];
+        let board = Board {
+            script,
+            ..Board::new()
+        };
+        built(1, vec![board])
+    });
+    is_limit(MOST_PAYLOAD, Refusal::Range, |most| {
+        with(0, send(Mode::Standard, 1), most)
+    });
+    is_limit(MOST_ATTACHED, Refusal::Board { rank: 0 }, |most| {
+        built(1, vec![Board::new().attached(most)])
+    });
+    is_limit(MOST_INBOXES, Refusal::Board { rank: 1 }, |most| {
+        let boards = [1, most - 1].map(|size| Board::new().inbox(size));
+        built(1, boards.to_vec())
+    });
+}
+
+#[test]
+fn limits_of_operations() {
+    let send = send(Mode::Standard, 1);
+    let refusal = Refusal::Operation { index: 0 };
+    is_limit(MOST_LENGTH, refusal, |most| {
+        with(0, send.bytes(0, most), MOST_PAYLOAD)
+    });
+    is_limit(MOST_LENGTH, refusal, |most| {
+        with(MOST_INBOXES, receive(1).area(0, most), 0)
+    });
+    is_limit(MOST_TAG, refusal, |most| with(0, send.tag(most), 0));
+    is_limit(MOST_TAG, refusal, |most| {
+        with(0, receive(1).tag(Tag::Is(most)), 0)
+    });
+    is_limit(MOST_SLOT, refusal, |most| {
+        with(0, send.nonblocking(most), 0)
+    });
+}
+
+/// A send has no any: its fields are written as they are, and refused.
+#[test]
+fn any_in_a_send_is_refused() {
+    for operation in [
+        send(Mode::Standard, 65_535),
+        send(Mode::Standard, 1).tag(65_535),
+    ] {
+        let sheet = with(0, operation, 0);
+        assert_eq!(check(&sheet), Err(Refusal::Operation { index: 0 }));
+    }
+}
