@@ -5,7 +5,7 @@ ghost use Prim.Native.Nat.{_<_, _≤_};
 ghost use lib.ListN.{length};
 ghost use Rattle.rules.specs.Limits.{report-size};
 ghost use Rattle.rules.specs.Sheet.{sheet-in, P-of, N-of};
-ghost use Rattle.laws.specs.Laid.{Laid as Well-laid};
+ghost use Rattle.laws.specs.Laid.{Laid};
 ghost use Rattle.judge.specs.Printed.{most-report, line-size, told-size, refusal-line, report-line, header-numbers, facts-line, printed, told as Printed·told};
 ghost use Rattle.judge.specs.Calls.{Ran, Reported, Lines};
 use jamturret::jamturret_premise;
@@ -16,17 +16,17 @@ use sheet::header;
 // The longest line: three places a byte of a report.
 pub const LINE_SIZE: usize = 3 * limits::MOST_REPORT;
 
-// The longest line that is told: 11 numbers of 21 places.
-pub const TOLD_SIZE: usize = 231;
+// The longest line that is told: eleven numbers.
+pub const TOLD_SIZE: usize = 11 * text::MOST_PLACES;
 
 // How many bytes of text stand at the start of each room.
-pub struct Laid {
+pub struct Sizes {
     pub line: usize,
     pub told: usize,
 }
 
 // Runs a sheet and lays out what is printed and what is told of it.
-pub fn lay_out(sheet: &[u8], line: &mut [u8], told: &mut [u8]) -> Laid
+pub fn lay_out(sheet: &[u8], line: &mut [u8], told: &mut [u8]) -> Sizes
     requires { ⌜ (line-size ≡ length (now line)) × (told-size ≡ length (now told)) ⌝ }
     ensures { λ l. ⌜ Lines (printed (now (sheet .entry))) (Printed·told (now (sheet .entry))) (l .line) (now (line .exit)) (l .told) (now (told .exit)) ⌝ }
 {
@@ -52,21 +52,21 @@ fn run_from_zeros(sheet: &[u8], report: &mut [u8]) -> Answer
 }
 
 // A refusal is printed and told alike: number and place.
-fn refused(number: u64, place: u64, line: &mut [u8], told: &mut [u8]) -> Laid
+fn refused(number: u64, place: u64, line: &mut [u8], told: &mut [u8]) -> Sizes
     requires { ⌜ (line-size ≡ length (now line)) × (told-size ≡ length (now told)) ⌝ }
     ensures { λ l. ⌜ Lines (refusal-line number place) (refusal-line number place) (l .line) (now (line .exit)) (l .told) (now (told .exit)) ⌝ }
 {
     let numbers = [number, place];
     let size = text::numbers_line(&numbers, line);
     let told_size = text::numbers_line(&numbers, told);
-    Laid {
+    Sizes {
         line: size,
         told: told_size,
     }
 }
 
 // Of a report its own bytes are printed; told are its header in numbers, and what premise answers.
-fn reported(sheet: &[u8], report: &[u8], line: &mut [u8], told: &mut [u8]) -> Laid
+fn reported(sheet: &[u8], report: &[u8], line: &mut [u8], told: &mut [u8]) -> Sizes
     requires { ⌜ Reported (now sheet) (now report) × (line-size ≡ length (now line)) × (told-size ≡ length (now told)) ⌝ }
     ensures { λ l. ⌜ Lines (report-line (now (sheet .entry))) (facts-line (now (sheet .entry))) (l .line) (now (line .exit)) (l .told) (now (told .exit)) ⌝ }
 {
@@ -75,7 +75,7 @@ fn reported(sheet: &[u8], report: &[u8], line: &mut [u8], told: &mut [u8]) -> La
     let answer = jamturret_premise(sheet);
     let numbers = facts(report, answer.number as u64, answer.place);
     let told_size = text::numbers_line(&numbers, told);
-    Laid {
+    Sizes {
         line: 3 * own,
         told: told_size,
     }
@@ -83,7 +83,7 @@ fn reported(sheet: &[u8], report: &[u8], line: &mut [u8], told: &mut [u8]) -> La
 
 // How many bytes the sheet's report has.
 fn report_size(s: &[u8]) -> usize
-    requires { ⌜ Well-laid (now s) ⌝ }
+    requires { ⌜ Laid (now s) ⌝ }
     ensures { λ r. ⌜ (r ≡ report-size (P-of (sheet-in (now (s .entry)))) (N-of (sheet-in (now (s .entry))))) × (r ≤ most-report) ⌝ }
 {
     limits::report_size(header::boards(s), header::ops(s))

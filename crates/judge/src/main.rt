@@ -24,9 +24,9 @@ fn main() {
 fn judge(sheet: &[u8]) {
     let mut line = [0u8; lines::LINE_SIZE];
     let mut told = [0u8; lines::TOLD_SIZE];
-    let laid = lines::lay_out(sheet, &mut line, &mut told);
-    let size = laid.line;
-    let told_size = laid.told;
+    let sizes = lines::lay_out(sheet, &mut line, &mut told);
+    let size = sizes.line;
+    let told_size = sizes.told;
     if io::write_all(1, &line[..size]) {
         io::write_all(2, &told[..told_size]);
         return;

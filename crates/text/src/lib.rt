@@ -7,6 +7,9 @@ ghost use Rattle.rules.specs.Step.{splice};
 ghost use Rattle.text.specs.Text.{digit-of, pair as Text·pair, number as Text·number, hex-line as Text·hex-line, numbers-line as Text·numbers-line};
 ghost use Rattle.text.specs.Lengths.{most-places};
 
+// The longest text of a number: 20 digits, enough for every number of 64 bits, and the character behind them.
+pub const MOST_PLACES: usize = 21;
+
 // Upper-case hex pairs with one blank between, ended by a newline, put at the start of `line`: three places a byte. There is a
 // byte at least.
 pub fn hex_line(bytes: &[u8], line: &mut [u8])
