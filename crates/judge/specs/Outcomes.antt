@@ -12,12 +12,12 @@ use Rattle.rules.specs.Limits.{report-size}
 use Rattle.rules.specs.Sheet.{two, sheet-in, P-of, N-of}
 use Rattle.rules.specs.Refusal.{sheet-refusal}
 use Rattle.rules.specs.Service.{answers}
-use Rattle.rules.specs.Premise.{premise-refusal, Premise-says}
+use Rattle.rules.specs.Premise.{Premise-says}
 use Rattle.text.specs.Text.{numbers-line}
 use Rattle.judge.specs.Printed.{report-for, report-line, refusal-line, printed, header-numbers, facts-line, told}
 use Rattle.judge.specs.Longer.{two-of-start}
 use Rattle.judge.specs.Refused.{unless-passed, unless-stopped}
-use Rattle.judge.specs.Calls.{Reported, Ran, Lines}
+use Rattle.judge.specs.Calls.{Reported, Lines}
 
 -- a header stands in the first 16 bytes
 header-of-start : (r : List ℕ) (n : ℕ) → 15 < n → header-numbers (take n r) ≡ header-numbers r

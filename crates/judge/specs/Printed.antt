@@ -7,7 +7,7 @@ use lib.Dec.{eqb}
 use lib.ListN.{getD, replicate}
 use Rattle.rules.specs.Limits.{most-boards, most-ops, most-inbox, report-size, order-room}
 use Rattle.rules.specs.Sheet.{two, sheet-in}
-use Rattle.rules.specs.Refusal.{Refusal, sheet-refusal}
+use Rattle.rules.specs.Refusal.{sheet-refusal}
 use Rattle.rules.specs.Order.{run}
 use Rattle.rules.specs.Report.{report}
 use Rattle.rules.specs.Premise.{premise-refusal}

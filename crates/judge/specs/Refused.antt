@@ -1,6 +1,6 @@
 -- Which line is printed, by the number of check's refusal: the one for a sheet that it accepts, or number and place.
 -- Assumes nothing.
-use mathlib.Core.Path.{_≡_, _∙_, ap}
+use mathlib.Core.Path.{_≡_, ap}
 use mathlib.Core.Bool.{Bool, cond}
 use mathlib.Core.List.{List}
 use Prim.Native.Nat.{ℕ}

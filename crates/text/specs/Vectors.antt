@@ -1,8 +1,7 @@
 -- Lines that were written by hand, computed: a digit on each side of ten, no zero in front, the largest number of 64 bits.
 -- Assumes nothing.
 use mathlib.Core.Path.{_≡_, refl}
-use mathlib.Core.List.{List, [], _∷_, _++_}
-use Prim.Native.Nat.{ℕ}
+use mathlib.Core.List.{[], _∷_}
 use Rattle.text.specs.Text.{digit-of, pair, decimal-in, decimal, number, line, hex-line, numbers-line}
 
 -- 00 9A FF

@@ -1,7 +1,7 @@
 -- `text::numbers_line` meets its contract. The loop's invariant: the first i numbers stand at the start of the line, up to `at`,
 -- which is at most 21 places a number. The measure is what is left of the numbers but the last. Assumes nothing.
 use mathlib.Core.Path.{refl, _∙_}
-use Prim.Native.Nat.{ℕ, _+_, _*_, _≤_, _<_, _-_}
+use Prim.Native.Nat.{ℕ, _+_, _≤_, _<_, _-_}
 use native.Mathlib.Omega.{arith}
 use lib.ListN.{length, getD, take}
 use lib.Seq.{length-take-le}

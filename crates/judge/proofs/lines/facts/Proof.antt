@@ -1,5 +1,4 @@
 -- `judge::lines::facts` meets its contract: each number is the one that was read. Assumes nothing.
-use mathlib.Core.Path.{refl}
 use Rattle.judge.specs.Printed.{header-numbers}
 use borrow.Author.Needs.{needs}
 use Rattle.judge.proofs.lines.facts.Statement.{statement}

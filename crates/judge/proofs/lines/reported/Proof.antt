@@ -1,7 +1,7 @@
 -- `judge::lines::reported` meets its contract: the text of the report's own bytes, and the numbers that are told of it.
 -- Assumes nothing.
 use mathlib.Core.Path.{_≡_, sym, _∙_, ap}
-use mathlib.Core.List.{List, [], _∷_, _++_}
+use mathlib.Core.List.{List}
 use Prim.Native.Nat.{ℕ, _*_, _≤_}
 use native.Mathlib.Omega.{arith}
 use lib.ListN.{length, take}
@@ -10,7 +10,7 @@ use Rattle.rules.specs.Step.{splice}
 use Rattle.text.specs.Text.{hex-line, numbers-line}
 use Rattle.text.specs.Lines.{line-stands}
 use Rattle.text.specs.Lengths.{hex-line-length, numbers-line-most}
-use Rattle.judge.specs.Printed.{report-for, report-line, header-numbers, facts-line}
+use Rattle.judge.specs.Printed.{report-line, facts-line}
 use Rattle.judge.specs.Outcomes.{facts-long, facts-told}
 use borrow.Author.Needs.{needs}
 use Rattle.judge.proofs.lines.reported.Statement.{statement}

@@ -1,5 +1,4 @@
 -- `judge::lines::run_from_zeros` meets its contract, by what run's contract says of this call. Assumes nothing.
-use mathlib.Core.Path.{_∙_}
 use Rattle.judge.specs.Calls.{ran}
 use borrow.Author.Needs.{needs}
 use Rattle.judge.proofs.lines.run_from_zeros.Statement.{statement}
