@@ -88,7 +88,8 @@ static int block(const char *title, uint32_t mode)
 {
     static const uint8_t payload[] = {0x0B, 0x0C, 0x0D, 0x0E, 0x0F, 0x10, 0x11, 0x12};
     /* number of operations, attached buffer, inbox */
-    const jamturret_board boards[] = {{1, 8, 0}, {0, 0, 8}};
+    const jamturret_board boards[]
+        = {{1, sizeof payload + JAMTURRET_BSEND_OVERHEAD, 0}, {0, 0, sizeof payload}};
     const jamturret_operation operations[] = {jamturret_send(mode, 1, 1, 0, sizeof payload)};
     const jamturret_job job = {1, boards, 2, operations, 1, payload, sizeof payload};
     const size_t sheet_len = JAMTURRET_SHEET(2, 1, sizeof payload);

@@ -144,8 +144,9 @@ jamturret_answer jamturret_check(const uint8_t *sheet, size_t sheet_len);
  * inbox bytes, any two orders that follow accepts and after which no board is
  * able leave the same inboxes and the same report, peaks aside, and so does
  * run. The verdict of one run is then that of every such order. A buffer
- * covers the buffered sends of its board where their lengths add up to at
- * most its size.
+ * covers the buffered sends of its board where their charges, as if none were
+ * matched, add up to at most its size; a charge is the length of a message and
+ * JAMTURRET_BSEND_OVERHEAD.
  */
 jamturret_answer jamturret_premise(const uint8_t *sheet, size_t sheet_len);
 

@@ -27,6 +27,12 @@ extern "C" {
 #define JAMTURRET_MOST_LENGTH 4096 /* of a message, and capacity of a receive */
 #define JAMTURRET_SLOTS 32         /* request slots of a board: 0 to 31 */
 
+/*
+ * What a message in the attached buffer costs beside its bytes, an empty one
+ * too (MPI_BSEND_OVERHEAD; document 02, K2).
+ */
+#define JAMTURRET_BSEND_OVERHEAD 32
+
 /* Any source as the peer of a receive, any tag as its tag. */
 #define JAMTURRET_ANY 65535
 
@@ -113,7 +119,7 @@ enum jamturret_flag {
  */
 typedef struct jamturret_board {
     uint32_t count;    /* operations of its script */
-    uint32_t attached; /* buffer size */
+    uint32_t attached; /* buffer size: length and JAMTURRET_BSEND_OVERHEAD a message */
     uint32_t inbox;    /* inbox size */
 } jamturret_board;
 

@@ -96,6 +96,12 @@ static void kinds(void)
     operations[0].kind = JAMTURRET_KIND_BUFFERED;
     expect_answer("buffered", built(&job), JAMTURRET_SUCCESS, 0);
     expect_answer("buffered", jamturret_premise(sheet, sheet_len), JAMTURRET_UNCOVERED, 0);
+    boards[0].attached = operations[0].length + JAMTURRET_BSEND_OVERHEAD;
+    expect_answer("covered", built(&job), JAMTURRET_SUCCESS, 0);
+    expect_answer("covered", jamturret_premise(sheet, sheet_len), JAMTURRET_SUCCESS, 0);
+    boards[0].attached--;
+    expect_answer("one byte short", built(&job), JAMTURRET_SUCCESS, 0);
+    expect_answer("one byte short", jamturret_premise(sheet, sheet_len), JAMTURRET_UNCOVERED, 0);
     operations[0].kind = JAMTURRET_KIND_SYNCHRONOUS;
     expect_answer("synchronous", built(&job), JAMTURRET_SUCCESS, 0);
     operations[0].kind = JAMTURRET_KIND_READY;

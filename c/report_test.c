@@ -181,24 +181,24 @@ static void expect_unmatched(const char *what, const uint8_t *report, size_t ope
     expect_operation(what, report, operation, row);
 }
 
-/* Five bytes, buffered. They go into an attached buffer of five and not into one of four. */
+/* Five bytes, buffered. They go into an attached buffer of 5 + 32 and not into one byte less. */
 static void buffered_send(void)
 {
     static const unsigned able[]
         = {JAMTURRET_STILL_ABLE, JAMTURRET_NO_RANK, JAMTURRET_NONE, 0, 2, 2, 0, 0, 0};
     static const unsigned at_start[] = {0, 0, 0, JAMTURRET_BOARD_ABLE};
-    static const unsigned in_use[] = {0, 5, 5, JAMTURRET_BOARD_ABLE};
+    static const unsigned in_use[] = {0, 37, 37, JAMTURRET_BOARD_ABLE};
     static const unsigned overflow[] = {JAMTURRET_OVERFLOW, 0, 0, 1, 2, 2, 0, 0, 0};
     static const unsigned stopped[] = {0, 0, 0, JAMTURRET_BOARD_NEITHER};
     const jamturret_operation send = jamturret_send(JAMTURRET_KIND_BUFFERED, 1, 1, 0, 5);
-    const uint8_t *report = followed(&send, 1, 5, 0);
+    const uint8_t *report = followed(&send, 1, 37, 0);
     expect_header("no step", report, able);
     expect_board("no step", report, 0, at_start);
     expect_unmatched("no step", report, 0, JAMTURRET_OPERATION_NOT_ENTERED);
-    report = followed(&send, 1, 5, 1);
+    report = followed(&send, 1, 37, 1);
     expect_board("buffered", report, 0, in_use);
     expect_unmatched("buffered", report, 0, JAMTURRET_OPERATION_BUFFERED);
-    report = followed(&send, 1, 4, 1);
+    report = followed(&send, 1, 36, 1);
     expect_header("overflow", report, overflow);
     expect_board("overflow", report, 0, stopped);
     expect_unmatched("overflow", report, 0, JAMTURRET_OPERATION_NOT_ENTERED);

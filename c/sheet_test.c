@@ -52,7 +52,7 @@ static const uint8_t payload[] = {0x0B, 0x0C, 0x0D, 0x0E, 0x0F, 0x10, 0x11, 0x12
 /* sheets/README.md, Safe only by its buffer: eight bytes to rank 1, which receives nothing. */
 static void block_sample(const char *path, uint32_t mode)
 {
-    const jamturret_board boards[] = {{1, 8, 0}, {0, 0, 8}};
+    const jamturret_board boards[] = {{1, 8 + 32, 0}, {0, 0, 8}};
     const jamturret_operation operations[] = {jamturret_send(mode, 1, 1, 0, 8)};
     const jamturret_job job = {1, boards, 2, operations, 1, payload, 8};
     expect_sample(path, &job);

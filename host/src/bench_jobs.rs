@@ -1,5 +1,5 @@
-//! The bench jobs of document 01 as sheets. Where the document leaves
-//! lengths and tags free, short ones are chosen.
+//! The bench jobs of document 01 as sheets, as document 02 has changed them.
+//! Where they leave lengths and tags free, short ones are chosen.
 
 use crate::layout::kind::{BUFFERED, READY, STANDARD, SYNCHRONOUS};
 use crate::layout::ANY;
@@ -34,7 +34,7 @@ pub fn case_2() -> Sheet {
         Operation::receive(0, ANY, 0, 4),
         Operation::receive(0, 5, 4, 4),
     ];
-    job(&[&sends, &receives]).attach(0, 5)
+    job(&[&sends, &receives]).attach(0, 3 + 32 + 2 + 32)
 }
 
 /// Buffered tag 1, synchronous tag 2; receives tag 2, tag 1.
@@ -152,18 +152,20 @@ pub fn case_13_nothing() -> Sheet {
     job(&[&[], &[]])
 }
 
-/// An empty buffered send with nothing attached.
-pub fn case_13_empty_send() -> Sheet {
-    job(&[&[Operation::send(BUFFERED, 1, 0, 0, 0)], &[]])
+/// An empty buffered send.
+pub fn case_13_empty_send(attached: u16) -> Sheet {
+    job(&[&[Operation::send(BUFFERED, 1, 0, 0, 0)], &[]]).attach(0, attached)
 }
 
-/// `operations` empty buffered sends of one board.
+/// One board with this many operations: 512 empty buffered sends to itself,
+/// which fill the largest buffer, and then receives.
 pub fn case_14_operations(operations: usize) -> Sheet {
-    let script = vec![Operation::send(BUFFERED, 0, 0, 0, 0); operations];
+    let mut script = vec![Operation::send(BUFFERED, 0, 0, 0, 0); 512];
+    script.resize(operations, Operation::receive(0, 0, 0, 0));
     Sheet {
         communicators: 1,
         boards: vec![Board {
-            attached: 0,
+            attached: 16_384,
             inbox: 0,
             script,
         }],
@@ -186,8 +188,8 @@ pub fn accepted() -> Vec<(&'static str, Sheet)> {
     vec![
         ("1", case_1()),
         ("2", case_2()),
-        ("3", case_3(3)),
-        ("3, attached one byte short", case_3(2)),
+        ("3", case_3(3 + 32)),
+        ("3, attached one byte short", case_3(3 + 31)),
         ("4", case_4()),
         ("5", case_5()),
         ("6", case_6()),
@@ -201,7 +203,9 @@ pub fn accepted() -> Vec<(&'static str, Sheet)> {
         ("12", case_12()),
         ("13, communicators", case_13_communicators()),
         ("13, no operations", case_13_nothing()),
-        ("13, empty send", case_13_empty_send()),
+        ("13, empty send", case_13_empty_send(0)),
+        ("13, empty send, attached 31", case_13_empty_send(31)),
+        ("13, empty send, attached 32", case_13_empty_send(32)),
         ("14, N 1,024", case_14_operations(1024)),
         ("14, tag 32,767", case_14_tag(32_767)),
         ("14, slot 31", case_14_slot(31)),

@@ -1,5 +1,6 @@
 //! Where the fields of a sheet stand and their limits (document 01, The
-//! sheet, byte by byte). All numbers are little-endian.
+//! sheet, byte by byte), and what a buffered message costs (document 02, K2).
+//! All numbers are little-endian.
 
 pub const HEADER_BYTES: usize = 16;
 pub const BOARD_BYTES: usize = 8;
@@ -14,6 +15,8 @@ pub const MOST_INBOX_TOTAL: usize = 16_384;
 pub const MOST_LENGTH: u16 = 4096;
 pub const MOST_TAG: u16 = 32_767;
 pub const SLOTS: usize = 32;
+/// A buffered message is charged its length and this.
+pub const BSEND_OVERHEAD: usize = 32;
 /// Any source in a receive's peer, any tag in its tag.
 pub const ANY: u16 = 65_535;
 

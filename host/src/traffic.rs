@@ -3,10 +3,9 @@
 //! sixteen boards, and messages of 4,096 bytes.
 
 use crate::layout::kind::{BUFFERED, STANDARD};
-use crate::layout::{MOST_BOARDS, MOST_LENGTH, MOST_PAYLOAD};
+use crate::layout::{BSEND_OVERHEAD, MOST_BOARDS, MOST_LENGTH, MOST_PAYLOAD};
 use crate::sheet::{Board, Operation, Sheet};
 
-/// An empty message is covered by any attached buffer.
 fn empty_send(to: usize) -> Operation {
     Operation::send(BUFFERED, to as u16, 0, 0, 0)
 }
@@ -15,9 +14,15 @@ fn empty_receive(from: usize) -> Operation {
     Operation::receive(from as u16, 0, 0, 0)
 }
 
+/// Each board has attached what its empty messages cost.
 fn of_scripts(scripts: Vec<Vec<Operation>>) -> Sheet {
     let scripts: Vec<&[Operation]> = scripts.iter().map(Vec::as_slice).collect();
-    Sheet::of_scripts(&scripts, 0)
+    let mut sheet = Sheet::of_scripts(&scripts, 0);
+    for board in &mut sheet.boards {
+        let sends = board.script.iter().filter(|each| each.kind == BUFFERED);
+        board.attached = (BSEND_OVERHEAD * sends.count()) as u16;
+    }
+    sheet
 }
 
 /// Each board sends to the next and receives from the one before, in turn.

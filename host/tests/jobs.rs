@@ -121,23 +121,23 @@ fn case_2_first_to_first() {
     outcome.ends(FINISHED, &[0, 0, 0, 0, 1, 1, 1, 1]);
     outcome.matched(0, 2);
     outcome.matched(1, 3);
-    outcome.board(0, (2, 0, 5, 2));
+    outcome.board(0, (2, 0, 69, 2));
     outcome.inbox(&[(INBOX_1, &[1, 2, 3]), (INBOX_1 + 4, &[4, 5])]);
 }
 
 #[test]
 fn case_3_crosswise() {
-    let outcome = run(&bench_jobs::case_3(3));
+    let outcome = run(&bench_jobs::case_3(35));
     outcome.ends(FINISHED, &[0, 0, 0, 1, 0, 1, 1, 1]);
     outcome.matched(0, 3);
     outcome.matched(1, 2);
-    outcome.board(0, (2, 0, 3, 2));
+    outcome.board(0, (2, 0, 35, 2));
     outcome.inbox(&[(INBOX_1, &[4, 5]), (INBOX_1 + 4, &[1, 2, 3])]);
 }
 
 #[test]
 fn case_3_one_byte_short() {
-    let outcome = run(&bench_jobs::case_3(2));
+    let outcome = run(&bench_jobs::case_3(34));
     outcome.ends(OVERFLOW, &[0]);
     outcome.stopped_at(0, 0);
     outcome.counts(0, 0, 0);
@@ -259,11 +259,45 @@ fn case_13_small_ones() {
     outcome.counts(1, 1, 0);
 
     run(&bench_jobs::case_13_nothing()).ends(FINISHED, &[]);
+}
 
-    let outcome = run(&bench_jobs::case_13_empty_send());
+/// An empty message costs 32.
+#[test]
+fn case_13_empty_send() {
+    for attached in [0, 31] {
+        let outcome = run(&bench_jobs::case_13_empty_send(attached));
+        outcome.ends(OVERFLOW, &[0]);
+        outcome.stopped_at(0, 0);
+        outcome.board(0, (0, 0, 0, 0));
+    }
+    let outcome = run(&bench_jobs::case_13_empty_send(32));
     outcome.ends(FINISHED, &[0, 0]);
     outcome.counts(1, 0, 0);
     assert_eq!(outcome.row(0)[0], 2);
+    outcome.board(0, (1, 32, 32, 2));
+}
+
+/// A buffered send that meets a posted receive is charged nothing.
+#[test]
+fn matched_at_once() {
+    let send = Operation::send(BUFFERED, 1, 0, 0, 3);
+    let receive = Operation::receive(0, 0, 0, 4);
+    let sheet = Sheet::of_scripts(&[&[send], &[receive]], 16);
+    let outcome = follow(&sheet, &[1, 0, 0, 1]);
+    assert_eq!(outcome.desk.report[0], FINISHED);
+    outcome.matched(0, 1);
+    outcome.board(0, (1, 0, 0, 2));
+}
+
+/// 512 empty messages fill the largest buffer, and every receive gives 32 back.
+#[test]
+fn case_14_fills_the_largest_buffer() {
+    let sheet = bench_jobs::case_14_operations(1024);
+    let outcome = run(&sheet);
+    assert_eq!(outcome.desk.report[0], FINISHED);
+    outcome.board(0, (1024, 0, 16_384, 2));
+    let outcome = follow(&sheet, &[0; 1026]);
+    outcome.board(0, (513, 16_384 - 32, 16_384, 1));
 }
 
 /// A beginning of an order is a report of its own.
@@ -290,12 +324,12 @@ fn slots_are_told_apart() {
     let never = Operation::receive(1, 9, 0, 4).nonblocking(0);
     let empty = Operation::send(BUFFERED, 1, 0, 0, 0).nonblocking(1);
     let waits_for_1 = [never, empty, Operation::wait(1), empty, Operation::wait(1)];
-    let outcome = run(&Sheet::of_scripts(&[&waits_for_1, &[]], 16));
+    let outcome = run(&Sheet::of_scripts(&[&waits_for_1, &[]], 16).attach(0, 64));
     outcome.ends(FINISHED, &[0; 5]);
     outcome.counts(2, 1, 0);
 
     let waits_for_0 = [empty, Operation::wait(1), never, Operation::wait(0)];
-    let outcome = run(&Sheet::of_scripts(&[&waits_for_0, &[]], 16));
+    let outcome = run(&Sheet::of_scripts(&[&waits_for_0, &[]], 16).attach(0, 64));
     outcome.ends(DEADLOCK, &[0; 3]);
-    outcome.board(0, (3, 0, 0, 0));
+    outcome.board(0, (3, 32, 32, 0));
 }

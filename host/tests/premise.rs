@@ -52,14 +52,19 @@ fn buffers_cover_all_buffered_sends_of_their_board() {
     let others = [send(STANDARD, 9), send(SYNCHRONOUS, 9)];
     let buffered = [send(BUFFERED, 5), send(BUFFERED, 6).nonblocking(0)];
     let script = [buffered, others].concat();
-    expect("covered", &sheet(&script, 12), 0, 0);
-    expect("covered exactly", &sheet(&script, 11), 0, 0);
-    expect("a byte short", &sheet(&script, 10), 22, 0);
-    expect("either alone covered", &sheet(&script, 6), 22, 0);
+    expect("covered", &sheet(&script, 76), 0, 0);
+    expect("covered exactly", &sheet(&script, 5 + 6 + 64), 0, 0);
+    expect("a byte short", &sheet(&script, 74), 22, 0);
+    expect("one overhead", &sheet(&script, 5 + 6 + 32), 22, 0);
+    expect("either alone covered", &sheet(&script, 6 + 32), 22, 0);
+    expect("lengths covered", &sheet(&script, 5 + 6), 22, 0);
     let both = Sheet::of_scripts(&[&[send(BUFFERED, 5)], &[send(BUFFERED, 6)]], 8);
-    let both = both.attach(0, 5);
-    expect("rank 1", &both.clone().attach(1, 5).bytes(), 22, 1);
-    expect("each its own", &both.attach(1, 6).bytes(), 0, 0);
+    let both = both.attach(0, 37);
+    expect("rank 1", &both.clone().attach(1, 37).bytes(), 22, 1);
+    expect("each its own", &both.attach(1, 38).bytes(), 0, 0);
+    let empty = [send(BUFFERED, 0)];
+    expect("empty", &sheet(&empty, 32), 0, 0);
+    expect("empty, a byte short", &sheet(&empty, 31), 22, 0);
 }
 
 /// More charges than 16 bits hold.
@@ -68,7 +73,7 @@ fn charges_do_not_wrap() {
     let mut many = Sheet::of_scripts(&[&[send(BUFFERED, 4096); 17]], 0);
     many.payload = vec![7; 4096];
     many.boards[0].script.iter_mut().for_each(|op| op.peer = 0);
-    expect("69,632", &many.attach(0, 16_384).bytes(), 22, 0);
+    expect("70,176", &many.attach(0, 16_384).bytes(), 22, 0);
 }
 
 #[test]

@@ -30,12 +30,13 @@
 //! The same eight bytes sent buffered and sent synchronously:
 //!
 //! ```
+//! use jamturret::limits::BSEND_OVERHEAD;
 //! use jamturret::{premise, run, Board, BuildError, Mode, OperationState};
 //! use jamturret::{SendOperation, Sheet, Verdict};
 //!
 //! fn block(mode: Mode) -> Result<Sheet, BuildError> {
 //!     let send = SendOperation::new(mode, 1).tag(1).bytes(0, 8);
-//!     let sender = Board::new().attached(8).then(send);
+//!     let sender = Board::new().attached(8 + BSEND_OVERHEAD).then(send);
 //!     let receiver = Board::new().inbox(8);
 //!     Sheet::build(1, vec![sender, receiver], b"RECORDER")
 //! }
@@ -47,6 +48,7 @@
 //! assert_eq!(outcome.report.pending_messages(), 1);
 //! let row = outcome.report.operation(0).ok_or("a row")?;
 //! assert_eq!(row.state, OperationState::Buffered);
+//! assert_eq!(outcome.report.board(0).ok_or("a row")?.in_use, 40);
 //! assert_eq!(outcome.inboxes[1], [0; 8]);
 //!
 //! // Synchronous: the same job deadlocks.
@@ -65,7 +67,9 @@
 //!
 //! **Finished is not delivered.** A buffered send is complete once it is in
 //! its sender's buffer, whether or not anybody takes it. Look at
-//! [`Report::pending_messages`] beside the verdict.
+//! [`Report::pending_messages`] beside the verdict. In the buffer a message
+//! costs its length and [`limits::BSEND_OVERHEAD`]; without room for both the
+//! job stops with [`Verdict::Overflow`].
 //!
 //! **A run's verdict holds for one order**, the one that [`run`] chooses. It is
 //! known to hold for every full order exactly where [`premise()`] holds;

@@ -1,4 +1,4 @@
-//! The numbers of document 01, each named once: the limits of a sheet (The
+//! The numbers of the rules, each named once: the limits of a sheet (The
 //! sheet, byte by byte), the sizes of its tables and of a report's rows (The
 //! report), and the rooms that are lent (When the desk says no).
 //!
@@ -14,6 +14,9 @@ pub const MOST_OPERATIONS: usize = 1_024;
 pub const MOST_PAYLOAD: usize = 16_384;
 /// The largest buffer that a board can have attached.
 pub const MOST_ATTACHED: usize = 16_384;
+/// What a message in an attached buffer costs beside its bytes, an empty one
+/// too (`MPI_BSEND_OVERHEAD`; document 02, K2).
+pub const BSEND_OVERHEAD: usize = 32;
 /// Most inbox bytes of a sheet, all boards together.
 pub const MOST_INBOXES: usize = 16_384;
 /// The longest message of a send, and the largest capacity of a receive.

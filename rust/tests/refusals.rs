@@ -5,7 +5,7 @@ mod common;
 
 use common::sample;
 use jamturret::lent::{self, Answer};
-use jamturret::limits::{order_room, report_room, SCRATCH_ROOM};
+use jamturret::limits::{order_room, report_room, BSEND_OVERHEAD, SCRATCH_ROOM};
 use jamturret::{
     check, follow, premise, run, Board, Mode, Operation, Premise, ReceiveOperation, Refusal, Room,
     SendOperation, Sheet, Source,
@@ -228,7 +228,7 @@ fn premises() {
     );
 }
 
-/// Two buffered sends of two bytes each need four attached.
+/// Two buffered sends of two bytes each need 2 + 32 twice.
 #[test]
 fn uncovered_buffer() {
     let send = SendOperation::new(Mode::Buffered, 0).bytes(0, 2);
@@ -237,11 +237,13 @@ fn uncovered_buffer() {
         let sheet = Sheet::build(1, vec![Board::new(), board], &[0; 2]);
         premise(sheet.expect("every number fits")).expect("the sheet passes")
     };
-    assert_eq!(said(4), Premise::Holds);
-    assert_eq!(said(3), Premise::Uncovered { rank: 1 });
-    assert_eq!((said(3).number(), said(3).place()), (22, 1));
+    assert_eq!(said(68), Premise::Holds);
+    assert_eq!(said(2 * (2 + BSEND_OVERHEAD)), Premise::Holds);
+    assert_eq!(said(2 * (2 + BSEND_OVERHEAD) - 1).number(), 22);
+    assert_eq!(said(67), Premise::Uncovered { rank: 1 });
+    assert_eq!((said(67).number(), said(67).place()), (22, 1));
     assert_eq!(
-        said(3).to_string(),
+        said(67).to_string(),
         "number 22, place 1: another order may end otherwise: \
          the attached buffer of rank 1 does not cover its buffered sends"
     );

@@ -140,7 +140,7 @@ fn verdicts() {
     assert_eq!(buffered.verdict(), Verdict::Finished);
     assert_eq!((buffered.steps(), buffered.pending_messages()), (2, 1));
     let sender = buffered.board(0).expect("rank 0");
-    assert_eq!((sender.in_use, sender.peak), (8, 8));
+    assert_eq!((sender.in_use, sender.peak), (40, 40));
     let row = buffered.operation(0).expect("operation 0");
     assert_eq!(row.state, OperationState::Buffered);
 

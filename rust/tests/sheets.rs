@@ -45,7 +45,7 @@ fn blocks_that_nobody_receives() {
         ("block-synchronous", Mode::Synchronous),
     ] {
         let sender = Board::new()
-            .attached(8)
+            .attached(8 + 32)
             .then(send(mode, 1).tag(1).bytes(0, 8));
         is_sample(name, vec![sender, Board::new().inbox(8)], 8);
     }

@@ -37,7 +37,7 @@ fn larger(x: usize, y: usize) -> usize
     if x < y { y } else { x }
 }
 
-// An unmatched buffered send of n bytes is charged where there is room; else the account is as it was, and the answer says so.
+// A charge of n bytes is taken where there is room; else the account is as it was, and the answer says so.
 pub fn take(a: Account, n: usize) -> Outcome
     ensures { λ r. ⌜ (r .account ≡ taken a n) × (r .ok ≡ has-room a n) ⌝ }
 {
@@ -60,7 +60,7 @@ pub fn take(a: Account, n: usize) -> Outcome
     }
 }
 
-// A buffered message of n bytes is matched: its charge goes, the peak stays.
+// A buffered message is matched: its charge of n bytes goes, the peak stays.
 pub fn give_back(a: Account, n: usize) -> Account
     ensures { λ r. ⌜ r ≡ given-back a n ⌝ }
 {

@@ -22,11 +22,12 @@ fn crc_lines() {
     crc_line(&many);
 }
 
-// Document 01, "Bench jobs", 13.
+// Document 01, "Bench jobs", 13; the empty buffered send with nothing attached, and with the 32 bytes that it costs.
 fn thirteen() {
     job(b"13-communicators-apart.sheet");
     job(b"13-no-operations.sheet");
     job(b"13-empty-buffered.sheet");
+    job(b"13-empty-buffered-32.sheet");
 }
 
 // Document 01, "Bench jobs", 14.

@@ -1,4 +1,4 @@
-// The numbers of document 01, each under the name that rules/specs/Limits gives it. Code cites the names; a change of a number
+// The numbers of documents 01 and 02, each under the name that rules/specs/Limits gives it. Code cites the names; a change of one
 // is made there and here.
 ghost use mathlib.Core.Path.{_≡_};
 ghost use Prim.Native.Nat.{_<_};
@@ -17,6 +17,9 @@ pub const MOST_PAYLOAD: usize = 16384;
 pub const MOST_ATTACHED: usize = 16384;
 
 pub const MOST_INBOX: usize = 16384;
+
+// What a buffered message costs in an attached buffer beside its bytes (MPI_BSEND_OVERHEAD).
+pub const BSEND_OVERHEAD: usize = 32;
 
 // Tags are below this, lengths and capacities at most that, request slots below that.
 pub const TAG_LIMIT: usize = 32768;

@@ -18,7 +18,7 @@ pub record Summed (s : Sheet) (r i end sum : ℕ) : Type 0 where
   pub end-is : end ≡ board s r .first + board s r .count
   pub inside : end ≤ N-of s
   pub sum-is : sum ≡ charges-from s (board s r .first) (i - board s r .first)
-  pub small : sum ≤ 65536 * (i - board s r .first)
+  pub small : sum ≤ 131072 * (i - board s r .first)
 
 pub summed-none : {s : Sheet} {r i end : ℕ} → Tabled s → r < P-of s → i ≡ board s r .first → end ≡ i + board s r .count → Summed s r i end 0
 summed-none {s} {r} {i} {end} t l a b =
@@ -34,7 +34,7 @@ summed-none {s} {r} {i} {end} t l a b =
 
 module _ {s : Sheet} {r i end sum : ℕ} (q : Summed s r i end sum) where
   -- one operation more, with what it would be charged
-  pub summed-more : i < end → (v : ℕ) → v ≡ cond (is-buffered (op s i)) (charge-of (op s i)) 0 → v < 65536
+  pub summed-more : i < end → (v : ℕ) → v ≡ cond (is-buffered (op s i)) (charge-of (op s i)) 0 → v < 131072
       → Summed s r (i + 1) end (sum + v)
   summed-more l v e small =
       let from = board s r .first in

@@ -1,22 +1,24 @@
 -- Why demand 3 asks for calm sheets and sets the peaks aside. Each of the three conditions of calm is needed: with the other
 -- two alone there is a sheet with two orders that follow accepts, after which no board is able, and whose reports differ in
--- more than peaks. And on a calm sheet the peaks may differ. Each sheet is written as a bench job and computed.
+-- more than peaks. It does not suffice either that buffers cover the lengths of their messages without the overhead. And on a
+-- calm sheet the peaks may differ. Each sheet is written as a bench job and computed.
 --   calm-parts          calm is these three conditions
 --   Ends-alike-on       two full orders end alike, on the sheets that pass a test
 --   Pair-of-orders      a sheet, and two orders
 --   apart-refutes       a pair that ends apart refutes Ends-alike-on
---   any-source-matters, ready-matters, cover-matters, peaks-matter
+--   any-source-matters, ready-matters, cover-matters, overhead-matters, peaks-matter
 -- Assumes nothing.
 use mathlib.Core.Path.{_≡_, refl, ap, subst, _∙_}
-use mathlib.Core.Bool.{Bool, true, false, _&&_, not}
+use mathlib.Core.Bool.{Bool, true, false, _&&_, not, cond}
 use mathlib.Core.List.{List, [], _∷_}
-use Prim.Native.Nat.{ℕ, _≤_}
+use Prim.Native.Nat.{ℕ, _+_, _≤_}
 use lib.Dec.{leb}
 use lib.ListN.{length}
 use borrow.Author.Tests.{leb-true, not-true, eq-eqb}
-use Rattle.rules.specs.Sheet.{Sheet, Op, P-of, is-ready, inbox-total, sheet-in}
+use Rattle.rules.specs.Sheet.{Sheet, Op, P-of, is-ready, is-buffered, inbox-total, sheet-in}
 use Rattle.rules.specs.Order.{none-able}
 use Rattle.rules.specs.Report.{report}
+use Rattle.rules.specs.Claims as claims
 use Rattle.rules.specs.Claims.{passes, is-any-source, none-wild, all-covered, calm, accepts, left-by, without-peaks, Alike}
 use Rattle.rules.specs.BenchJob.{buffered, any, send, receive, script, Draft, draft, draft-bytes, same, all}
 use Rattle.rules.specs.BenchNumbered.{ready-sheet, any-source-sheet}
@@ -33,7 +35,15 @@ no-ready s = all (λ o. not (is-ready o)) (s .ops)
 unfoldable pub covered : Sheet → Bool
 covered s = all-covered (s .boards) (s .ops)
 
--- together they are calm
+-- too little: on each board the lengths of all its buffered sends add up to at most its attached size
+unfoldable pub all-lengths : List Op → ℕ
+all-lengths [] = 0
+all-lengths (o ∷ os) = cond (is-buffered o) (o .long) 0 + all-lengths os
+
+unfoldable pub lengths-covered : Sheet → Bool
+lengths-covered s = all (λ b. leb (all-lengths (claims.script b (s .ops))) (b .attached)) (s .boards)
+
+-- the three conditions together are calm
 wild-parts : (os : List Op) → none-wild os ≡ all (λ o. not (is-any-source o)) os && all (λ o. not (is-ready o)) os
 unfolding none-wild all
 wild-parts [] = refl
@@ -158,20 +168,38 @@ ready-pair =
       other = 1 ∷ 0 ∷ 0 ∷ 1 ∷ [];
     }
 
--- bench job 2 with a buffer of `attached` bytes for two buffered sends of 2 and 3 bytes
+-- bench job 2 with a buffer of `attached` bytes for two buffered sends, charged 2 + 32 and 3 + 32
 unfoldable pub two-buffered : (attached crc : ℕ) → Draft
 two-buffered attached crc =
     draft 1 crc (11 ∷ 12 ∷ 13 ∷ 14 ∷ 15 ∷ [])
     (script attached 0 (send buffered 1 0 4 0 2 ∷ send buffered 1 0 4 2 3 ∷ [])
     ∷ script 0 6 (receive 0 0 any 0 3 ∷ receive 0 0 4 3 3 ∷ []) ∷ [])
 
--- one byte short: the second send overflows, or finds its receive posted
+-- one byte short
+abbrev pub uncovered-sheet : Draft
+uncovered-sheet = two-buffered 68 0x47ca
+
+-- enough for the lengths, 2 and 3, and not for the overhead
+abbrev pub lengths-sheet : Draft
+lengths-sheet = two-buffered 5 0x89d5
+
+-- the second send overflows, or finds its receive posted
 unfoldable pub uncovered-pair : Pair-of-orders
 uncovered-pair =
     record {
-      sheet = two-buffered 4 0x15cf;
+      sheet = uncovered-sheet;
       inbox = 0 ∷ 0 ∷ 0 ∷ 0 ∷ 0 ∷ 0 ∷ [];
       one = 0 ∷ 0 ∷ 0 ∷ [];
+      other = 1 ∷ 0 ∷ 0 ∷ 1 ∷ 1 ∷ 0 ∷ 0 ∷ 1 ∷ [];
+    }
+
+-- the first send overflows, or each finds its receive posted
+unfoldable pub lengths-pair : Pair-of-orders
+lengths-pair =
+    record {
+      sheet = lengths-sheet;
+      inbox = 0 ∷ 0 ∷ 0 ∷ 0 ∷ 0 ∷ 0 ∷ [];
+      one = 0 ∷ [];
       other = 1 ∷ 0 ∷ 0 ∷ 1 ∷ 1 ∷ 0 ∷ 0 ∷ 1 ∷ [];
     }
 
@@ -179,7 +207,7 @@ uncovered-pair =
 unfoldable pub calm-pair : Pair-of-orders
 calm-pair =
     record {
-      sheet = two-buffered 5 0x89d5;
+      sheet = two-buffered 69 0xdbd0;
       inbox = 0 ∷ 0 ∷ 0 ∷ 0 ∷ 0 ∷ 0 ∷ [];
       one = 0 ∷ 0 ∷ 0 ∷ 0 ∷ 1 ∷ 1 ∷ 1 ∷ 1 ∷ [];
       other = 1 ∷ 0 ∷ 0 ∷ 1 ∷ 1 ∷ 0 ∷ 0 ∷ 1 ∷ [];
@@ -206,6 +234,10 @@ uncovered-apart : ends-apart (λ s. no-any-source s && no-ready s) uncovered-pai
 unfolding definitions ends-apart no-any-source no-ready uncovered-pair two-buffered
 uncovered-apart = refl
 
+lengths-apart : ends-apart (λ s. (no-any-source s && no-ready s) && lengths-covered s) lengths-pair ≡ true
+unfolding definitions ends-apart no-any-source no-ready lengths-covered all-lengths lengths-pair two-buffered
+lengths-apart = refl
+
 -- receives from any source cannot be allowed
 pub any-source-matters : Ends-alike-on (λ s. no-ready s && covered s) → ⊥
 any-source-matters = apart-refutes (λ s. no-ready s && covered s) any-source-pair any-source-apart
@@ -217,6 +249,10 @@ ready-matters = apart-refutes (λ s. no-any-source s && covered s) ready-pair re
 -- nor buffers that the charges may outgrow
 pub cover-matters : Ends-alike-on (λ s. no-any-source s && no-ready s) → ⊥
 cover-matters = apart-refutes (λ s. no-any-source s && no-ready s) uncovered-pair uncovered-apart
+
+-- nor buffers that cover the lengths and not the charges
+pub overhead-matters : Ends-alike-on (λ s. (no-any-source s && no-ready s) && lengths-covered s) → ⊥
+overhead-matters = apart-refutes (λ s. (no-any-source s && no-ready s) && lengths-covered s) lengths-pair lengths-apart
 
 -- and on a calm sheet peaks differ where all else is equal
 pub peaks-matter : peaks-apart calm-pair ≡ true

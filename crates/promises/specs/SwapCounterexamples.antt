@@ -1,10 +1,10 @@
 -- Why demand 3 asks for calm sheets where two neighbouring able steps are exchanged: with two of the three conditions of calm
 -- alone there is a sheet, a beginning of an order and two able ranks whose exchange leaves reports that differ in more than
--- peaks. The sheets are those of Counterexamples, computed.
+-- peaks; and so where buffers cover lengths and not charges. The sheets are those of Counterexamples, computed.
 --   Swap-same-on      an exchange leaves jobs alike, on the sheets that pass a test
 --   Exchange          a sheet, a beginning, two ranks and what follows them
 --   swap-refutes      an exchange that ends apart refutes Swap-same-on
---   any-source-swap-matters, ready-swap-matters, cover-swap-matters
+--   any-source-swap-matters, ready-swap-matters, cover-swap-matters, overhead-swap-matters
 -- Assumes nothing.
 use mathlib.Core.Path.{_≡_, refl, subst, _∙_}
 use mathlib.Core.Logic.{_≢_}
@@ -22,7 +22,8 @@ use Rattle.rules.specs.BenchJob.{Draft, draft-bytes, same}
 use Rattle.rules.specs.BenchNumbered.{ready-sheet, any-source-sheet}
 use Rattle.rules.specs.Definitions.{definitions}
 use Rattle.laws.specs.Tests.{and-left, and-right, true-not-false}
-use Rattle.promises.specs.Counterexamples.{no-any-source, no-ready, covered, two-buffered, same-refl}
+use Rattle.promises.specs.Counterexamples.{no-any-source, no-ready, covered, lengths-covered, all-lengths}
+use Rattle.promises.specs.Counterexamples.{two-buffered, uncovered-sheet, lengths-sheet, same-refl}
 
 -- demand 3's claim about exchanged steps, on the sheets that pass a test
 unfoldable pub Swap-same-on : (Sheet → Bool) → Type 0
@@ -139,9 +140,21 @@ ready-exchange =
 unfoldable pub uncovered-exchange : Exchange
 uncovered-exchange =
     record {
-      sheet = two-buffered 4 0x15cf;
+      sheet = uncovered-sheet;
       inbox = 0 ∷ 0 ∷ 0 ∷ 0 ∷ 0 ∷ 0 ∷ [];
       before = 0 ∷ 0 ∷ [];
+      one = 0;
+      other = 1;
+      after = [];
+    }
+
+-- a buffer for two lengths: the first send before its receive, or after it
+unfoldable pub lengths-exchange : Exchange
+lengths-exchange =
+    record {
+      sheet = lengths-sheet;
+      inbox = 0 ∷ 0 ∷ 0 ∷ 0 ∷ 0 ∷ 0 ∷ [];
+      before = [];
       one = 0;
       other = 1;
       after = [];
@@ -159,6 +172,10 @@ uncovered-apart : swaps-apart (λ s. no-any-source s && no-ready s) uncovered-ex
 unfolding definitions swaps-apart no-any-source no-ready uncovered-exchange two-buffered
 uncovered-apart = refl
 
+lengths-apart : swaps-apart (λ s. (no-any-source s && no-ready s) && lengths-covered s) lengths-exchange ≡ true
+unfolding definitions swaps-apart no-any-source no-ready lengths-covered all-lengths lengths-exchange two-buffered
+lengths-apart = refl
+
 -- THE LAWS: what calm still asks when one of its conditions is dropped
 pub any-source-swap-matters : Swap-same-on (λ s. no-ready s && covered s) → ⊥
 any-source-swap-matters = swap-refutes (λ s. no-ready s && covered s) any-source-exchange any-source-apart
@@ -168,3 +185,6 @@ ready-swap-matters = swap-refutes (λ s. no-any-source s && covered s) ready-exc
 
 pub cover-swap-matters : Swap-same-on (λ s. no-any-source s && no-ready s) → ⊥
 cover-swap-matters = swap-refutes (λ s. no-any-source s && no-ready s) uncovered-exchange uncovered-apart
+
+pub overhead-swap-matters : Swap-same-on (λ s. (no-any-source s && no-ready s) && lengths-covered s) → ⊥
+overhead-swap-matters = swap-refutes (λ s. (no-any-source s && no-ready s) && lengths-covered s) lengths-exchange lengths-apart

@@ -1,7 +1,8 @@
 -- The bench (document 01, "Bench jobs" and "When the desk says no"): the jobs of BenchNumbered and BenchFurther in one list, the
 -- calls of BenchRefused and those of BenchRooms, each under one claim, which the checker computes. A job: its sheet passes check,
 -- its order is taken, report and inboxes come out as written by hand. The edits in must-fail/ put wrong definitions in the place
--- of those tested here; a claim refuses each. A claim cites the one before it: once one is refused the rest is not computed.
+-- of those tested here; a claim refuses each. A claim cites the one before it, the first that of BenchPremise: once one is refused
+-- the rest is not computed.
 -- Assumes nothing.
 use mathlib.Core.Path.{_≡_, refl}
 use mathlib.Core.Bool.{Bool, true}
@@ -12,6 +13,7 @@ use Rattle.rules.specs.BenchFurther.{further-jobs}
 use Rattle.rules.specs.BenchRefusal.{as-answered}
 use Rattle.rules.specs.BenchRefused.{bench-calls}
 use Rattle.rules.specs.BenchRooms.{bench-rooms}
+use Rattle.rules.specs.BenchPremise.{questions-answered}
 use Rattle.rules.specs.Definitions.{definitions}
 
 unfoldable pub bench-jobs : List BenchJob
@@ -19,7 +21,9 @@ bench-jobs = numbered-jobs ++ further-jobs
 
 pub bench-jobs-hold : all as-expected bench-jobs ≡ true
 unfolding bench-jobs definitions
-bench-jobs-hold = refl
+bench-jobs-hold =
+    let before = questions-answered in
+    refl
 
 -- each call answers the number and the place that it must
 pub bench-calls-hold : all as-answered bench-calls ≡ true

@@ -1,10 +1,18 @@
 -- Further bench jobs, for the slips that document 01 lists and for rules that jobs 1 to 12 leave untested: fits, posted
 -- receives, charges, waits, orders that stop early. Worked out by hand; BenchNumbered says how to read them. Assumes nothing.
 use mathlib.Core.List.{List, [], _∷_}
+use Prim.Native.Nat.{ℕ}
 use Rattle.rules.specs.BenchJob.{standard, buffered, synchronous, any, Line, send, isend, receive, ireceive, wait, Script, script, Draft, draft}
 use Rattle.rules.specs.BenchJob.{Drive, runs, follows, Verdict, still-able, finished, deadlock, overflow, Match, _meets_, Row, row}
 use Rattle.rules.specs.BenchJob.{_becomes_, pending, cut, told, BenchJob, bench, bench-whole}
 use Rattle.rules.specs.BenchNumbered.{case-1-sheet, nonblocking-sheet}
+
+-- an empty buffered send and no receive, with `attached` bytes
+abbrev pub empty-buffered : (attached crc : ℕ) → Draft
+empty-buffered attached crc =
+    draft 1 crc []
+    (script attached 0 (send buffered 1 0 0 0 0 ∷ [])
+    ∷ script 0 0 [] ∷ [])
 
 unfoldable pub further-jobs : List BenchJob
 further-jobs =
@@ -67,43 +75,43 @@ further-jobs =
     (follows (1 ∷ 0 ∷ 0 ∷ 1 ∷ []))
     (told finished 4 (0 meets 1 ∷ []) (pending 0 0) (cut 0) (row 1 0 0 2 ∷ row 1 0 0 2 ∷ []))
     ((90 ∷ 91 ∷ []) becomes (11 ∷ 12 ∷ []))
-    -- H. Charges go at the match, and the peak stays: 4, then 4 and 2, then 2, then 2 and 3 of 6 bytes. The order stops
-    -- early, rank 1 being able: verdict 0. Two sends share payload bytes
+    -- H. Charges go at the match, and the peak stays: 4 + 32, then 2 + 32 beside it, then 2 + 32 alone, then 3 + 32 beside it,
+    -- of 70 bytes. The order stops early, rank 1 being able: verdict 0. Two sends share payload bytes
     ∷ bench-whole
-    (draft 1 0xadc5 (11 ∷ 12 ∷ 13 ∷ 14 ∷ 15 ∷ 16 ∷ [])
-    (script 6 0 (send buffered 1 0 1 0 4 ∷ send buffered 1 0 2 4 2 ∷ send buffered 1 0 3 1 3 ∷ [])
+    (draft 1 0xd272 (11 ∷ 12 ∷ 13 ∷ 14 ∷ 15 ∷ 16 ∷ [])
+    (script 70 0 (send buffered 1 0 1 0 4 ∷ send buffered 1 0 2 4 2 ∷ send buffered 1 0 3 1 3 ∷ [])
     ∷ script 0 4 (receive 0 0 1 0 4 ∷ []) ∷ []))
     (follows (0 ∷ 0 ∷ 0 ∷ 0 ∷ 1 ∷ 0 ∷ 0 ∷ []))
-    (told still-able 7 (0 meets 3 ∷ []) (pending 2 0) (cut 0) (row 3 5 6 2 ∷ row 0 0 0 1 ∷ []))
+    (told still-able 7 (0 meets 3 ∷ []) (pending 2 0) (cut 0) (row 3 69 70 2 ∷ row 0 0 0 1 ∷ []))
     ((90 ∷ 91 ∷ 92 ∷ 93 ∷ []) becomes (11 ∷ 12 ∷ 13 ∷ 14 ∷ []))
     (0x00 ∷ 0xff ∷ 0xff ∷ 0xff ∷ 0x07 ∷ 0x00 ∷ 0x02 ∷ 0x00 ∷ 0x04 ∷ 0x00 ∷ 0x02 ∷ 0x00 ∷ 0x00 ∷ 0x00 ∷ 0x00 ∷ 0x00
-    ∷ 0x03 ∷ 0x00 ∷ 0x05 ∷ 0x00 ∷ 0x06 ∷ 0x00 ∷ 0x02 ∷ 0x00
+    ∷ 0x03 ∷ 0x00 ∷ 0x45 ∷ 0x00 ∷ 0x46 ∷ 0x00 ∷ 0x02 ∷ 0x00
     ∷ 0x00 ∷ 0x00 ∷ 0x00 ∷ 0x00 ∷ 0x00 ∷ 0x00 ∷ 0x01 ∷ 0x00
     ∷ 0x03 ∷ 0x00 ∷ 0x03 ∷ 0x00 ∷ 0xff ∷ 0xff ∷ 0xff ∷ 0xff ∷ 0x00 ∷ 0x00 ∷ 0x00 ∷ 0x00
     ∷ 0x02 ∷ 0x00 ∷ 0xff ∷ 0xff ∷ 0xff ∷ 0xff ∷ 0xff ∷ 0xff ∷ 0x00 ∷ 0x00 ∷ 0x00 ∷ 0x00
     ∷ 0x02 ∷ 0x00 ∷ 0xff ∷ 0xff ∷ 0xff ∷ 0xff ∷ 0xff ∷ 0xff ∷ 0x00 ∷ 0x00 ∷ 0x00 ∷ 0x00
     ∷ 0x03 ∷ 0x00 ∷ 0x00 ∷ 0x00 ∷ 0x00 ∷ 0x00 ∷ 0x01 ∷ 0x00 ∷ 0x04 ∷ 0x00 ∷ 0x00 ∷ 0x00 ∷ [])
-    -- I. The second send does not fit with the first still charged: overflow at rank 1, operation 2
+    -- I. The second send, 3 + 32, does not fit by one byte with the first, 2 + 32, still charged: overflow at rank 1, operation 2
     ∷ bench-whole
-    (draft 1 0xc66a (11 ∷ 12 ∷ 13 ∷ 14 ∷ 15 ∷ [])
+    (draft 1 0x6baf (11 ∷ 12 ∷ 13 ∷ 14 ∷ 15 ∷ [])
     (script 0 1 (receive 1 0 9 0 1 ∷ [])
-    ∷ script 4 0 (send buffered 0 0 1 0 2 ∷ send buffered 0 0 1 2 3 ∷ []) ∷ []))
+    ∷ script 68 0 (send buffered 0 0 1 0 2 ∷ send buffered 0 0 1 2 3 ∷ []) ∷ []))
     (runs (0 ∷ 1 ∷ 1 ∷ 1 ∷ []))
-    (told (overflow 1 2) 4 [] (pending 1 1) (cut 0) (row 0 0 0 0 ∷ row 1 2 2 0 ∷ []))
+    (told (overflow 1 2) 4 [] (pending 1 1) (cut 0) (row 0 0 0 0 ∷ row 1 34 34 0 ∷ []))
     ((90 ∷ []) becomes (90 ∷ []))
     (0x03 ∷ 0x01 ∷ 0x02 ∷ 0x00 ∷ 0x04 ∷ 0x00 ∷ 0x02 ∷ 0x00 ∷ 0x03 ∷ 0x00 ∷ 0x01 ∷ 0x00 ∷ 0x01 ∷ 0x00 ∷ 0x00 ∷ 0x00
     ∷ 0x00 ∷ 0x00 ∷ 0x00 ∷ 0x00 ∷ 0x00 ∷ 0x00 ∷ 0x00 ∷ 0x00
-    ∷ 0x01 ∷ 0x00 ∷ 0x02 ∷ 0x00 ∷ 0x02 ∷ 0x00 ∷ 0x00 ∷ 0x00
+    ∷ 0x01 ∷ 0x00 ∷ 0x22 ∷ 0x00 ∷ 0x22 ∷ 0x00 ∷ 0x00 ∷ 0x00
     ∷ 0x01 ∷ 0x00 ∷ 0xff ∷ 0xff ∷ 0xff ∷ 0xff ∷ 0xff ∷ 0xff ∷ 0x00 ∷ 0x00 ∷ 0x00 ∷ 0x00
     ∷ 0x02 ∷ 0x00 ∷ 0xff ∷ 0xff ∷ 0xff ∷ 0xff ∷ 0xff ∷ 0xff ∷ 0x00 ∷ 0x00 ∷ 0x00 ∷ 0x00
     ∷ 0x00 ∷ 0x00 ∷ 0xff ∷ 0xff ∷ 0xff ∷ 0xff ∷ 0xff ∷ 0xff ∷ 0x00 ∷ 0x00 ∷ 0x00 ∷ 0x00 ∷ [])
     -- J. Two cut messages: neither is copied, and the buffered one's charge goes at the match
     ∷ bench
-    (draft 1 0xa4d1 (11 ∷ 12 ∷ 13 ∷ 14 ∷ 15 ∷ [])
-    (script 3 0 (send buffered 1 0 1 0 3 ∷ send standard 1 0 2 3 2 ∷ [])
+    (draft 1 0x05c3 (11 ∷ 12 ∷ 13 ∷ 14 ∷ 15 ∷ [])
+    (script 35 0 (send buffered 1 0 1 0 3 ∷ send standard 1 0 2 3 2 ∷ [])
     ∷ script 0 2 (receive 0 0 1 0 2 ∷ receive 0 0 2 0 1 ∷ []) ∷ []))
     (runs (0 ∷ 0 ∷ 0 ∷ 1 ∷ 1 ∷ 1 ∷ 0 ∷ 1 ∷ []))
-    (told finished 8 (0 meets 2 ∷ 1 meets 3 ∷ []) (pending 0 0) (cut 2) (row 2 0 3 2 ∷ row 2 0 0 2 ∷ []))
+    (told finished 8 (0 meets 2 ∷ 1 meets 3 ∷ []) (pending 0 0) (cut 2) (row 2 0 35 2 ∷ row 2 0 0 2 ∷ []))
     ((90 ∷ 91 ∷ []) becomes (90 ∷ 91 ∷ []))
     -- K. Waits: an unmatched synchronous send is not complete, and its wait is not able: deadlock. The blocking send between
     -- them holds no slot, and is not what the wait looks at
@@ -116,14 +124,14 @@ further-jobs =
     ((90 ∷ []) becomes (12 ∷ []))
     -- L. An unmatched buffered send is complete: its wait ends, and the message stays pending and charged under verdict 1
     ∷ bench-whole
-    (draft 1 0xa6a4 (11 ∷ 12 ∷ [])
-    (script 3 0 (isend buffered 1 0 1 0 2 0 ∷ wait 0 ∷ [])
+    (draft 1 0xfb10 (11 ∷ 12 ∷ [])
+    (script 35 0 (isend buffered 1 0 1 0 2 0 ∷ wait 0 ∷ [])
     ∷ script 0 0 [] ∷ []))
     (runs (0 ∷ 0 ∷ []))
-    (told finished 2 [] (pending 1 0) (cut 0) (row 2 2 2 2 ∷ row 0 0 0 2 ∷ []))
+    (told finished 2 [] (pending 1 0) (cut 0) (row 2 34 34 2 ∷ row 0 0 0 2 ∷ []))
     ([] becomes [])
     (0x01 ∷ 0xff ∷ 0xff ∷ 0xff ∷ 0x02 ∷ 0x00 ∷ 0x02 ∷ 0x00 ∷ 0x02 ∷ 0x00 ∷ 0x01 ∷ 0x00 ∷ 0x00 ∷ 0x00 ∷ 0x00 ∷ 0x00
-    ∷ 0x02 ∷ 0x00 ∷ 0x02 ∷ 0x00 ∷ 0x02 ∷ 0x00 ∷ 0x02 ∷ 0x00
+    ∷ 0x02 ∷ 0x00 ∷ 0x22 ∷ 0x00 ∷ 0x22 ∷ 0x00 ∷ 0x02 ∷ 0x00
     ∷ 0x00 ∷ 0x00 ∷ 0x00 ∷ 0x00 ∷ 0x00 ∷ 0x00 ∷ 0x02 ∷ 0x00
     ∷ 0x02 ∷ 0x00 ∷ 0xff ∷ 0xff ∷ 0xff ∷ 0xff ∷ 0xff ∷ 0xff ∷ 0x00 ∷ 0x00 ∷ 0x00 ∷ 0x00
     ∷ 0x05 ∷ 0x00 ∷ 0xff ∷ 0xff ∷ 0xff ∷ 0xff ∷ 0xff ∷ 0xff ∷ 0x00 ∷ 0x00 ∷ 0x00 ∷ 0x00 ∷ [])
@@ -152,4 +160,19 @@ further-jobs =
     (follows (0 ∷ 1 ∷ []))
     (told still-able 2 (0 meets 1 ∷ []) (pending 0 0) (cut 0) (row 0 0 0 1 ∷ row 0 0 0 1 ∷ []))
     ((90 ∷ 91 ∷ 92 ∷ 93 ∷ 94 ∷ 95 ∷ []) becomes (11 ∷ 12 ∷ 13 ∷ 93 ∷ 94 ∷ 95 ∷ []))
+    -- Q. Job 13's empty buffered send costs 32: with nothing attached it overflows
+    ∷ bench (empty-buffered 0 0x4ac3)
+    (runs (0 ∷ []))
+    (told (overflow 0 0) 1 [] (pending 0 0) (cut 0) (row 0 0 0 0 ∷ row 0 0 0 2 ∷ []))
+    ([] becomes [])
+    -- Q, with 31 attached too
+    ∷ bench (empty-buffered 31 0xe8ac)
+    (runs (0 ∷ []))
+    (told (overflow 0 0) 1 [] (pending 0 0) (cut 0) (row 0 0 0 0 ∷ row 0 0 0 2 ∷ []))
+    ([] becomes [])
+    -- Q, with 32 attached: accepted, and all 32 are in use
+    ∷ bench (empty-buffered 32 0x98c7)
+    (runs (0 ∷ 0 ∷ []))
+    (told finished 2 [] (pending 1 0) (cut 0) (row 1 32 32 2 ∷ row 0 0 0 2 ∷ []))
+    ([] becomes [])
     ∷ []

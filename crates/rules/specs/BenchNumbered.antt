@@ -57,27 +57,27 @@ numbered-jobs =
     ∷ 0x01 ∷ 0x00 ∷ 0x00 ∷ 0x00 ∷ 0x00 ∷ 0x00 ∷ 0x02 ∷ 0x00
     ∷ 0x03 ∷ 0x00 ∷ 0x01 ∷ 0x00 ∷ 0xff ∷ 0xff ∷ 0xff ∷ 0xff ∷ 0x00 ∷ 0x00 ∷ 0x00 ∷ 0x00
     ∷ 0x03 ∷ 0x00 ∷ 0x00 ∷ 0x00 ∷ 0x00 ∷ 0x00 ∷ 0x07 ∷ 0x00 ∷ 0x03 ∷ 0x00 ∷ 0x00 ∷ 0x00 ∷ [])
-    -- 2. Non-overtaking (000): two buffered sends of one tag, attached for exactly both; the first goes to the first receive, of
-    -- any tag, the second to the second
+    -- 2. Non-overtaking (000): two buffered sends of one tag, attached for exactly both, 2 + 32 and 3 + 32; the first goes to the
+    -- first receive, of any tag, the second to the second
     ∷ bench
-    (draft 1 0x89d5 (11 ∷ 12 ∷ 13 ∷ 14 ∷ 15 ∷ [])
-    (script 5 0 (send buffered 1 0 4 0 2 ∷ send buffered 1 0 4 2 3 ∷ [])
+    (draft 1 0xdbd0 (11 ∷ 12 ∷ 13 ∷ 14 ∷ 15 ∷ [])
+    (script 69 0 (send buffered 1 0 4 0 2 ∷ send buffered 1 0 4 2 3 ∷ [])
     ∷ script 0 6 (receive 0 0 any 0 3 ∷ receive 0 0 4 3 3 ∷ []) ∷ []))
     (runs (0 ∷ 0 ∷ 0 ∷ 0 ∷ 1 ∷ 1 ∷ 1 ∷ 1 ∷ []))
-    (told finished 8 (0 meets 2 ∷ 1 meets 3 ∷ []) (pending 0 0) (cut 0) (row 2 0 5 2 ∷ row 2 0 0 2 ∷ []))
+    (told finished 8 (0 meets 2 ∷ 1 meets 3 ∷ []) (pending 0 0) (cut 0) (row 2 0 69 2 ∷ row 2 0 0 2 ∷ []))
     ((90 ∷ 91 ∷ 92 ∷ 93 ∷ 94 ∷ 95 ∷ []) becomes (11 ∷ 12 ∷ 92 ∷ 13 ∷ 14 ∷ 15 ∷ []))
     -- 3. Two intertwined pairs (000): the messages are received in the reverse of the order in which they were sent
     ∷ bench
-    (draft 1 0x8b8f (11 ∷ 12 ∷ 13 ∷ 14 ∷ 15 ∷ [])
-    (script 3 0 (send buffered 1 0 1 0 3 ∷ send synchronous 1 0 2 3 2 ∷ [])
+    (draft 1 0x2a9d (11 ∷ 12 ∷ 13 ∷ 14 ∷ 15 ∷ [])
+    (script 35 0 (send buffered 1 0 1 0 3 ∷ send synchronous 1 0 2 3 2 ∷ [])
     ∷ script 0 5 (receive 0 0 2 0 2 ∷ receive 0 0 1 2 3 ∷ []) ∷ []))
     (runs (0 ∷ 0 ∷ 0 ∷ 1 ∷ 0 ∷ 1 ∷ 1 ∷ 1 ∷ []))
-    (told finished 8 (0 meets 3 ∷ 1 meets 2 ∷ []) (pending 0 0) (cut 0) (row 2 0 3 2 ∷ row 2 0 0 2 ∷ []))
+    (told finished 8 (0 meets 3 ∷ 1 meets 2 ∷ []) (pending 0 0) (cut 0) (row 2 0 35 2 ∷ row 2 0 0 2 ∷ []))
     ((90 ∷ 91 ∷ 92 ∷ 93 ∷ 94 ∷ []) becomes (14 ∷ 15 ∷ 11 ∷ 12 ∷ 13 ∷ []))
-    -- 3, attached one byte under the first length: overflow. The stopping step counts, and its operation is not entered
+    -- 3, attached one byte under the first charge, 3 + 32: overflow. The stopping step counts, and its operation is not entered
     ∷ bench
-    (draft 1 0x1795 (11 ∷ 12 ∷ 13 ∷ 14 ∷ 15 ∷ [])
-    (script 2 0 (send buffered 1 0 1 0 3 ∷ send synchronous 1 0 2 3 2 ∷ [])
+    (draft 1 0xb687 (11 ∷ 12 ∷ 13 ∷ 14 ∷ 15 ∷ [])
+    (script 34 0 (send buffered 1 0 1 0 3 ∷ send synchronous 1 0 2 3 2 ∷ [])
     ∷ script 0 5 (receive 0 0 2 0 2 ∷ receive 0 0 1 2 3 ∷ []) ∷ []))
     (runs (0 ∷ []))
     (told (overflow 0 0) 1 [] (pending 0 0) (cut 0) (row 0 0 0 0 ∷ row 0 0 0 0 ∷ []))

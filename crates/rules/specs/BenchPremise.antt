@@ -33,27 +33,27 @@ questions =
     (script 0 2 (receive 1 0 1 0 1 ∷ receive 1 0 2 1 1 ∷ [])
     ∷ script 0 0 (send standard 0 0 1 0 1 ∷ isend ready 0 0 2 1 1 0 ∷ []) ∷ []))
     21 3
-    -- two buffered sends of 2 and 3 bytes: 5 bytes cover them; with 4, which cover either alone, 22 at rank 0
+    -- two buffered sends, charged 2 + 32 and 3 + 32: 69 bytes cover them; with 68, which cover either alone, 22 at rank 0
     ∷ asked
-    (draft 1 0xf295 (11 ∷ 12 ∷ 13 ∷ 14 ∷ 15 ∷ [])
-    (script 5 0 (send buffered 1 0 4 0 2 ∷ isend buffered 1 0 4 2 3 0 ∷ [])
+    (draft 1 0xa090 (11 ∷ 12 ∷ 13 ∷ 14 ∷ 15 ∷ [])
+    (script 69 0 (send buffered 1 0 4 0 2 ∷ isend buffered 1 0 4 2 3 0 ∷ [])
     ∷ script 0 6 (receive 0 0 any 0 3 ∷ receive 0 0 4 3 3 ∷ []) ∷ []))
     0 0
     ∷ asked
-    (draft 1 0x6e8f (11 ∷ 12 ∷ 13 ∷ 14 ∷ 15 ∷ [])
-    (script 4 0 (send buffered 1 0 4 0 2 ∷ isend buffered 1 0 4 2 3 0 ∷ [])
+    (draft 1 0x3c8a (11 ∷ 12 ∷ 13 ∷ 14 ∷ 15 ∷ [])
+    (script 68 0 (send buffered 1 0 4 0 2 ∷ isend buffered 1 0 4 2 3 0 ∷ [])
     ∷ script 0 6 (receive 0 0 any 0 3 ∷ receive 0 0 4 3 3 ∷ []) ∷ []))
     22 0
     -- each board covers its own sends, though not both boards'; with a byte less at rank 1, 22 there
     ∷ asked
-    (draft 1 0xdb4d (11 ∷ 12 ∷ [])
-    (script 2 2 (send buffered 1 0 1 0 2 ∷ receive 1 0 1 0 2 ∷ [])
-    ∷ script 2 2 (send buffered 0 0 1 0 2 ∷ receive 0 0 1 0 2 ∷ []) ∷ []))
+    (draft 1 0x3f11 (11 ∷ 12 ∷ [])
+    (script 34 2 (send buffered 1 0 1 0 2 ∷ receive 1 0 1 0 2 ∷ [])
+    ∷ script 34 2 (send buffered 0 0 1 0 2 ∷ receive 0 0 1 0 2 ∷ []) ∷ []))
     0 0
     ∷ asked
-    (draft 1 0x45a7 (11 ∷ 12 ∷ [])
-    (script 2 2 (send buffered 1 0 1 0 2 ∷ receive 1 0 1 0 2 ∷ [])
-    ∷ script 1 2 (send buffered 0 0 1 0 2 ∷ receive 0 0 1 0 2 ∷ []) ∷ []))
+    (draft 1 0xa1fb (11 ∷ 12 ∷ [])
+    (script 34 2 (send buffered 1 0 1 0 2 ∷ receive 1 0 1 0 2 ∷ [])
+    ∷ script 33 2 (send buffered 0 0 1 0 2 ∷ receive 0 0 1 0 2 ∷ []) ∷ []))
     22 1
     -- 20 wins over 21 and 22, behind them or before them; 21 wins over 22
     ∷ asked

@@ -1,4 +1,4 @@
--- The numbers of document 01, each under one name. Definitions, proofs and contracts cite the names.
+-- The numbers of documents 01 and 02, each under one name. Definitions, proofs and contracts cite the names.
 -- Assumes nothing: these are definitions.
 use Prim.Native.Nat.{ℕ, _+_, _*_}
 
@@ -21,6 +21,10 @@ most-attached = 16384
 
 abbrev pub most-inbox : ℕ
 most-inbox = 16384
+
+-- what a buffered message costs in an attached buffer beside its bytes (MPI_BSEND_OVERHEAD; document 02, K2)
+abbrev pub bsend-overhead : ℕ
+bsend-overhead = 32
 
 -- tags are below this, lengths and capacities at most that, request slots below that
 abbrev pub tag-limit : ℕ

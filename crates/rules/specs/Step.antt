@@ -6,7 +6,7 @@ use mathlib.Core.Option.{Option, none, some}
 use Prim.Native.Nat.{ℕ, zero, suc, _+_, _-_, max}
 use lib.Dec.{ltb, leb, eqb}
 use lib.ListN.{length, set, take, drop}
-use Rattle.rules.specs.Limits.{any, absent}
+use Rattle.rules.specs.Limits.{any, absent, bsend-overhead}
 use Rattle.rules.specs.Sheet.{Sheet, Op, op, board, P-of, rank-of, inbox-start, is-buffered, is-ready, is-receive, only-half, no-half, takes-slot, frees-slot}
 use Rattle.rules.specs.Job.{Job, Place, Stop, place, entry, bare-entry, entry-at, place-at, with-entries, with-places, with-messages}
 use Rattle.rules.specs.Job.{with-receives, with-memory, with-stop, with-steps}
@@ -100,9 +100,9 @@ copied s m q = cond (is-cut s m q) 0 (op s m .long)
 unfoldable pub delivered : Sheet → (m q : ℕ) → List ℕ → List ℕ
 delivered s m q bs = splice bs (area-start s q) (take (copied s m q) (drop (op s m .offset) (s .payload)))
 
--- CHARGES: what an unmatched buffered send is charged
+-- CHARGES: what an unmatched buffered send is charged, its length and the overhead (document 02, K2)
 unfoldable pub charge-of : Op → ℕ
-charge-of o = o .long
+charge-of o = o .long + bsend-overhead
 
 unfoldable pub charged : (n : ℕ) → Place → Place
 charged n p = place (p .finished) (p .waiting) (p .in-use + n) (max (p .peak) (p .in-use + n))

@@ -12,3 +12,8 @@ pub record Word (value r : ℕ) : Type 0 where
 pub record Byte (value r : ℕ) : Type 0 where
   pub is : r ≡ value
   pub small : r < 256
+
+-- the sum of two numbers of two bytes
+pub record Sum (value r : ℕ) : Type 0 where
+  pub is : r ≡ value
+  pub small : r < 131072

@@ -2,13 +2,14 @@
 //! with our judge, and on a part of the small sheets with the naive one, over
 //! generated sheets. Prints how many cases of each kind got each answer; at
 //! the first difference prints what is needed to see it and exits with 1, as
-//! it does where an answer of premise to accepted sheets never came up.
+//! it does where an answer of premise to accepted sheets, or a case around an
+//! attached buffer, never came up.
 
 use jamturret::lent::Answer;
 use jamturret_host::command::{argument, difference};
 use jamturret_host::generate::{self, KINDS};
 use jamturret_host::random::Random;
-use jamturret_host::{guarded, judge};
+use jamturret_host::{buffers, guarded, judge};
 use std::process;
 use std::time::Instant;
 
@@ -58,6 +59,7 @@ fn main() {
     let cases = argument("differential", 2, CASES);
     let start = Instant::now();
     let mut counts: Counts = [[0; NUMBERS.len()]; KINDS.len()];
+    let mut covered = [0; buffers::COVERED.len()];
     let mut naive = 0;
     for number in 0..cases {
         let (kind, sheet, mut random) = generate::case(seed, number);
@@ -69,14 +71,22 @@ fn main() {
                 .unwrap_or_else(|answers| difference(seed, number, KINDS[kind].0, &sheet, &answers))
         });
         count(&mut counts[kind], check, premise);
+        if check.number == 0 {
+            for (count, found) in covered.iter_mut().zip(buffers::covered(&sheet, premise)) {
+                *count += u64::from(found);
+            }
+        }
     }
     let totals = print(&counts);
+    for (name, count) in buffers::COVERED.iter().zip(covered) {
+        println!("premise {name:<40}{count:>8}");
+    }
     println!(
         "seed {seed}: {cases} cases agree, {naive} of them with the naive judge too, in {:.1} s",
         start.elapsed().as_secs_f64()
     );
-    if cases >= ENOUGH && totals.contains(&0) {
-        eprintln!("an answer never came up: see the zeros above");
+    if cases >= ENOUGH && (totals.contains(&0) || covered.contains(&0)) {
+        eprintln!("an answer or a case never came up: see the zeros above");
         process::exit(1);
     }
 }

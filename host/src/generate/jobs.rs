@@ -4,7 +4,8 @@
 
 use super::script::{Surroundings, Writer};
 use crate::layout::kind::{BUFFERED, READY, RECEIVE, STANDARD, SYNCHRONOUS};
-use crate::layout::{ANY, MOST_ATTACHED, MOST_BOARDS, MOST_INBOX_TOTAL, MOST_LENGTH, MOST_PAYLOAD};
+use crate::layout::{ANY, BSEND_OVERHEAD, MOST_ATTACHED, MOST_BOARDS};
+use crate::layout::{MOST_INBOX_TOTAL, MOST_LENGTH, MOST_PAYLOAD};
 use crate::random::Random;
 use crate::sheet::{Board, Operation, Sheet};
 
@@ -139,7 +140,7 @@ fn sheet(random: &mut Random, manner: &Manner) -> Sheet {
         }
         let script = writer.finish();
         Board {
-            attached: attached(random, manner, charges(&script)),
+            attached: attached(random, manner, &script),
             inbox: inbox as u16,
             script,
         }
@@ -231,11 +232,12 @@ fn capacity(random: &mut Random, length: usize) -> usize {
     }
 }
 
-/// All buffered sends of a script together, were none matched.
-fn charges(script: &[Operation]) -> usize {
+/// The charges of all buffered sends of a script, were none matched, with this
+/// overhead for each.
+fn charges(script: &[Operation], overhead: usize) -> usize {
     let buffered = script.iter().filter(|operation| operation.kind == BUFFERED);
     buffered
-        .map(|operation| usize::from(operation.length))
+        .map(|operation| usize::from(operation.length) + overhead)
         .sum()
 }
 
@@ -244,7 +246,7 @@ fn cover(script: &mut [Operation]) {
     let mut total = 0;
     for operation in script {
         if operation.kind == BUFFERED {
-            total += usize::from(operation.length);
+            total += usize::from(operation.length) + BSEND_OVERHEAD;
             if total > MOST_ATTACHED {
                 operation.kind = STANDARD;
             }
@@ -252,16 +254,19 @@ fn cover(script: &mut [Operation]) {
     }
 }
 
-/// Covering all charges on a calm sheet; else often just enough, one byte
-/// short, or little.
-fn attached(random: &mut Random, manner: &Manner, charges: usize) -> u16 {
-    let charges = charges.min(MOST_ATTACHED);
-    let size = match random.below(6) {
-        0 | 1 => charges,
+/// Covering all charges on a calm sheet; else often just enough, one byte or
+/// one overhead short, enough for the lengths alone, or little.
+fn attached(random: &mut Random, manner: &Manner, script: &[Operation]) -> u16 {
+    let charges = |overhead| charges(script, overhead).min(MOST_ATTACHED);
+    let all = charges(BSEND_OVERHEAD);
+    let size = match random.below(8) {
+        0 | 1 => all,
         2 => MOST_ATTACHED,
-        _ if manner.calm => random.between(charges, MOST_ATTACHED),
-        3 => charges.saturating_sub(1),
-        _ => random.between(0, charges),
+        _ if manner.calm => random.between(all, MOST_ATTACHED),
+        3 => all.saturating_sub(1),
+        4 => all.saturating_sub(BSEND_OVERHEAD),
+        5 => charges(0),
+        _ => random.between(0, all),
     };
     size as u16
 }

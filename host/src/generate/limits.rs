@@ -34,7 +34,7 @@ fn behind(operation: Operation) -> Vec<u8> {
 }
 
 fn script(scripts: &[&[Operation]]) -> Vec<u8> {
-    let mut sheet = Sheet::of_scripts(scripts, ROOM);
+    let mut sheet = Sheet::of_scripts(scripts, ROOM).attach(0, 16_384);
     sheet.communicators = 2;
     sheet.payload = vec![3; usize::from(ROOM)];
     sheet.bytes()
@@ -55,6 +55,7 @@ fn wait() -> Operation {
 fn sized(boards: usize, communicators: u16, operations: usize, payload: usize) -> Vec<u8> {
     let mut entries = vec![Board::default(); boards];
     if let Some(first) = entries.first_mut() {
+        first.attached = 16_384;
         first.script = vec![Operation::send(BUFFERED, 0, 0, 0, 0); operations];
     }
     Sheet {

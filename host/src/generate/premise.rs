@@ -1,8 +1,9 @@
 //! Sheets for which the order of steps cannot matter (document 01, What is
 //! pinned down), and such sheets with up to three things changed that let it
-//! matter: an any-source receive, a ready send, a buffer a byte too small.
+//! matter: an any-source receive, a ready send, a buffer that is too small.
 
 use super::jobs;
+use crate::buffers::Buffered;
 use crate::layout::{board, header, kind, operation, word, ANY};
 use crate::random::Random;
 use crate::sheet::{board_at, mend_crc, operation_at, set_word};
@@ -16,7 +17,7 @@ pub fn any(random: &mut Random) -> Vec<u8> {
         match random.below(3) {
             0 => any_source(&mut sheet, random),
             1 => ready(&mut sheet, random),
-            _ => a_byte_short(&mut sheet, random),
+            _ => small_buffer(&mut sheet, random),
         }
     }
     mend_crc(&mut sheet);
@@ -51,19 +52,15 @@ fn ready(sheet: &mut [u8], random: &mut Random) {
     }
 }
 
-/// A board gets a byte less than its buffered sends take, or exactly what they
-/// take.
-fn a_byte_short(sheet: &mut [u8], random: &mut Random) {
-    let boards = usize::from(word(sheet, header::BOARDS));
-    let at = board_at(random.below(boards));
-    let first = usize::from(word(sheet, at + board::FIRST));
-    let count = usize::from(word(sheet, at + board::COUNT));
-    let script = operation_at(boards, first)..operation_at(boards, first + count);
-    let buffered = operations(sheet, &[kind::BUFFERED]).into_iter();
-    let charges: u16 = buffered
-        .filter(|place| script.contains(place))
-        .map(|place| word(sheet, place + operation::LENGTH))
-        .sum();
-    let missing = u16::from(random.chance(70));
-    set_word(sheet, at + board::ATTACHED, charges.saturating_sub(missing));
+/// A board gets a byte less than its buffered sends are charged, their lengths
+/// alone, or exactly what they are charged.
+fn small_buffer(sheet: &mut [u8], random: &mut Random) {
+    let rank = random.below(usize::from(word(sheet, header::BOARDS)));
+    let sends = Buffered::of(sheet, rank);
+    let size = match random.below(4) {
+        0 => sends.charges,
+        1 => sends.lengths,
+        _ => sends.charges.saturating_sub(1),
+    };
+    set_word(sheet, board_at(rank) + board::ATTACHED, size as u16);
 }

@@ -161,14 +161,14 @@ impl<'a> Job<'a> {
             let receive = self.receives.remove(place);
             return self.match_up(index, receive);
         }
-        let length = usize::from(script.operations[index].length);
         match script.operations[index].kind {
             kind::BUFFERED => {
-                if self.boards[rank].in_use + length > script.boards[rank].attached {
+                let in_use = self.boards[rank].in_use + script.operations[index].charge();
+                if in_use > script.boards[rank].attached {
                     self.stop = Some((Stop::Overflow, index));
                     return;
                 }
-                self.boards[rank].in_use += length;
+                self.boards[rank].in_use = in_use;
                 self.states[index] = State::Buffered;
             }
             kind::READY => {
@@ -182,11 +182,11 @@ impl<'a> Job<'a> {
 
     /// Both are complete; a charged message is no longer charged.
     fn match_up(&mut self, message: usize, receive: usize) {
-        let length = usize::from(self.script.operations[message].length);
         if self.states[message] == State::Buffered {
-            self.boards[self.script.rank_of[message]].in_use -= length;
+            let charge = self.script.operations[message].charge();
+            self.boards[self.script.rank_of[message]].in_use -= charge;
         }
-        let cut = length > usize::from(self.script.operations[receive].length);
+        let cut = self.script.operations[message].length > self.script.operations[receive].length;
         if cut {
             self.cut_messages += 1;
         } else {

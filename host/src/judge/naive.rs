@@ -1,7 +1,7 @@
-//! *Check* and *premise* once more, as near to the sentences of document 01 as
-//! code can be: bit-wise CRC, every rule asked anew of the whole sheet. It
-//! shares no code with the ordinary judge, so that neither is a copy of the
-//! other.
+//! *Check* and *premise* once more, as near to the sentences of documents 01
+//! and 02 as code can be: bit-wise CRC, every rule asked anew of the whole
+//! sheet. It shares no code with the ordinary judge, so that neither is a copy
+//! of the other.
 
 use jamturret::lent::Answer;
 
@@ -169,11 +169,12 @@ impl View<'_> {
             && offset + length <= inside
     }
 
-    /// The charges of all buffered sends of a board.
+    /// The charges of all buffered sends of a board: of each the length and 32
+    /// (document 02, K2).
     fn charges(&self, rank: u64) -> u64 {
         let mine = (0..self.word(4)).filter(|&index| self.rank_of(index) == rank);
         let buffered = mine.filter(|&index| self.kind(index) == 2);
-        buffered.map(|index| self.field(index, 12)).sum()
+        buffered.map(|index| self.field(index, 12) + 32).sum()
     }
 
     /// The operations of the same board before this one.

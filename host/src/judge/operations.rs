@@ -2,7 +2,7 @@
 
 use super::boards::{Board, Boards};
 use super::header::Header;
-use crate::layout::{self, kind, operation as at, word, ANY};
+use crate::layout::{self, kind, operation as at, word, ANY, BSEND_OVERHEAD};
 
 /// An operation as it stands in the sheet.
 pub struct Operation {
@@ -30,6 +30,11 @@ impl Operation {
             length: word(row, at::LENGTH),
             slot: word(row, at::SLOT),
         }
+    }
+
+    /// What a buffered send is charged (document 02, K2).
+    pub fn charge(&self) -> usize {
+        usize::from(self.length) + BSEND_OVERHEAD
     }
 
     fn right(&self, header: &Header, board: &Board) -> bool {

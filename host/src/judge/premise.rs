@@ -31,7 +31,7 @@ fn first(sheet: &[u8], header: &Header, boards: &Boards) -> Answer {
             match operation.kind {
                 kind::RECEIVE if operation.peer == ANY => any_source = any_source.or(place),
                 kind::READY => ready = ready.or(place),
-                kind::BUFFERED => buffered += usize::from(operation.length),
+                kind::BUFFERED => buffered += operation.charge(),
                 _ => (),
             }
         }

@@ -4,34 +4,31 @@
 //! sets the peaks aside.
 
 use super::{orders, Trial};
+use crate::buffers::Buffered;
 use crate::compare::Call;
 use crate::desk::Desk;
 use crate::judge;
-use crate::layout::{board, header, kind, operation, word, ANY};
+use crate::layout::{header, kind, operation, word, ANY};
 use crate::random::Random;
-use crate::sheet::{board_at, operation_at};
+use crate::sheet::operation_at;
 use jamturret::lent::Answer;
 
 /// Whether the claim speaks of an accepted sheet: no receive from any source,
 /// no ready send, and on each board all buffered sends together are covered.
 pub fn applies(sheet: &[u8]) -> bool {
     let boards = usize::from(word(sheet, header::BOARDS));
-    (0..boards).all(|rank| {
-        let entry = board_at(rank);
-        let first = usize::from(word(sheet, entry + board::FIRST));
-        let count = usize::from(word(sheet, entry + board::COUNT));
-        let mut charges = 0;
-        let calm = (first..first + count).all(|index| {
-            let at = operation_at(boards, index);
-            let kind = sheet[at + operation::KIND];
-            if kind == kind::BUFFERED {
-                charges += usize::from(word(sheet, at + operation::LENGTH));
-            }
-            let any = kind == kind::RECEIVE && word(sheet, at + operation::PEER) == ANY;
-            kind != kind::READY && !any
-        });
-        calm && charges <= usize::from(word(sheet, entry + board::ATTACHED))
-    })
+    let operations = usize::from(word(sheet, header::OPERATIONS));
+    let calm = (0..operations).all(|index| {
+        let at = operation_at(boards, index);
+        let kind = sheet[at + operation::KIND];
+        let any = kind == kind::RECEIVE && word(sheet, at + operation::PEER) == ANY;
+        kind != kind::READY && !any
+    });
+    let covered = |rank| {
+        let board = Buffered::of(sheet, rank);
+        board.charges <= board.attached
+    };
+    calm && (0..boards).all(covered)
 }
 
 const WHOLE_ORDERS: usize = 2;

@@ -1,6 +1,7 @@
 //! What the trials reached, so that a reader sees that nothing is left out.
 
 use super::{KINDS, ORDERS};
+use crate::buffers;
 use crate::compare::Outcome;
 use crate::layout::word;
 use jamturret::lent::Answer;
@@ -16,6 +17,8 @@ pub struct Counts {
     short: [u64; 4],
     /// Accepted, refused 9 at index 0, later, refused otherwise.
     orders: [[u64; 4]; ORDERS.len()],
+    /// Reports that show each case around an attached buffer.
+    buffers: [u64; buffers::LEFT.len()],
     steps: u64,
     matches: u64,
     cut: u64,
@@ -27,10 +30,14 @@ pub struct Counts {
 }
 
 impl Counts {
-    pub fn call(&mut self, kind: usize, outcome: &Outcome) {
+    pub fn call(&mut self, kind: usize, sheet: &[u8], outcome: &Outcome) {
         let Answer { number, place } = outcome.answer;
         if number == 0 {
             self.success(kind, &outcome.desk.report);
+            let found = buffers::left(sheet, &outcome.desk.report);
+            for (count, found) in self.buffers.iter_mut().zip(found) {
+                *count += u64::from(found);
+            }
             self.matches += outcome.desk.matched_rows() as u64 / 2;
             return;
         }
@@ -64,13 +71,14 @@ impl Counts {
         self.kinds.iter().flatten().sum()
     }
 
-    /// The smallest count of a verdict, a refusal, a place of 8 and an order
-    /// that 9 refuses: 0 if something was not reached.
+    /// The smallest count of a verdict, a refusal, a place of 8, an order that
+    /// 9 refuses and a case around a buffer: 0 if something was not reached.
     pub fn least(&self) -> u64 {
         let columns = (0..COLUMNS).map(|column| self.column(column));
         let refused = self.orders.iter().map(|row| row[1] + row[2]);
         let wrong = refused.skip(3).take(3);
         let others = self.short.into_iter().chain(self.exchanged);
+        let others = others.chain(self.buffers);
         columns.chain(wrong).chain(others).min().unwrap_or(0)
     }
 
@@ -103,6 +111,9 @@ impl fmt::Display for Counts {
             cells(out, name, row)?;
         }
         cells(out, "refusal 8 at place 1 to 4", &self.short)?;
+        for (name, count) in buffers::LEFT.iter().zip(self.buffers) {
+            writeln!(out, "{name:<40}{count:>8}")?;
+        }
         writeln!(
             out,
             "{} steps, {} matches, {} of them cut; {} pending messages and {} pending receives left",

@@ -36,7 +36,7 @@ pub fn random_sheet(random: &mut Random) -> Result<Sheet, BuildError> {
     let boards = (0..sizes.boards).map(|_| {
         let inbox = random.below(12);
         Board {
-            attached: random.below(12),
+            attached: random.below(80),
             inbox,
             script: script(random, &Sizes { inbox, ..sizes }),
         }

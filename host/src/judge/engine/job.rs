@@ -3,7 +3,7 @@
 use super::list::List;
 use super::scratch::{Place, Row, Scratch, BARE};
 use super::view::{fits, View};
-use crate::layout::{kind, operation as at, word, SLOTS};
+use crate::layout::{kind, operation as at, word, BSEND_OVERHEAD, SLOTS};
 
 pub mod state {
     pub const PENDING: u8 = 1;
@@ -41,6 +41,11 @@ pub struct Job<'a> {
 
 pub fn set_word(bytes: &mut [u8], place: usize, value: u16) {
     bytes[place..place + 2].copy_from_slice(&value.to_le_bytes());
+}
+
+/// What a buffered message is charged.
+fn cost(sent: &[u8]) -> u16 {
+    word(sent, at::LENGTH) + BSEND_OVERHEAD as u16
 }
 
 impl<'a> Job<'a> {
@@ -160,7 +165,7 @@ impl<'a> Job<'a> {
         match sent[at::KIND] {
             kind::READY => return self.stop(4, rank, index),
             kind::BUFFERED => {
-                if !self.charge(rank, word(sent, at::LENGTH)) {
+                if !self.charge(rank, cost(sent)) {
                     return self.stop(3, rank, index);
                 }
                 self.rows[index][0] = state::BUFFERED;
@@ -182,9 +187,9 @@ impl<'a> Job<'a> {
 
     /// False if the attached buffer has no room. A step that charges a board
     /// releases nothing of it, so its peak is met here or not at all.
-    fn charge(&mut self, rank: usize, length: u16) -> bool {
+    fn charge(&mut self, rank: usize, cost: u16) -> bool {
         let place = &mut self.places[rank];
-        let in_use = word(place, IN_USE) + length;
+        let in_use = word(place, IN_USE) + cost;
         if in_use > self.view.attached(rank) {
             return false;
         }
@@ -203,7 +208,7 @@ impl<'a> Job<'a> {
         let source = self.ranks[message];
         if self.rows[message][0] == state::BUFFERED {
             let place = &mut self.places[usize::from(source)];
-            let in_use = word(place, IN_USE) - length;
+            let in_use = word(place, IN_USE) - cost(sent);
             set_word(place, IN_USE, in_use);
         }
         let cut = length > word(&self.view.operations[receive], at::LENGTH);
