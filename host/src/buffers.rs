@@ -90,22 +90,20 @@ pub fn left(sheet: &[u8], report: &[u8]) -> [bool; LEFT.len()] {
     let rows = 16 + 8 * boards;
     let figure = |rank: usize, at| usize::from(word(report, 16 + 8 * rank + at));
     let attached = |rank| usize::from(word(sheet, board_at(rank) + board::ATTACHED));
-    let mut found = [false; LEFT.len()];
-    for rank in 0..boards {
-        let (in_use, peak) = (figure(rank, 2), figure(rank, 4));
-        found[0] |= peak > 0 && peak == attached(rank);
-        found[1] |= peak > 0 && in_use == 0;
-    }
-    let operations = usize::from(word(report, 8));
-    found[2] = (0..operations).any(|i| report[rows + 12 * i] == 2 && length(sheet, i) == 0);
-    if report[0] == 3 {
-        let (rank, index) = (usize::from(report[1]), usize::from(word(report, 2)));
-        let length = length(sheet, index);
-        let missing = figure(rank, 2) + length + BSEND_OVERHEAD - attached(rank);
-        found[3] = missing == 1;
-        found[4] = missing == BSEND_OVERHEAD;
-        found[5] = missing > BSEND_OVERHEAD;
-        found[6] = length == 0;
-    }
-    found
+    let charged = |rank: &usize| figure(*rank, 4) > 0;
+    let filled = |rank| figure(rank, 4) == attached(rank);
+    let released = |rank| figure(rank, 2) == 0;
+    let empty = |index| report[rows + 12 * index] == 2 && length(sheet, index) == 0;
+    let (rank, index) = (usize::from(report[1]), usize::from(word(report, 2)));
+    let overflow = (report[0] == 3).then(|| length(sheet, index));
+    let missing = overflow.map(|length| figure(rank, 2) + length + BSEND_OVERHEAD - attached(rank));
+    [
+        (0..boards).filter(charged).any(filled),
+        (0..boards).filter(charged).any(released),
+        (0..usize::from(word(report, 8))).any(empty),
+        missing == Some(1),
+        missing == Some(BSEND_OVERHEAD),
+        missing > Some(BSEND_OVERHEAD),
+        overflow == Some(0),
+    ]
 }

@@ -9,7 +9,7 @@ ghost use Rattle.rules.specs.Claims.{all-charges, script};
 ghost use Rattle.rules.specs.Premise.{cover-refusal};
 ghost use Rattle.laws.specs.Laid.{Laid};
 ghost use Rattle.laws.specs.Tabled.{Tabled};
-ghost use Rattle.words.specs.Read.{Sum};
+ghost use Rattle.words.specs.Read.{Word-sum};
 use sheet::Answer;
 use sheet::boards;
 use sheet::header;
@@ -18,7 +18,7 @@ use sheet::ops;
 // What operation i would be charged: nothing, where it is no buffered send.
 fn charge(s: &[u8], i: usize) -> usize
     requires { ⌜ Laid (now s) × (i < N-of (sheet-in (now s))) ⌝ }
-    ensures { λ v. ⌜ Sum (cond (is-buffered (op (sheet-in (now (s .entry))) i)) (charge-of (op (sheet-in (now (s .entry))) i)) 0) v ⌝ }
+    ensures { λ v. ⌜ Word-sum (cond (is-buffered (op (sheet-in (now (s .entry))) i)) (charge-of (op (sheet-in (now (s .entry))) i)) 0) v ⌝ }
 {
     if ops::is_buffered(s, i) {
         ops::charge(s, i)

@@ -3,6 +3,7 @@
 -- more than peaks. It does not suffice either that buffers cover the lengths of their messages without the overhead. And on a
 -- calm sheet the peaks may differ. Each sheet is written as a bench job and computed.
 --   calm-parts          calm is these three conditions
+--   lengths-calm        the same with lengths in the place of charges
 --   Ends-alike-on       two full orders end alike, on the sheets that pass a test
 --   Pair-of-orders      a sheet, and two orders
 --   apart-refutes       a pair that ends apart refutes Ends-alike-on
@@ -35,13 +36,14 @@ no-ready s = all (λ o. not (is-ready o)) (s .ops)
 unfoldable pub covered : Sheet → Bool
 covered s = all-covered (s .boards) (s .ops)
 
--- too little: on each board the lengths of all its buffered sends add up to at most its attached size
+-- too little for the third: on each board the lengths of all its buffered sends add up to at most its attached size
 unfoldable pub all-lengths : List Op → ℕ
 all-lengths [] = 0
 all-lengths (o ∷ os) = cond (is-buffered o) (o .long) 0 + all-lengths os
 
-unfoldable pub lengths-covered : Sheet → Bool
-lengths-covered s = all (λ b. leb (all-lengths (claims.script b (s .ops))) (b .attached)) (s .boards)
+unfoldable pub lengths-calm : Sheet → Bool
+lengths-calm s =
+    (no-any-source s && no-ready s) && all (λ b. leb (all-lengths (claims.script b (s .ops))) (b .attached)) (s .boards)
 
 -- the three conditions together are calm
 wild-parts : (os : List Op) → none-wild os ≡ all (λ o. not (is-any-source o)) os && all (λ o. not (is-ready o)) os
@@ -234,8 +236,8 @@ uncovered-apart : ends-apart (λ s. no-any-source s && no-ready s) uncovered-pai
 unfolding definitions ends-apart no-any-source no-ready uncovered-pair two-buffered
 uncovered-apart = refl
 
-lengths-apart : ends-apart (λ s. (no-any-source s && no-ready s) && lengths-covered s) lengths-pair ≡ true
-unfolding definitions ends-apart no-any-source no-ready lengths-covered all-lengths lengths-pair two-buffered
+lengths-apart : ends-apart lengths-calm lengths-pair ≡ true
+unfolding definitions ends-apart lengths-calm no-any-source no-ready all-lengths lengths-pair two-buffered
 lengths-apart = refl
 
 -- receives from any source cannot be allowed
@@ -251,8 +253,8 @@ pub cover-matters : Ends-alike-on (λ s. no-any-source s && no-ready s) → ⊥
 cover-matters = apart-refutes (λ s. no-any-source s && no-ready s) uncovered-pair uncovered-apart
 
 -- nor buffers that cover the lengths and not the charges
-pub overhead-matters : Ends-alike-on (λ s. (no-any-source s && no-ready s) && lengths-covered s) → ⊥
-overhead-matters = apart-refutes (λ s. (no-any-source s && no-ready s) && lengths-covered s) lengths-pair lengths-apart
+pub overhead-matters : Ends-alike-on lengths-calm → ⊥
+overhead-matters = apart-refutes lengths-calm lengths-pair lengths-apart
 
 -- and on a calm sheet peaks differ where all else is equal
 pub peaks-matter : peaks-apart calm-pair ≡ true

@@ -22,7 +22,7 @@ use Rattle.rules.specs.BenchJob.{Draft, draft-bytes, same}
 use Rattle.rules.specs.BenchNumbered.{ready-sheet, any-source-sheet}
 use Rattle.rules.specs.Definitions.{definitions}
 use Rattle.laws.specs.Tests.{and-left, and-right, true-not-false}
-use Rattle.promises.specs.Counterexamples.{no-any-source, no-ready, covered, lengths-covered, all-lengths}
+use Rattle.promises.specs.Counterexamples.{no-any-source, no-ready, covered, lengths-calm, all-lengths}
 use Rattle.promises.specs.Counterexamples.{two-buffered, uncovered-sheet, lengths-sheet, same-refl}
 
 -- demand 3's claim about exchanged steps, on the sheets that pass a test
@@ -172,8 +172,8 @@ uncovered-apart : swaps-apart (λ s. no-any-source s && no-ready s) uncovered-ex
 unfolding definitions swaps-apart no-any-source no-ready uncovered-exchange two-buffered
 uncovered-apart = refl
 
-lengths-apart : swaps-apart (λ s. (no-any-source s && no-ready s) && lengths-covered s) lengths-exchange ≡ true
-unfolding definitions swaps-apart no-any-source no-ready lengths-covered all-lengths lengths-exchange two-buffered
+lengths-apart : swaps-apart lengths-calm lengths-exchange ≡ true
+unfolding definitions swaps-apart lengths-calm no-any-source no-ready all-lengths lengths-exchange two-buffered
 lengths-apart = refl
 
 -- THE LAWS: what calm still asks when one of its conditions is dropped
@@ -186,5 +186,5 @@ ready-swap-matters = swap-refutes (λ s. no-any-source s && covered s) ready-exc
 pub cover-swap-matters : Swap-same-on (λ s. no-any-source s && no-ready s) → ⊥
 cover-swap-matters = swap-refutes (λ s. no-any-source s && no-ready s) uncovered-exchange uncovered-apart
 
-pub overhead-swap-matters : Swap-same-on (λ s. (no-any-source s && no-ready s) && lengths-covered s) → ⊥
-overhead-swap-matters = swap-refutes (λ s. (no-any-source s && no-ready s) && lengths-covered s) lengths-exchange lengths-apart
+pub overhead-swap-matters : Swap-same-on lengths-calm → ⊥
+overhead-swap-matters = swap-refutes lengths-calm lengths-exchange lengths-apart

@@ -8,7 +8,7 @@ ghost use Rattle.rules.specs.Step.{charge-of};
 ghost use Rattle.rules.specs.Claims.{is-any-source};
 ghost use Rattle.laws.specs.Laid.{Laid};
 ghost use Rattle.sheet.specs.Fields.{Op-at};
-ghost use Rattle.words.specs.Read.{Word, Byte, Sum};
+ghost use Rattle.words.specs.Read.{Word, Byte, Word-sum};
 use crate::header;
 
 // Where operation i stands.
@@ -175,7 +175,7 @@ pub fn frees_slot(s: &[u8], i: usize) -> bool
 // What it is charged where it is a buffered send that nothing fits.
 pub fn charge(s: &[u8], i: usize) -> usize
     requires { ⌜ Laid (now s) × (i < N-of (sheet-in (now s))) ⌝ }
-    ensures { λ v. ⌜ Sum (charge-of (op (sheet-in (now (s .entry))) i)) v ⌝ }
+    ensures { λ v. ⌜ Word-sum (charge-of (op (sheet-in (now (s .entry))) i)) v ⌝ }
 {
     long(s, i) + limits::BSEND_OVERHEAD
 }

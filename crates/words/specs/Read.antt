@@ -14,6 +14,6 @@ pub record Byte (value r : ℕ) : Type 0 where
   pub small : r < 256
 
 -- the sum of two numbers of two bytes
-pub record Sum (value r : ℕ) : Type 0 where
+pub record Word-sum (value r : ℕ) : Type 0 where
   pub is : r ≡ value
   pub small : r < 131072
