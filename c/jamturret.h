@@ -166,7 +166,8 @@ jamturret_answer jamturret_premise(const uint8_t *sheet, size_t sheet_len);
  * receive, stop the job.
  *
  * A message up to the receive's capacity is copied to the start of its area.
- * A longer one is cut: nothing is copied, and the report tells its length.
+ * A longer one is cut: its first bytes fill the area, and the report tells its
+ * full length.
  */
 
 /*

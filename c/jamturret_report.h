@@ -45,9 +45,10 @@ extern "C" {
 
 /*
  * Where an operation row's fields stand. Operation i's row is at
- * 16 + 8 P + 12 i. Source, tag and length tell what a matched receive got, as
- * an MPI status does, also of a cut message, of which nothing is copied. In
- * all other rows they are none, none and 0.
+ * 16 + 8 P + 12 i. Source, tag and length tell what message a matched receive
+ * got, as an MPI status does. Of a cut message the length is the full one, and
+ * as many bytes as the receive's capacity were copied. In all other rows they
+ * are none, none and 0.
  */
 #define JAMTURRET_OPERATION_ROW_STATE_AT 0   /* 1 byte: an enum jamturret_operation_state */
 #define JAMTURRET_OPERATION_ROW_CUT_AT 1     /* 1 byte: 1 in a receive whose message was cut */

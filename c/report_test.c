@@ -147,9 +147,13 @@ static void numbered_report(void)
     expect_operation("numbered operation 1", report, 1, operation);
 }
 
+/* Rank 1's inbox of four bytes, and two bytes behind it. */
+static uint8_t inbox[6];
+
 /*
  * Rank 0 has the given script and buffer, rank 1 receives tag 1 from rank 0
- * into four bytes. Follows it for some steps of the order 0, 1, 1, 0.
+ * into four bytes. Follows it for some steps of the order 0, 1, 1, 0, from an
+ * inbox of 0xEE.
  */
 static const uint8_t *followed(const jamturret_operation *script, uint32_t count, uint32_t attached,
                                size_t steps)
@@ -157,12 +161,12 @@ static const uint8_t *followed(const jamturret_operation *script, uint32_t count
     static const uint8_t order[] = {0, 1, 1, 0};
     static const uint8_t payload[] = {1, 2, 3, 4, 5};
     static uint8_t sheet[JAMTURRET_SHEET(2, 3, 5)];
-    static uint8_t inbox[4];
     static uint8_t report[JAMTURRET_REPORT(2, 3)];
     static uint8_t scratch[JAMTURRET_SCRATCH];
     const jamturret_board boards[] = {{count, attached, 0}, {1, 0, 4}};
     jamturret_operation operations[3];
     const jamturret_job job = {1, boards, 2, operations, count + 1, payload, 5};
+    memset(inbox, 0xEE, sizeof inbox);
     memcpy(operations, script, count * sizeof *script);
     operations[count] = jamturret_receive(0, 1, 0, 4);
     expect_answer("build", jamturret_build(&job, sheet, sizeof sheet), JAMTURRET_SUCCESS, 0);
@@ -212,12 +216,16 @@ static void ready_send(void)
     expect_header("not ready", followed(&send, 1, 0, 1), not_ready);
 }
 
-/* Five bytes into four: cut. Rank 0 steps for send and wait, rank 1 twice for its receive. */
+/*
+ * Five bytes into four: cut, and the first four are copied. Rank 0 steps for
+ * send and wait, rank 1 twice for its receive.
+ */
 static void nonblocking_send(void)
 {
     static const unsigned cut[]
         = {JAMTURRET_FINISHED, JAMTURRET_NO_RANK, JAMTURRET_NONE, 4, 2, 3, 0, 0, 1};
     static const unsigned receive[] = {JAMTURRET_OPERATION_MATCHED, 1, 0, 0, 1, 5};
+    static const uint8_t front[] = {1, 2, 3, 4, 0xEE, 0xEE};
     const jamturret_operation script[]
         = {jamturret_nonblocking(jamturret_send(JAMTURRET_KIND_STANDARD, 1, 1, 0, 5), 9),
            jamturret_wait(9)};
@@ -225,6 +233,8 @@ static void nonblocking_send(void)
     expect_header("cut", report, cut);
     expect_unmatched("wait", report, 1, JAMTURRET_OPERATION_WAIT_FINISHED);
     expect_operation("cut", report, 2, receive);
+    expect("the front of a cut message, and nothing behind it",
+           memcmp(inbox, front, sizeof front) == 0, 1);
 }
 
 /* Tag 2 does not fit: after two steps both are pending and nobody is able. */

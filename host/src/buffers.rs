@@ -3,8 +3,8 @@
 //! have to make: both sides of what a buffer holds, and sizes between the
 //! lengths and the charges.
 
-use crate::layout::{board, header, kind, operation, word, BSEND_OVERHEAD};
-use crate::sheet::{board_at, operation_at};
+use crate::layout::{board, kind, operation, word, BSEND_OVERHEAD};
+use crate::sheet::{boards, entry_of, field_of, kind_of};
 use jamturret::lent::Answer;
 
 /// The buffered sends of a board together, and its buffer.
@@ -16,13 +16,12 @@ pub struct Buffered {
 
 impl Buffered {
     pub fn of(sheet: &[u8], rank: usize) -> Buffered {
-        let entry = board_at(rank);
-        let first = usize::from(word(sheet, entry + board::FIRST));
-        let count = usize::from(word(sheet, entry + board::COUNT));
-        let attached = usize::from(word(sheet, entry + board::ATTACHED));
+        let first = entry_of(sheet, rank, board::FIRST);
+        let count = entry_of(sheet, rank, board::COUNT);
+        let attached = entry_of(sheet, rank, board::ATTACHED);
         let (mut lengths, mut charges) = (0, 0);
         for index in first..first + count {
-            if of_operation(sheet, index, operation::KIND)[0] == kind::BUFFERED {
+            if kind_of(sheet, index) == kind::BUFFERED {
                 let length = length(sheet, index);
                 lengths += length;
                 charges += length + BSEND_OVERHEAD;
@@ -36,17 +35,8 @@ impl Buffered {
     }
 }
 
-fn boards(sheet: &[u8]) -> usize {
-    usize::from(word(sheet, header::BOARDS))
-}
-
-/// The bytes of an operation from a field on.
-fn of_operation(sheet: &[u8], index: usize, field: usize) -> &[u8] {
-    &sheet[operation_at(boards(sheet), index) + field..]
-}
-
 fn length(sheet: &[u8], index: usize) -> usize {
-    usize::from(word(of_operation(sheet, index, operation::LENGTH), 0))
+    field_of(sheet, index, operation::LENGTH)
 }
 
 /// What `covered` finds.
@@ -89,7 +79,7 @@ pub fn left(sheet: &[u8], report: &[u8]) -> [bool; LEFT.len()] {
     let boards = boards(sheet);
     let rows = 16 + 8 * boards;
     let figure = |rank: usize, at| usize::from(word(report, 16 + 8 * rank + at));
-    let attached = |rank| usize::from(word(sheet, board_at(rank) + board::ATTACHED));
+    let attached = |rank| entry_of(sheet, rank, board::ATTACHED);
     let charged = |rank: &usize| figure(*rank, 4) > 0;
     let filled = |rank| figure(rank, 4) == attached(rank);
     let released = |rank| figure(rank, 2) == 0;

@@ -1,5 +1,5 @@
-//! What the two differential programs share: arguments, and saying where the
-//! first difference is.
+//! What the two differential programs share: arguments, counting cases, and
+//! saying where the first difference is.
 
 use std::{env, fs, process};
 
@@ -14,6 +14,13 @@ pub fn argument(program: &str, place: usize, default: u64) -> u64 {
             eprintln!("usage: {program} [SEED] [CASES]");
             process::exit(2)
         }),
+    }
+}
+
+/// Counts the cases that were found.
+pub fn tally<const N: usize>(counts: &mut [u64; N], found: [bool; N]) {
+    for (count, found) in counts.iter_mut().zip(found) {
+        *count += u64::from(found);
     }
 }
 

@@ -8,6 +8,7 @@
 //! - `judge`: our own judge, in an ordinary and in a naive form.
 //! - `sheet`: builds job sheets, right ones and damaged ones.
 //! - `bench_jobs`: the bench jobs of document 01 as sheets.
+//! - `areas`: the cases around a receive's capacity.
 //! - `buffers`: what buffered sends cost, and the cases around it.
 //! - `random`: a seeded generator of numbers.
 //! - `generate`: generators of sheets for the differential tests.
@@ -19,6 +20,7 @@
 //! - `settled`: answers to cases that never change, kept as digests.
 //! - `traffic`: the jobs that are timed.
 
+pub mod areas;
 pub mod bench_jobs;
 pub mod buffers;
 pub mod command;

@@ -1,9 +1,11 @@
 //! Builds job sheets: boards, operations and payload in, bytes with the right
-//! offsets and CRC out; and the means to damage a field of those bytes and to
-//! mend the CRC afterwards (document 01, The sheet, byte by byte).
+//! offsets and CRC out; fields of right sheets read back; and the means to
+//! damage a field of those bytes and to mend the CRC afterwards (document 01,
+//! The sheet, byte by byte).
 
 use crate::judge::crc::crc_of_sheet;
-use crate::layout::{header, kind, word, BOARD_BYTES, HEADER_BYTES, MOST_LENGTH, OPERATION_BYTES};
+use crate::layout::{header, kind, operation, word};
+use crate::layout::{BOARD_BYTES, HEADER_BYTES, MOST_LENGTH, OPERATION_BYTES};
 
 #[derive(Clone, Copy, Debug, Default, PartialEq, Eq)]
 pub struct Operation {
@@ -160,6 +162,11 @@ fn push_words(out: &mut Vec<u8>, words: &[u16]) {
     }
 }
 
+/// How many boards a sheet has.
+pub fn boards(sheet: &[u8]) -> usize {
+    usize::from(word(sheet, header::BOARDS))
+}
+
 /// Where a board's entry starts.
 pub fn board_at(rank: usize) -> usize {
     HEADER_BYTES + BOARD_BYTES * rank
@@ -168,6 +175,21 @@ pub fn board_at(rank: usize) -> usize {
 /// Where an operation starts in a sheet of `boards` boards.
 pub fn operation_at(boards: usize, index: usize) -> usize {
     board_at(boards) + OPERATION_BYTES * index
+}
+
+/// An operation's kind.
+pub fn kind_of(sheet: &[u8], index: usize) -> u8 {
+    sheet[operation_at(boards(sheet), index) + operation::KIND]
+}
+
+/// A number of an operation, by its place there.
+pub fn field_of(sheet: &[u8], index: usize, field: usize) -> usize {
+    usize::from(word(sheet, operation_at(boards(sheet), index) + field))
+}
+
+/// A number of a board's entry, by its place there.
+pub fn entry_of(sheet: &[u8], rank: usize, field: usize) -> usize {
+    usize::from(word(sheet, board_at(rank) + field))
 }
 
 pub fn set_word(sheet: &mut [u8], at: usize, value: u16) {

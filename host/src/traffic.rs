@@ -72,6 +72,15 @@ pub fn all_to_one(operations: usize) -> Sheet {
 
 /// Four boards send 128 messages each of 4,096 bytes to four others.
 pub fn heavy() -> Sheet {
+    heavy_into(MOST_LENGTH)
+}
+
+/// The same, each message cut to half of it.
+pub fn heavy_cut() -> Sheet {
+    heavy_into(MOST_LENGTH / 2)
+}
+
+fn heavy_into(capacity: u16) -> Sheet {
     const PAIRS: usize = 4;
     const MESSAGES: usize = 128;
     let mut boards = Vec::new();
@@ -89,7 +98,7 @@ pub fn heavy() -> Sheet {
         boards.push(Board {
             attached: 0,
             inbox: MOST_LENGTH,
-            script: vec![Operation::receive(rank as u16, 0, 0, MOST_LENGTH); MESSAGES],
+            script: vec![Operation::receive(rank as u16, 0, 0, capacity); MESSAGES],
         });
     }
     Sheet {

@@ -6,7 +6,7 @@ use jamturret::lent::Answer;
 use jamturret_host::bench_jobs;
 use jamturret_host::compare::{self, Call};
 use jamturret_host::desk::{Desk, FILL};
-use jamturret_host::layout::kind::BUFFERED;
+use jamturret_host::layout::kind::{BUFFERED, STANDARD};
 use jamturret_host::layout::word;
 use jamturret_host::random::Random;
 use jamturret_host::sheet::{Operation, Sheet};
@@ -229,7 +229,7 @@ fn case_11_cut() {
     let outcome = run(&bench_jobs::case_11(5));
     outcome.ends(FINISHED, &[0, 1, 0, 1]);
     outcome.counts(0, 0, 1);
-    outcome.inbox(&[]);
+    outcome.inbox(&[(INBOX_1, &[1, 2, 3, 4])]);
     assert_eq!(outcome.row(0), [3, 0, 1, 0, 255, 255, 255, 255, 0, 0, 0, 0]);
     assert_eq!(outcome.row(1), [3, 1, 0, 0, 0, 0, 0, 0, 5, 0, 0, 0]);
 
@@ -237,6 +237,61 @@ fn case_11_cut() {
     outcome.ends(FINISHED, &[0, 1, 0, 1]);
     outcome.counts(0, 0, 0);
     outcome.inbox(&[(INBOX_1, &[1, 2, 3, 4])]);
+}
+
+/// Document 02, K5: payload bytes 2 to 4, or fewer, to an area that starts at
+/// offset 3.
+#[test]
+fn capacities() {
+    for (length, capacity, cut, copied) in [
+        (3, 0, 1, &[][..]),
+        (0, 0, 0, &[]),
+        (3, 1, 1, &[2]),
+        (3, 2, 1, &[2, 3]),
+        (3, 3, 0, &[2, 3, 4]),
+        (3, 4, 0, &[2, 3, 4]),
+        (0, 4, 0, &[]),
+    ] {
+        let send = Operation::send(STANDARD, 1, 0, 1, length);
+        let receive = Operation::receive(0, 0, 3, capacity);
+        let sheet = Sheet::of_scripts(&[&[send], &[receive], &[]], 16);
+        let outcome = run(&sheet);
+        outcome.ends(FINISHED, &[0, 1, 0, 1]);
+        outcome.counts(0, 0, cut);
+        outcome.inbox(&[(INBOX_1 + 3, copied)]);
+        let row = [3, cut as u8, 0, 0, 0, 0, 0, 0, length as u8, 0, 0, 0];
+        assert_eq!(outcome.row(1), row, "length {length}, capacity {capacity}");
+    }
+}
+
+/// The cut message comes last; the areas on both sides keep what they got.
+#[test]
+fn cut_between_two_others() {
+    let sends = [(1, 0, 2), (2, 2, 2), (3, 4, 4)];
+    let sends =
+        sends.map(|(tag, offset, length)| Operation::send(BUFFERED, 1, tag, offset, length));
+    let areas = [(1, 0), (2, 4), (3, 2)];
+    let receives = areas.map(|(tag, offset)| Operation::receive(0, tag, offset, 2));
+    let outcome = run(&Sheet::of_scripts(&[&sends, &receives], 16).attach(0, 104));
+    outcome.counts(0, 0, 1);
+    outcome.inbox(&[(INBOX_1, &[1, 2, 5, 6, 3, 4])]);
+    outcome.board(0, (3, 0, 104, 2));
+}
+
+/// Both areas start at one place: the later receive's byte stands.
+#[test]
+fn cut_over_cut() {
+    let sends = [
+        Operation::send(STANDARD, 1, 1, 0, 3),
+        Operation::send(STANDARD, 1, 2, 3, 2),
+    ];
+    let receives = [
+        Operation::receive(0, 1, 0, 2),
+        Operation::receive(0, 2, 0, 1),
+    ];
+    let outcome = run(&Sheet::of_scripts(&[&sends, &receives], 16));
+    outcome.counts(0, 0, 2);
+    outcome.inbox(&[(INBOX_1, &[4, 2])]);
 }
 
 #[test]

@@ -3,7 +3,7 @@
 
 use jamturret::lent::{self, Answer};
 use jamturret_host::judge::{self, Rooms};
-use jamturret_host::settled::ask::{Digests, Run, Services, LIBRARY};
+use jamturret_host::settled::ask::{Digests, Run, Services, LIBRARY, WITHOUT_INBOXES};
 use jamturret_host::settled::cases::{case, inputs, CASES, SEED};
 use jamturret_host::settled::features::{named, FEATURES};
 use jamturret_host::settled::reached::Reached;
@@ -120,6 +120,40 @@ fn every_lent_room_counts() {
         // Some rooms are empty.
         assert!(run > TRIED / 2, "{run}");
     }
+}
+
+/// What *run* answers and leaves in the inboxes and in the other rooms.
+fn outcome(run: Run, number: usize) -> (Answer, Vec<u8>, [Vec<u8>; 3]) {
+    let case = case(number);
+    let room = |length: usize| vec![0xEE; length];
+    let mut inbox = room(case.rooms.inbox);
+    let mut report = room(case.rooms.report);
+    let mut order_out = room(case.rooms.order_out);
+    let mut scratch = room(case.rooms.scratch);
+    let answer = run(
+        &case.sheet,
+        &mut inbox,
+        &mut report,
+        &mut order_out,
+        &mut scratch,
+    );
+    (answer, inbox, [report, order_out, scratch])
+}
+
+#[test]
+fn inboxes_alone_are_set_aside() {
+    let mut delivered = 0;
+    for number in 0..TRIED {
+        let (answer, inbox, others) = outcome(LIBRARY.run, number);
+        let aside = outcome(WITHOUT_INBOXES.run, number);
+        let lent = vec![0xEE; inbox.len()];
+        delivered += usize::from(inbox != lent);
+        assert_eq!(aside, (answer, lent, others), "case {number}");
+    }
+    assert!(delivered > 200, "{delivered}");
+    let [check, follow, run] = differing(WITHOUT_INBOXES);
+    assert_eq!(check, 0);
+    assert!(follow > 200 && run > 200, "{follow}, {run}");
 }
 
 /// A check that refuses nothing, and a follow that tells another place.

@@ -64,7 +64,8 @@ pub struct ReceiveOperation {
     pub tag: Tag,
     /// Where the area starts in the inbox.
     pub offset: usize,
-    /// The area's length. A longer message is cut: nothing of it is copied.
+    /// The area's length. A longer message is cut: its first bytes fill the
+    /// area.
     pub capacity: usize,
     /// The request slot of a nonblocking receive; none for a blocking one.
     pub slot: Option<usize>,

@@ -66,8 +66,8 @@ pub struct Status {
     pub tag: usize,
     /// The message's full length.
     pub length: usize,
-    /// Whether the message was longer than the capacity. Nothing of it was
-    /// copied then.
+    /// Whether the message was longer than the capacity. Its first bytes then
+    /// filled the area, and `length` is more than was copied.
     pub cut: bool,
 }
 

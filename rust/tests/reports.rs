@@ -172,7 +172,9 @@ fn verdicts() {
         Some(OperationState::WaitFinished)
     );
 
-    let cut = ran("cut");
+    let cut = run(sample("cut"), Some(&[9; 6])).expect("it passes");
+    assert_eq!(cut.inboxes, [&[][..], &[11, 12, 13, 14, 9, 9]]);
+    let cut = cut.report;
     assert_eq!((cut.verdict(), cut.cut_messages()), (Verdict::Finished, 1));
     let status = cut.operation(1).and_then(|row| row.status);
     let status = status.expect("matched");

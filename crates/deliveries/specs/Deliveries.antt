@@ -4,7 +4,7 @@
 --   Sent, Inbox-at    a message and its receive; where a board's inbox starts
 --   replay-in         the delivery that row j tells; replayed-in those of the first n rows
 --   part-splice       bytes put at the front of a part that comes back
---   delivered-part    such a copy is a delivery; delivered-cut: a cut message leaves all as it was
+--   delivered-part    such a copy of what a match copies is a delivery
 --   Replaying         the first i operations are delivered; Scripting, Filling: so far in a board's script, in the scripts
 --   memory-is         all of them are the memory of the job that stands there
 use mathlib.Core.Path.{_≡_, refl, sym, ap, subst, _∙_}
@@ -16,19 +16,19 @@ use native.Mathlib.Numerals.{add-one}
 use lib.Dec.{eqb}
 use lib.ListN.{length, take, drop, take-append-drop, length-drop}
 use lib.Seq.{length-take-le, drop-append-le, drop-drop, take-append-le}
-use borrow.Author.Tests.{lt-ltb, le-ltb, eq-eqb, ne-eqb}
+use borrow.Author.Tests.{eq-eqb, ne-eqb}
 use borrow.Rule.Slice.PartMut.{midOf, putMid}
 use Rattle.rules.specs.Limits.{most-inbox, scratch-size, payload-at}
 use Rattle.rules.specs.Sheet.{Sheet, op, board, P-of, N-of, sheet-in, rank-of, counts-before, inbox-start, inbox-total, is-send, is-receive, P-in, N-in, L-in}
 use Rattle.rules.specs.Job.{Job, Entry, entry-at}
-use Rattle.rules.specs.Step.{splice, area-start, is-cut, copied, delivered}
+use Rattle.rules.specs.Step.{splice, area-start, copied, delivered}
 use Rattle.laws.specs.Tests.{true-not-false}
 use Rattle.laws.specs.Laid.{Laid}
 use Rattle.laws.specs.Ranks.{inbox-start-none, counts-none, inbox-start-more, counts-more}
-use Rattle.laws.specs.Splice.{splice-none}
 use Rattle.invariant.specs.sheet.Valid.{Valid, valid-first}
 use Rattle.invariant.specs.Invariant.{replay, replayed}
 use Rattle.invariant.specs.sheet.Extents.{send-inside, send-extent, area-inside}
+use Rattle.invariant.specs.deliveries.Commute.{copied-in-area, copied-in-message}
 use Rattle.rules.specs.Report.{entry-in}
 use Rattle.state.specs.declared.Control.{Control}
 use Rattle.state.specs.Layout.{row-at}
@@ -139,33 +139,21 @@ module _ {bs : List ℕ} {m r : ℕ} (d : Sent bs m r) where
       take-part n (L-in bs) (drop payload-start bs) off (omega (arith, d .laid .payload-is)) (omega (arith, d .laid .whole))
       ∙ ap (λ (z : List ℕ). take n z) (drop-drop off payload-start bs)
 
-  -- a message that is longer than the area leaves all as it was
-  pub delivered-cut : (inbox : List ℕ) → inbox-total sheet ≤ length inbox → op sheet r .long < op sheet m .long →
-      inbox ≡ delivered sheet m r inbox
-  unfolding delivered copied is-cut area-start
-  delivered-cut inbox room longer =
-      let none : copied sheet m r ≡ 0 =
-      ap (λ (b : Bool). cond b 0 (op sheet m .long)) (lt-ltb (op sheet r .long) (op sheet m .long) longer) in
-      sym
-      (ap (λ (n : ℕ). splice inbox (area-start sheet r) (take n (drop (op sheet m .offset) (sheet .payload)))) none
-      ∙ splice-none inbox (area-start sheet r) (omega (arith, area-end)))
-
-  -- any other is copied to the front of the part that is the area
-  pub delivered-part : (inbox : List ℕ) (from size area end : ℕ) → inbox-total sheet ≤ length inbox →
-      size ≤ op sheet r .long → from ≡ payload-start + op sheet m .offset → size ≡ op sheet m .long →
+  -- what a match copies, put at the front of the part that is the area
+  pub delivered-part : (inbox : List ℕ) (from count area end : ℕ) → inbox-total sheet ≤ length inbox →
+      from ≡ payload-start + op sheet m .offset → count ≡ copied sheet m r →
       area ≡ inbox-start sheet (rank-of sheet r) + op sheet r .offset → end ≡ area + op sheet r .long →
-      putMid area (end - area) inbox (splice (midOf area (end - area) inbox) 0 (take size (drop from bs))) ≡ delivered sheet m r inbox
-  unfolding delivered copied is-cut area-start
-  delivered-part inbox from size area end room fits ef es ea ee =
-      let all : copied sheet m r ≡ op sheet m .long =
-      ap (λ (b : Bool). cond b 0 (op sheet m .long)) (le-ltb (op sheet r .long) (op sheet m .long) (omega arith)) in
-      let inside : from + size ≤ length bs = omega (arith, message-end) in
-      let long : length (take size (drop from bs)) ≡ size = length-take-le size (drop from bs) (omega (arith, length-drop from bs)) in
-      let bytes : take size (drop from bs) ≡ take (copied sheet m r) (drop (op sheet m .offset) (sheet .payload)) =
-      ap (λ (n : ℕ). take size (drop n bs)) ef
-      ∙ sym (payload-part (op sheet m .offset) size (omega (arith, send-extent sheet (d .good) m (d .sends))))
-      ∙ ap (λ (n : ℕ). take n (drop (op sheet m .offset) (sheet .payload))) (es ∙ sym all) in
-      part-splice inbox area end (take size (drop from bs)) (omega arith) (omega (arith, area-end)) (omega arith)
+      putMid area (end - area) inbox (splice (midOf area (end - area) inbox) 0 (take count (drop from bs))) ≡ delivered sheet m r inbox
+  unfolding delivered area-start
+  delivered-part inbox from count area end room ef es ea ee =
+      let fits : count ≤ op sheet m .long = omega (arith, copied-in-message sheet m r) in
+      let inside : from + count ≤ length bs = omega (arith, message-end) in
+      let long : length (take count (drop from bs)) ≡ count = length-take-le count (drop from bs) (omega (arith, length-drop from bs)) in
+      let bytes : take count (drop from bs) ≡ take (copied sheet m r) (drop (op sheet m .offset) (sheet .payload)) =
+      ap (λ (n : ℕ). take count (drop n bs)) ef
+      ∙ sym (payload-part (op sheet m .offset) count (omega (arith, send-extent sheet (d .good) m (d .sends))))
+      ∙ ap (λ (n : ℕ). take n (drop (op sheet m .offset) (sheet .payload))) es in
+      part-splice inbox area end (take count (drop from bs)) (omega arith) (omega (arith, area-end)) (omega (arith, copied-in-area sheet m r))
       ∙ ap (λ (vs : List ℕ). splice inbox area vs) bytes
       ∙ ap (λ (n : ℕ). splice inbox n (take (copied sheet m r) (drop (op sheet m .offset) (sheet .payload)))) ea
 

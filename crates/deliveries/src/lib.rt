@@ -6,7 +6,7 @@ ghost use Prim.Native.Nat.{_<_, _≤_};
 ghost use lib.ListN.{length};
 ghost use Rattle.rules.specs.Sheet.{sheet-in, rank-of, inbox-total, P-of, N-of};
 ghost use Rattle.rules.specs.Job.{Job};
-ghost use Rattle.rules.specs.Step.{delivered};
+ghost use Rattle.rules.specs.Step.{copied, delivered};
 ghost use Rattle.state.specs.declared.Control.{Control};
 ghost use Rattle.simulation.specs.Represents.{Represents};
 ghost use Rattle.deliveries.specs.Deliveries.{Sent, Inbox-at, Deliverable, replay-in, Script-delivered};
@@ -15,20 +15,28 @@ use sheet::header;
 use sheet::ops;
 use state::rows;
 
-// Message m to receive r, whose board's inbox starts at `start`. A message longer than the area is cut: nothing is copied.
+// How many bytes of message m receive r gets: all, or as many as its capacity where the message is cut.
+fn copied(s: &[u8], m: usize, r: usize) -> usize
+    requires { ⌜ Sent (now s) m r ⌝ }
+    ensures { λ n. ⌜ n ≡ copied (sheet-in (now (s .entry))) m r ⌝ }
+{
+    let size = ops::long(s, m);
+    let capacity = ops::long(s, r);
+    if capacity < size { capacity } else { size }
+}
+
+// Message m to receive r, whose board's inbox starts at `start`. The copy is lent the whole area; the bytes behind what it puts
+// there keep their values.
 fn deliver_message(s: &[u8], m: usize, r: usize, start: usize, inbox: &mut [u8])
     requires { ⌜ Sent (now s) m r × Inbox-at (sheet-in (now s)) (rank-of (sheet-in (now s)) r) start (now inbox) ⌝ }
     ensures { λ _. ⌜ now (inbox .exit) ≡ delivered (sheet-in (now (s .entry))) m r (now (inbox .entry)) ⌝ }
 {
-    let size = ops::long(s, m);
+    let count = copied(s, m, r);
     let capacity = ops::long(s, r);
-    if capacity < size {
-        return;
-    }
     let from = header::payload_offset(s) + ops::offset(s, m);
     let area = start + ops::offset(s, r);
     let end = area + capacity;
-    words::copy(&mut inbox[area..end], 0, s, from, size);
+    words::copy(&mut inbox[area..end], 0, s, from, count);
 }
 
 // Operation i: a receive that is matched has its message delivered.

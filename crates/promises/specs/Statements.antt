@@ -111,9 +111,9 @@ By-arrival =
     let s = sheet-in bs in
     Earlier-first s (told-by s (left-by s before i)) (told-by s (left-by s (before ++ after) i))
 
--- A message arrives whole or is reported cut. The rows: a matched receive's partner is a send that fits it and names it in
--- turn, and so is a matched send's partner a receive; the receive's row tells the message's source, tag and full length, and
--- says cut exactly when the message is longer than the capacity.
+-- A message arrives whole, or its front does and it is reported cut. The rows: a matched receive's partner is a send that fits
+-- it and names it in turn, and so is a matched send's partner a receive; the receive's row tells the message's source, tag and
+-- full length, and says cut exactly when the message is longer than the capacity.
 pub record Status (s : Sheet) (t : Told) (m q : ℕ) : Type 0 where
   pub sends : is-send (op s m) ≡ true
   pub receives : is-receive (op s q) ≡ true
@@ -133,10 +133,10 @@ Statuses = Of-jobs Matched-receives
 unfoldable pub Send-statuses : Type 0
 Send-statuses = Of-jobs Matched-sends
 
--- The bytes: the delivery of a matched receive covers the first `copied` bytes of its area (the message's length, or none
--- where it is cut). A byte of the inboxes is the message's byte of the last receive, in script order, whose delivery covers
--- it; a byte that no delivery covers is as it was lent. The inboxes keep their length, and what is lent beyond the sheet's own
--- total its values.
+-- The bytes: the delivery of a matched receive covers the first `copied` bytes of its area (the message's length, or the
+-- capacity where it is cut). A byte of the inboxes is the message's byte of the last receive, in script order, whose delivery
+-- covers it; a byte that no delivery covers is as it was lent. The inboxes keep their length, and what is lent beyond the
+-- sheet's own total its values.
 unfoldable pub covers : Sheet → Told → (q at : ℕ) → Bool
 covers s t q at =
     (is-receive (op s q) && eqb (t .row q .state) 3)

@@ -1,10 +1,11 @@
 -- Further bench jobs, for the slips that document 01 lists and for rules that jobs 1 to 12 leave untested: fits, posted
--- receives, charges, waits, orders that stop early. Worked out by hand; BenchNumbered says how to read them. Assumes nothing.
+-- receives, charges, waits, orders that stop early, cut messages. Worked out by hand; BenchNumbered says how to read them.
+-- Assumes nothing.
 use mathlib.Core.List.{List, [], _∷_}
 use Prim.Native.Nat.{ℕ}
 use Rattle.rules.specs.BenchJob.{standard, buffered, synchronous, any, Line, send, isend, receive, ireceive, wait, Script, script, Draft, draft}
 use Rattle.rules.specs.BenchJob.{Drive, runs, follows, Verdict, still-able, finished, deadlock, overflow, Match, _meets_, Row, row}
-use Rattle.rules.specs.BenchJob.{_becomes_, pending, cut, told, BenchJob, bench, bench-whole}
+use Rattle.rules.specs.BenchJob.{_becomes_, pending, cut, Told, told, BenchJob, bench, bench-whole}
 use Rattle.rules.specs.BenchNumbered.{case-1-sheet, nonblocking-sheet}
 
 -- an empty buffered send and no receive, with `attached` bytes
@@ -13,6 +14,24 @@ empty-buffered attached crc =
     draft 1 crc []
     (script attached 0 (send buffered 1 0 0 0 0 ∷ [])
     ∷ script 0 0 [] ∷ [])
+
+-- the bytes from 12 on, `long` of them, to an area of `capacity` bytes that starts at offset 1 of rank 1's inbox; the inboxes of
+-- ranks 0 and 2 lie on both sides
+abbrev pub message-into : (long capacity crc : ℕ) → Draft
+message-into long capacity crc =
+    draft 1 crc (11 ∷ 12 ∷ 13 ∷ 14 ∷ 15 ∷ [])
+    (script 0 1 (send standard 1 0 7 1 long ∷ [])
+    ∷ script 0 6 (receive 0 0 7 1 capacity ∷ [])
+    ∷ script 0 1 [] ∷ [])
+
+-- its job: run finishes it in four steps, `cuts` messages are cut
+abbrev pub told-into : (cuts : ℕ) → Told
+told-into cuts = told finished 4 (0 meets 1 ∷ []) (pending 0 0) (cut cuts) (row 1 0 0 2 ∷ row 1 0 0 2 ∷ row 0 0 0 2 ∷ [])
+
+abbrev pub bench-into : (long capacity crc cuts : ℕ) → (after : List ℕ) → BenchJob
+bench-into long capacity crc cuts after =
+    bench (message-into long capacity crc) (runs (0 ∷ 1 ∷ 0 ∷ 1 ∷ [])) (told-into cuts)
+    ((90 ∷ 91 ∷ 92 ∷ 93 ∷ 94 ∷ 95 ∷ 96 ∷ 97 ∷ []) becomes after)
 
 unfoldable pub further-jobs : List BenchJob
 further-jobs =
@@ -105,14 +124,15 @@ further-jobs =
     ∷ 0x01 ∷ 0x00 ∷ 0xff ∷ 0xff ∷ 0xff ∷ 0xff ∷ 0xff ∷ 0xff ∷ 0x00 ∷ 0x00 ∷ 0x00 ∷ 0x00
     ∷ 0x02 ∷ 0x00 ∷ 0xff ∷ 0xff ∷ 0xff ∷ 0xff ∷ 0xff ∷ 0xff ∷ 0x00 ∷ 0x00 ∷ 0x00 ∷ 0x00
     ∷ 0x00 ∷ 0x00 ∷ 0xff ∷ 0xff ∷ 0xff ∷ 0xff ∷ 0xff ∷ 0xff ∷ 0x00 ∷ 0x00 ∷ 0x00 ∷ 0x00 ∷ [])
-    -- J. Two cut messages: neither is copied, and the buffered one's charge goes at the match
+    -- J. Two cut messages to one place: the later puts its one byte over the earlier one's first. The buffered one's charge
+    -- goes at the match
     ∷ bench
     (draft 1 0x05c3 (11 ∷ 12 ∷ 13 ∷ 14 ∷ 15 ∷ [])
     (script 35 0 (send buffered 1 0 1 0 3 ∷ send standard 1 0 2 3 2 ∷ [])
     ∷ script 0 2 (receive 0 0 1 0 2 ∷ receive 0 0 2 0 1 ∷ []) ∷ []))
     (runs (0 ∷ 0 ∷ 0 ∷ 1 ∷ 1 ∷ 1 ∷ 0 ∷ 1 ∷ []))
     (told finished 8 (0 meets 2 ∷ 1 meets 3 ∷ []) (pending 0 0) (cut 2) (row 2 0 35 2 ∷ row 2 0 0 2 ∷ []))
-    ((90 ∷ 91 ∷ []) becomes (90 ∷ 91 ∷ []))
+    ((90 ∷ 91 ∷ []) becomes (14 ∷ 12 ∷ []))
     -- K. Waits: an unmatched synchronous send is not complete, and its wait is not able: deadlock. The blocking send between
     -- them holds no slot, and is not what the wait looks at
     ∷ bench
@@ -175,4 +195,31 @@ further-jobs =
     (runs (0 ∷ 0 ∷ []))
     (told finished 2 [] (pending 1 0) (cut 0) (row 1 32 32 2 ∷ row 0 0 0 2 ∷ []))
     ([] becomes [])
+    -- R. A message of 3 bytes into capacity 0: cut, and nothing is copied; the status tells the full length
+    ∷ bench-whole (message-into 3 0 0x4236)
+    (runs (0 ∷ 1 ∷ 0 ∷ 1 ∷ []))
+    (told-into 1)
+    ((90 ∷ 91 ∷ 92 ∷ 93 ∷ 94 ∷ 95 ∷ 96 ∷ 97 ∷ []) becomes (90 ∷ 91 ∷ 92 ∷ 93 ∷ 94 ∷ 95 ∷ 96 ∷ 97 ∷ []))
+    (0x01 ∷ 0xff ∷ 0xff ∷ 0xff ∷ 0x04 ∷ 0x00 ∷ 0x03 ∷ 0x00 ∷ 0x02 ∷ 0x00 ∷ 0x00 ∷ 0x00 ∷ 0x00 ∷ 0x00 ∷ 0x01 ∷ 0x00
+    ∷ 0x01 ∷ 0x00 ∷ 0x00 ∷ 0x00 ∷ 0x00 ∷ 0x00 ∷ 0x02 ∷ 0x00
+    ∷ 0x01 ∷ 0x00 ∷ 0x00 ∷ 0x00 ∷ 0x00 ∷ 0x00 ∷ 0x02 ∷ 0x00
+    ∷ 0x00 ∷ 0x00 ∷ 0x00 ∷ 0x00 ∷ 0x00 ∷ 0x00 ∷ 0x02 ∷ 0x00
+    ∷ 0x03 ∷ 0x00 ∷ 0x01 ∷ 0x00 ∷ 0xff ∷ 0xff ∷ 0xff ∷ 0xff ∷ 0x00 ∷ 0x00 ∷ 0x00 ∷ 0x00
+    ∷ 0x03 ∷ 0x01 ∷ 0x00 ∷ 0x00 ∷ 0x00 ∷ 0x00 ∷ 0x07 ∷ 0x00 ∷ 0x03 ∷ 0x00 ∷ 0x00 ∷ 0x00 ∷ [])
+    -- R, an empty message: not cut
+    ∷ bench-into 0 0 0x8cea 0 (90 ∷ 91 ∷ 92 ∷ 93 ∷ 94 ∷ 95 ∷ 96 ∷ 97 ∷ [])
+    -- R, capacity one below the length: cut, and its first bytes are copied
+    ∷ bench-into 3 2 0x8451 1 (90 ∷ 91 ∷ 12 ∷ 13 ∷ 94 ∷ 95 ∷ 96 ∷ 97 ∷ [])
+    -- R, capacity and length equal: whole
+    ∷ bench-into 3 3 0x6f72 0 (90 ∷ 91 ∷ 12 ∷ 13 ∷ 14 ∷ 95 ∷ 96 ∷ 97 ∷ [])
+    -- R, capacity one above the length: whole, and the area's last byte keeps its value
+    ∷ bench-into 3 4 0xded9 0 (90 ∷ 91 ∷ 12 ∷ 13 ∷ 14 ∷ 95 ∷ 96 ∷ 97 ∷ [])
+    -- S. A cut message in the middle of an inbox, the last of three: the areas on both sides keep what was delivered there
+    ∷ bench
+    (draft 1 0xa836 (11 ∷ 12 ∷ 13 ∷ 14 ∷ 15 ∷ 16 ∷ 17 ∷ 18 ∷ [])
+    (script 0 0 (send standard 1 0 1 0 2 ∷ send standard 1 0 2 2 2 ∷ send standard 1 0 3 4 4 ∷ [])
+    ∷ script 0 7 (receive 0 0 1 0 2 ∷ receive 0 0 2 4 2 ∷ receive 0 0 3 2 2 ∷ []) ∷ []))
+    (runs (0 ∷ 1 ∷ 0 ∷ 0 ∷ 1 ∷ 1 ∷ 0 ∷ 0 ∷ 1 ∷ 1 ∷ 0 ∷ 1 ∷ []))
+    (told finished 12 (0 meets 3 ∷ 1 meets 4 ∷ 2 meets 5 ∷ []) (pending 0 0) (cut 1) (row 3 0 0 2 ∷ row 3 0 0 2 ∷ []))
+    ((90 ∷ 91 ∷ 92 ∷ 93 ∷ 94 ∷ 95 ∷ 96 ∷ []) becomes (11 ∷ 12 ∷ 15 ∷ 16 ∷ 13 ∷ 14 ∷ 96 ∷ []))
     ∷ []

@@ -146,14 +146,14 @@ numbered-jobs =
     (runs (0 ∷ 0 ∷ 0 ∷ 0 ∷ []))
     (told finished 4 (1 meets 0 ∷ []) (pending 0 0) (cut 0) (row 3 0 0 2 ∷ row 0 0 0 2 ∷ []))
     ((90 ∷ 91 ∷ []) becomes (11 ∷ 12 ∷ []))
-    -- 11. Length 5, capacity 4: cut. Nothing is copied, and the status tells source, tag and full length
+    -- 11. Length 5, capacity 4: cut. The first 4 bytes are copied, and the status tells source, tag and full length
     ∷ bench-whole
     (draft 1 0xa8cc (11 ∷ 12 ∷ 13 ∷ 14 ∷ 15 ∷ [])
     (script 0 0 (send standard 1 0 7 0 5 ∷ [])
     ∷ script 0 6 (receive 0 0 7 0 4 ∷ []) ∷ []))
     (runs (0 ∷ 1 ∷ 0 ∷ 1 ∷ []))
     (told finished 4 (0 meets 1 ∷ []) (pending 0 0) (cut 1) (row 1 0 0 2 ∷ row 1 0 0 2 ∷ []))
-    ((90 ∷ 91 ∷ 92 ∷ 93 ∷ 94 ∷ 95 ∷ []) becomes (90 ∷ 91 ∷ 92 ∷ 93 ∷ 94 ∷ 95 ∷ []))
+    ((90 ∷ 91 ∷ 92 ∷ 93 ∷ 94 ∷ 95 ∷ []) becomes (11 ∷ 12 ∷ 13 ∷ 14 ∷ 94 ∷ 95 ∷ []))
     (0x01 ∷ 0xff ∷ 0xff ∷ 0xff ∷ 0x04 ∷ 0x00 ∷ 0x02 ∷ 0x00 ∷ 0x02 ∷ 0x00 ∷ 0x00 ∷ 0x00 ∷ 0x00 ∷ 0x00 ∷ 0x01 ∷ 0x00
     ∷ 0x01 ∷ 0x00 ∷ 0x00 ∷ 0x00 ∷ 0x00 ∷ 0x00 ∷ 0x02 ∷ 0x00
     ∷ 0x01 ∷ 0x00 ∷ 0x00 ∷ 0x00 ∷ 0x00 ∷ 0x00 ∷ 0x02 ∷ 0x00

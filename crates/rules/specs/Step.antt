@@ -3,7 +3,7 @@
 use mathlib.Core.Bool.{Bool, true, false, _&&_, _||_, not, cond}
 use mathlib.Core.List.{List, [], _∷_, _++_}
 use mathlib.Core.Option.{Option, none, some}
-use Prim.Native.Nat.{ℕ, zero, suc, _+_, _-_, max}
+use Prim.Native.Nat.{ℕ, zero, suc, _+_, _-_, min, max}
 use lib.Dec.{ltb, leb, eqb}
 use lib.ListN.{length, set, take, drop}
 use Rattle.rules.specs.Limits.{any, absent, bsend-overhead}
@@ -93,9 +93,10 @@ area-start s q = inbox-start s (rank-of s q) + op s q .offset
 unfoldable pub is-cut : Sheet → (m q : ℕ) → Bool
 is-cut s m q = ltb (op s q .long) (op s m .long)
 
--- how many bytes a match copies: the whole message, or none where it is cut
+-- how many bytes a match copies, from the message's front: all of them, or as many as the capacity where it is cut
+-- (document 02, K5)
 unfoldable pub copied : Sheet → (m q : ℕ) → ℕ
-copied s m q = cond (is-cut s m q) 0 (op s m .long)
+copied s m q = min (op s m .long) (op s q .long)
 
 unfoldable pub delivered : Sheet → (m q : ℕ) → List ℕ → List ℕ
 delivered s m q bs = splice bs (area-start s q) (take (copied s m q) (drop (op s m .offset) (s .payload)))

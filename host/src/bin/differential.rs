@@ -6,7 +6,7 @@
 //! attached buffer, never came up.
 
 use jamturret::lent::Answer;
-use jamturret_host::command::{argument, difference};
+use jamturret_host::command::{argument, difference, tally};
 use jamturret_host::generate::{self, KINDS};
 use jamturret_host::random::Random;
 use jamturret_host::{buffers, guarded, judge};
@@ -72,9 +72,7 @@ fn main() {
         });
         count(&mut counts[kind], check, premise);
         if check.number == 0 {
-            for (count, found) in covered.iter_mut().zip(buffers::covered(&sheet, premise)) {
-                *count += u64::from(found);
-            }
+            tally(&mut covered, buffers::covered(&sheet, premise));
         }
     }
     let totals = print(&counts);

@@ -3,8 +3,10 @@
 //!
 //! `settled --write` writes the file anew. `settled --changed OLD_FILE FEATURE...`
 //! says how many digests a changed rule has changed since OLD_FILE, and exits
-//! with 1 if a changed case has none of the features. `settled --reached` prints
-//! what the cases reach.
+//! with 1 if a changed case has none of the features. `settled --without-inboxes`
+//! prints a record that leaves out what is in the inboxes: two libraries with one
+//! such record differ in inbox bytes alone. `settled --reached` prints what the
+//! cases reach.
 
 use jamturret_host::settled::ask::{LIBRARY, SERVICES};
 use jamturret_host::settled::cases::CASES;
@@ -22,6 +24,7 @@ fn main() {
     let outcome = match words[..] {
         [] => compare(),
         ["--write"] => write(),
+        ["--without-inboxes"] => without_inboxes(),
         ["--reached"] => reached(),
         ["--changed", old, ref names @ ..] if !names.is_empty() => changed(old, names),
         _ => usage(),
@@ -33,7 +36,8 @@ fn main() {
 }
 
 fn usage() -> ! {
-    eprintln!("usage: settled [--write | --reached | --changed OLD_FILE FEATURE...]");
+    eprintln!("usage: settled [--write | --without-inboxes | --reached]");
+    eprintln!("       settled --changed OLD_FILE FEATURE...");
     eprintln!("features:");
     for feature in FEATURES {
         eprintln!("  {:<28}{}", feature.name, feature.says);
@@ -46,13 +50,9 @@ fn read(path: &str) -> Result<Record, String> {
     Record::parse(&text).map_err(|error| format!("{path}: {error}"))
 }
 
-fn now() -> Record {
-    Record::of_library(&mut Reached::default())
-}
-
 fn compare() -> Result<(), String> {
     let old = read(FILE)?;
-    let new = now();
+    let new = Record::of_library();
     let differing = old.differing(&new)?;
     if differing.is_empty() {
         println!("settled answers: {} cases, all as recorded", CASES);
@@ -72,7 +72,12 @@ fn compare() -> Result<(), String> {
 }
 
 fn write() -> Result<(), String> {
-    fs::write(FILE, now().text()).map_err(|error| error.to_string())
+    fs::write(FILE, Record::of_library().text()).map_err(|error| error.to_string())
+}
+
+fn without_inboxes() -> Result<(), String> {
+    print!("{}", Record::without_inboxes().text());
+    Ok(())
 }
 
 fn reached() -> Result<(), String> {
@@ -88,7 +93,7 @@ fn changed(path: &str, names: &[&str]) -> Result<(), String> {
         .map(|name| features::named(name).unwrap_or_else(|| usage()))
         .collect();
     let old = read(path)?;
-    let new = now();
+    let new = Record::of_library();
     let differing = old.differing(&new)?;
     println!("{} of {} cases changed", differing.len(), CASES);
     for (name, count) in SERVICES.iter().zip(old.by_service(&new)) {

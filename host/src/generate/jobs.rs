@@ -222,12 +222,13 @@ fn pair(
     (send, receive)
 }
 
-/// Mostly enough for a message, at times just enough or too little.
+/// Mostly enough for a message, at times just enough, too little or nothing.
 fn capacity(random: &mut Random, length: usize) -> usize {
-    match random.below(8) {
-        0 => length.saturating_sub(1),
-        1 => length / 2,
-        2 | 3 => length,
+    match random.below(16) {
+        0 | 1 => length.saturating_sub(1),
+        2 | 3 => length / 2,
+        4 => 0,
+        5..=8 => length,
         _ => (length + random.below(4)).min(usize::from(MOST_LENGTH)),
     }
 }

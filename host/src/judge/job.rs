@@ -187,11 +187,8 @@ impl<'a> Job<'a> {
             self.boards[self.script.rank_of[message]].in_use -= charge;
         }
         let cut = self.script.operations[message].length > self.script.operations[receive].length;
-        if cut {
-            self.cut_messages += 1;
-        } else {
-            self.deliver(message, receive);
-        }
+        self.cut_messages += usize::from(cut);
+        self.deliver(message, receive);
         self.states[message] = State::Matched {
             partner: receive,
             cut: false,
@@ -202,12 +199,18 @@ impl<'a> Job<'a> {
         };
     }
 
+    /// Of a cut message the first bytes, as many as the capacity (document
+    /// 02, K5).
     fn deliver(&mut self, message: usize, receive: usize) {
         let sent = &self.script.operations[message];
+        let into = &self.script.operations[receive];
         let from = usize::from(sent.offset);
         let bytes = &self.script.payload[from..from + usize::from(sent.length)];
-        let start = self.script.inbox_start(self.script.rank_of[receive])
-            + usize::from(self.script.operations[receive].offset);
-        self.inbox[start..start + bytes.len()].copy_from_slice(bytes);
+        let start =
+            self.script.inbox_start(self.script.rank_of[receive]) + usize::from(into.offset);
+        let area = &mut self.inbox[start..start + usize::from(into.length)];
+        for (place, byte) in area.iter_mut().zip(bytes) {
+            *place = *byte;
+        }
     }
 }

@@ -37,6 +37,18 @@ pub const LIBRARY: Services = Services {
     run: lent::run,
 };
 
+/// The library with copies of the inboxes, so that the lent ones keep their
+/// bytes and the digests tell of all else.
+pub const WITHOUT_INBOXES: Services = Services {
+    check: lent::check,
+    follow: |sheet, order, inbox, report, scratch| {
+        lent::follow(sheet, order, &mut inbox.to_vec(), report, scratch)
+    },
+    run: |sheet, inbox, report, order_out, scratch| {
+        lent::run(sheet, &mut inbox.to_vec(), report, order_out, scratch)
+    },
+};
+
 pub struct Asker {
     services: Services,
     /// What rooms hold before a call, and what scratch holds after one.

@@ -1,10 +1,12 @@
 //! What a changed case has to have: a feature is a test of a case's bytes,
-//! written from the documents and without a judge. It is a necessary
-//! condition: a case without the feature cannot have changed by the rule that
-//! speaks of it. A request that changes a rule takes one from this list or
-//! adds one to it.
+//! written from the documents and without a judge, but for cut-reported, which
+//! asks the library. It is a necessary condition: a case without the feature
+//! cannot have changed by the rule that speaks of it. A request that changes a
+//! rule takes one from this list or adds one to it.
 
+use super::ask::{Asker, LIBRARY};
 use super::cases::Case;
+use super::reached::Reached;
 use super::sheet::{scripts, second_edition, word, Operation};
 use super::sheet::{ANY, BUFFERED, OPERATIONS, PROBE, QUERY, READY, RECEIVE, WAIT};
 
@@ -15,7 +17,7 @@ pub struct Feature {
     pub in_case: fn(&Case) -> bool,
 }
 
-pub const FEATURES: [Feature; 10] = [
+pub const FEATURES: [Feature; 11] = [
     Feature {
         name: "buffered-send",
         says: "a buffered send (K2)",
@@ -25,6 +27,15 @@ pub const FEATURES: [Feature; 10] = [
         name: "cut-message",
         says: "a message longer than the capacity, above 0, of a receive that it fits (K5)",
         in_case: cut_message,
+    },
+    Feature {
+        name: "cut-reported",
+        says: "a report that tells a cut message (K5)",
+        in_case: |case| {
+            let mut reached = Reached::default();
+            Asker::new(LIBRARY).ask(case, &mut reached);
+            reached.cut > 0
+        },
     },
     Feature {
         name: "edition-2",

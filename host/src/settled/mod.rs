@@ -19,7 +19,8 @@
 //! - `job`: sheets that *check* accepts, and the order that they were written in.
 //! - `damage`: sheets that it refuses.
 //! - `cases`: sheet, order and lengths of the lent rooms for each number.
-//! - `ask`: a case put to the library; the digests of its outcome.
+//! - `ask`: a case put to the library; the digests of its outcome, also with the
+//!   inboxes set aside.
 //! - `record`: the file of digests, written, read and compared.
 //! - `features`: what a changed case has to have. This part is not frozen.
 //! - `reached`: counts of what the cases reach.

@@ -24,7 +24,7 @@ pub struct Reached {
     steps: u64,
     /// Matches by the kind of the send, 1 to 4.
     matches: [u64; 4],
-    cut: u64,
+    pub cut: u64,
     pending_messages: u64,
     pending_receives: u64,
     /// By P, 1 to 16, and by N: none, up to 63, up to 1,023, 1,024, above.

@@ -1,6 +1,6 @@
 //! The file of digests: written, read and compared.
 
-use super::ask::{Asker, Digests, Services, LIBRARY, SERVICES};
+use super::ask::{Asker, Digests, Services, LIBRARY, SERVICES, WITHOUT_INBOXES};
 use super::cases::{case, inputs, CASES, SEED};
 use super::features::Feature;
 use super::reached::Reached;
@@ -28,11 +28,20 @@ const HEAD: &str = "\
 
 impl Record {
     /// What the library gives now.
-    pub fn of_library(reached: &mut Reached) -> Record {
+    pub fn of_library() -> Record {
+        Record::of(LIBRARY)
+    }
+
+    /// What the library gives now but for the bytes of the inboxes.
+    pub fn without_inboxes() -> Record {
+        Record::of(WITHOUT_INBOXES)
+    }
+
+    fn of(services: Services) -> Record {
         Record {
             seed: SEED,
             inputs: inputs((0..CASES).map(case)),
-            digests: digests(LIBRARY, CASES, reached),
+            digests: digests(services, CASES, &mut Reached::default()),
         }
     }
 

@@ -10,25 +10,23 @@ use crate::desk::Desk;
 use crate::judge;
 use crate::layout::{header, kind, operation, word, ANY};
 use crate::random::Random;
-use crate::sheet::operation_at;
+use crate::sheet::{boards, field_of, kind_of};
 use jamturret::lent::Answer;
 
 /// Whether the claim speaks of an accepted sheet: no receive from any source,
 /// no ready send, and on each board all buffered sends together are covered.
 pub fn applies(sheet: &[u8]) -> bool {
-    let boards = usize::from(word(sheet, header::BOARDS));
     let operations = usize::from(word(sheet, header::OPERATIONS));
     let calm = (0..operations).all(|index| {
-        let at = operation_at(boards, index);
-        let kind = sheet[at + operation::KIND];
-        let any = kind == kind::RECEIVE && word(sheet, at + operation::PEER) == ANY;
-        kind != kind::READY && !any
+        let kind = kind_of(sheet, index);
+        let source = field_of(sheet, index, operation::PEER);
+        kind != kind::READY && (kind != kind::RECEIVE || source != usize::from(ANY))
     });
     let covered = |rank| {
         let board = Buffered::of(sheet, rank);
         board.charges <= board.attached
     };
-    calm && (0..boards).all(covered)
+    calm && (0..boards(sheet)).all(covered)
 }
 
 const WHOLE_ORDERS: usize = 2;

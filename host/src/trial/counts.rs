@@ -1,9 +1,10 @@
 //! What the trials reached, so that a reader sees that nothing is left out.
 
 use super::{KINDS, ORDERS};
-use crate::buffers;
+use crate::command::tally;
 use crate::compare::Outcome;
 use crate::layout::word;
+use crate::{areas, buffers};
 use jamturret::lent::Answer;
 use std::fmt;
 
@@ -19,6 +20,8 @@ pub struct Counts {
     orders: [[u64; 4]; ORDERS.len()],
     /// Reports that show each case around an attached buffer.
     buffers: [u64; buffers::LEFT.len()],
+    /// Reports that show each case around a capacity.
+    areas: [u64; areas::LEFT.len()],
     steps: u64,
     matches: u64,
     cut: u64,
@@ -33,11 +36,10 @@ impl Counts {
     pub fn call(&mut self, kind: usize, sheet: &[u8], outcome: &Outcome) {
         let Answer { number, place } = outcome.answer;
         if number == 0 {
-            self.success(kind, &outcome.desk.report);
-            let found = buffers::left(sheet, &outcome.desk.report);
-            for (count, found) in self.buffers.iter_mut().zip(found) {
-                *count += u64::from(found);
-            }
+            let report = &outcome.desk.report;
+            self.success(kind, report);
+            tally(&mut self.buffers, buffers::left(sheet, report));
+            tally(&mut self.areas, areas::left(sheet, report));
             self.matches += outcome.desk.matched_rows() as u64 / 2;
             return;
         }
@@ -72,13 +74,14 @@ impl Counts {
     }
 
     /// The smallest count of a verdict, a refusal, a place of 8, an order that
-    /// 9 refuses and a case around a buffer: 0 if something was not reached.
+    /// 9 refuses and a case around a buffer or a capacity: 0 if something was
+    /// not reached.
     pub fn least(&self) -> u64 {
         let columns = (0..COLUMNS).map(|column| self.column(column));
         let refused = self.orders.iter().map(|row| row[1] + row[2]);
         let wrong = refused.skip(3).take(3);
         let others = self.short.into_iter().chain(self.exchanged);
-        let others = others.chain(self.buffers);
+        let others = others.chain(self.buffers).chain(self.areas);
         columns.chain(wrong).chain(others).min().unwrap_or(0)
     }
 
@@ -111,7 +114,8 @@ impl fmt::Display for Counts {
             cells(out, name, row)?;
         }
         cells(out, "refusal 8 at place 1 to 4", &self.short)?;
-        for (name, count) in buffers::LEFT.iter().zip(self.buffers) {
+        let buffers = buffers::LEFT.iter().zip(self.buffers);
+        for (name, count) in buffers.chain(areas::LEFT.iter().zip(self.areas)) {
             writeln!(out, "{name:<40}{count:>8}")?;
         }
         writeln!(

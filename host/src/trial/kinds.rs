@@ -39,11 +39,12 @@ fn bench_job(random: &mut Random) -> Vec<u8> {
 /// The jobs that are timed: up to 512 messages pending at once.
 fn any_traffic(random: &mut Random) -> Vec<u8> {
     let operations = random.pick(&[32, 128, 1024, 1024]);
-    let sheet = match random.below(4) {
+    let sheet = match random.below(5) {
         0 => traffic::ring(operations),
         1 => traffic::ring_sends_first(operations),
         2 => traffic::all_to_one(operations),
-        _ => traffic::heavy(),
+        3 => traffic::heavy(),
+        _ => traffic::heavy_cut(),
     };
     sheet.bytes()
 }

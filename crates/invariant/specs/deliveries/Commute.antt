@@ -1,6 +1,7 @@
--- A delivery puts the message's bytes at the start of the receive's area and nothing elsewhere: it keeps the length of the
--- inboxes, and deliveries to areas that share no byte may be exchanged.
---   copied-length       a match copies as many bytes as it says
+-- A delivery puts the message's first bytes, as many as there is room for, at the start of the receive's area and nothing
+-- elsewhere: it keeps the length of the inboxes, and deliveries to areas that share no byte may be exchanged.
+--   copied-in-area, copied-in-message    a match copies at most the capacity, and at most the message
+--   copied-length       as many bytes as it says
 --   delivered-length    a delivery keeps the length
 --   delivered-at        each byte after a delivery
 --   delivered-swap      two deliveries commute
@@ -12,13 +13,11 @@ use mathlib.Core.Bool.{Bool, true, false, cond}
 use mathlib.Core.List.{List}
 use Prim.Native.Nat.{ℕ, _+_, _-_, _≤_}
 use native.Mathlib.Omega.{arith}
-use lib.Dec.{ltb}
 use lib.ListN.{length, getD, take, drop, length-take, length-drop}
 use lib.Seq.{getD-take, getD-drop}
-use borrow.Author.Tests.{ltb-false}
 use Rattle.rules.specs.Sheet.{Sheet, op, rank-of, inbox-total, is-send, is-receive}
 use Rattle.rules.specs.Refusal.{share}
-use Rattle.rules.specs.Step.{area-start, is-cut, copied, delivered}
+use Rattle.rules.specs.Step.{area-start, copied, delivered}
 use Rattle.invariant.specs.sheet.Valid.{Valid}
 use Rattle.laws.specs.Splice.{splice-length}
 use Rattle.laws.specs.SpliceOrder.{within, within-low, within-high, splice-at, splice-swap}
@@ -30,18 +29,16 @@ use Rattle.invariant.specs.deliveries.Laws.{Delivery-laws, Areas-apart}
 abbrev pub copied-bytes : Sheet → (m r : ℕ) → List ℕ
 copied-bytes s m r = take (copied s m r) (drop (op s m .offset) (s .payload))
 
--- at most the capacity, and at most the message
-copied-most : (s : Sheet) (m r : ℕ) → (copied s m r ≤ op s r .long) × (copied s m r ≤ op s m .long)
-unfolding copied is-cut
-copied-most s m r = go (ltb (op s r .long) (op s m .long)) refl
-  where
-    go : (b : Bool) → ltb (op s r .long) (op s m .long) ≡ b → (cond b 0 (op s m .long) ≤ op s r .long)
-        × (cond b 0 (op s m .long) ≤ op s m .long)
-    go true e = (omega arith, omega arith)
-    go false e = (ltb-false (op s r .long) (op s m .long) e, omega arith)
+pub copied-in-area : (s : Sheet) (m r : ℕ) → copied s m r ≤ op s r .long
+unfolding copied
+copied-in-area s m r = omega arith
+
+pub copied-in-message : (s : Sheet) (m r : ℕ) → copied s m r ≤ op s m .long
+unfolding copied
+copied-in-message s m r = omega arith
 
 pub copied-short : (s : Sheet) (m r : ℕ) → length (copied-bytes s m r) ≤ op s r .long
-copied-short s m r = omega (arith, length-take (copied s m r) (drop (op s m .offset) (s .payload)), copied-most s m r .0)
+copied-short s m r = omega (arith, length-take (copied s m r) (drop (op s m .offset) (s .payload)), copied-in-area s m r)
 
 pub copied-length : (s : Sheet) → Valid s → (m r : ℕ) → is-send (op s m) ≡ true → length (copied-bytes s m r) ≡ copied s m r
 copied-length s g m r h =
@@ -50,7 +47,7 @@ copied-length s g m r h =
       length-take (copied s m r) (drop (op s m .offset) (s .payload)),
       length-drop (op s m .offset)
           (s .payload),
-      copied-most s m r .1,
+      copied-in-message s m r,
       send-extent s g m h,
     )
 

@@ -84,13 +84,14 @@ impl Timed {
     }
 }
 
-/// 1,024 operations on sixteen boards, save the last two.
+/// 1,024 operations on sixteen boards, save the last three.
 pub fn table(rounds: usize) {
     let jobs = [
         ("ring", 1, traffic::ring(1024)),
         ("ring, sends first", 1, traffic::ring_sends_first(1024)),
         ("all to one", 1, traffic::all_to_one(1024)),
         ("512 messages of 4,096 bytes", 1, traffic::heavy()),
+        ("the same, cut to 2,048 bytes", 1, traffic::heavy_cut()),
         ("case 1", 100, bench_jobs::case_1()),
     ];
     let jobs = jobs.map(|(name, calls, sheet)| (name, calls, Timed::new(&sheet)));

@@ -4,8 +4,8 @@
 use super::job::{set_word, state, Job, FINISHED, IN_USE, PEAK};
 use crate::layout::{board, kind, operation as at, word};
 
-/// Copies the message of every matched receive that was not cut. A delivery
-/// is lent its own area and nothing else (document 01, Delivery).
+/// Copies the message of every matched receive. A delivery is lent its own
+/// area and nothing else (document 01, Delivery).
 pub fn deliver(job: &Job, inbox: &mut [u8]) {
     let mut rest = inbox;
     for (rank, entry) in job.view.boards.iter().enumerate() {
@@ -15,7 +15,7 @@ pub fn deliver(job: &Job, inbox: &mut [u8]) {
         for index in first..first + job.view.count(rank) {
             let row = &job.rows[index];
             let operation = &job.view.operations[index];
-            if operation[at::KIND] == kind::RECEIVE && row[0] == state::MATCHED && row[1] == 0 {
+            if operation[at::KIND] == kind::RECEIVE && row[0] == state::MATCHED {
                 let start = usize::from(word(operation, at::OFFSET));
                 let capacity = usize::from(word(operation, at::LENGTH));
                 let message = usize::from(word(row, 2));
@@ -25,10 +25,11 @@ pub fn deliver(job: &Job, inbox: &mut [u8]) {
     }
 }
 
+/// Of a message that is longer than the area, its front (document 02, K5).
 fn copy(job: &Job, message: usize, area: &mut [u8]) {
     let sent = &job.view.operations[message];
     let from = usize::from(word(sent, at::OFFSET));
-    let length = usize::from(word(sent, at::LENGTH));
+    let length = usize::from(word(sent, at::LENGTH)).min(area.len());
     area[..length].copy_from_slice(&job.view.payload[from..from + length]);
 }
 
