@@ -55,7 +55,7 @@ extern "C" {
 #endif
 
 /*
- * Stack to have free at a call, in bytes. Measured on sheets of 1,024
+ * Stack to have free at a call, in bytes. Measured on sheets of 2,048
  * operations (stack_test.c): 1,103, with the call's arguments and the red
  * zone. The rest is margin for another build of the library. A signal handler
  * is not in it, nor is what a dynamic linker takes at the first call of
@@ -68,7 +68,7 @@ extern "C" {
  * Scratch for follow and run. Its bytes may be anything before; it is zeroed
  * whole at the end, also what is longer than this.
  */
-#define JAMTURRET_SCRATCH JAMTURRET_CAST(size_t, 32768)
+#define JAMTURRET_SCRATCH JAMTURRET_CAST(size_t, 65536)
 
 /*
  * Room for the order that run writes down: two steps an operation, one byte a

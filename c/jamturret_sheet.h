@@ -19,7 +19,7 @@ extern "C" {
 /* Limits. Counts of boards and communicators start at 1, the others at 0. */
 #define JAMTURRET_MOST_BOARDS 16
 #define JAMTURRET_MOST_COMMUNICATORS 8
-#define JAMTURRET_MOST_OPERATIONS 1024 /* all boards together */
+#define JAMTURRET_MOST_OPERATIONS 2048 /* all boards together */
 #define JAMTURRET_MOST_PAYLOAD 16384
 #define JAMTURRET_MOST_ATTACHED 16384 /* the buffer of one board */
 #define JAMTURRET_MOST_INBOXES 16384  /* all inboxes of a sheet together */
@@ -39,7 +39,7 @@ extern "C" {
 /* Where the header's fields stand. */
 #define JAMTURRET_SHEET_BOARDS_AT 0          /* 2 bytes: P, 1 to 16 */
 #define JAMTURRET_SHEET_COMMUNICATORS_AT 2   /* 2 bytes: C, 1 to 8; each holds all boards */
-#define JAMTURRET_SHEET_OPERATIONS_AT 4      /* 2 bytes: N, 0 to 1,024 */
+#define JAMTURRET_SHEET_OPERATIONS_AT 4      /* 2 bytes: N, 0 to 2,048 */
 #define JAMTURRET_SHEET_BOARD_TABLE_AT 6     /* 2 bytes: its offset, 16 */
 #define JAMTURRET_SHEET_OPERATION_TABLE_AT 8 /* 2 bytes: its offset, 16 + 8 P */
 #define JAMTURRET_SHEET_PAYLOAD_AT 10        /* 2 bytes: its offset, 16 + 8 P + 16 N */

@@ -158,10 +158,13 @@ pub fn case_13_empty_send(attached: u16) -> Sheet {
 }
 
 /// One board with this many operations: 512 empty buffered sends to itself,
-/// which fill the largest buffer, and then receives.
+/// which fill the largest buffer, their receives, and so on.
 pub fn case_14_operations(operations: usize) -> Sheet {
-    let mut script = vec![Operation::send(BUFFERED, 0, 0, 0, 0); 512];
-    script.resize(operations, Operation::receive(0, 0, 0, 0));
+    let operation = |index: usize| match index / 512 % 2 {
+        0 => Operation::send(BUFFERED, 0, 0, 0, 0),
+        _ => Operation::receive(0, 0, 0, 0),
+    };
+    let script = (0..operations).map(operation).collect();
     Sheet {
         communicators: 1,
         boards: vec![Board {
@@ -206,7 +209,7 @@ pub fn accepted() -> Vec<(&'static str, Sheet)> {
         ("13, empty send", case_13_empty_send(0)),
         ("13, empty send, attached 31", case_13_empty_send(31)),
         ("13, empty send, attached 32", case_13_empty_send(32)),
-        ("14, N 1,024", case_14_operations(1024)),
+        ("14, N 2,048", case_14_operations(2048)),
         ("14, tag 32,767", case_14_tag(32_767)),
         ("14, slot 31", case_14_slot(31)),
     ]

@@ -95,12 +95,14 @@ impl Outcome {
             return Err(format!("answers {} and {}", self.answer, other.answer));
         }
         for ((name, ours), (_, theirs)) in self.desk.by_name().iter().zip(other.desk.by_name()) {
-            if let Some(at) = (0..ours.len()).find(|&at| ours[at] != theirs[at]) {
-                return Err(format!(
-                    "byte {at} of {name}: {} and {}",
-                    ours[at], theirs[at]
-                ));
+            if *ours == theirs {
+                continue;
             }
+            let differs = (0..ours.len()).find(|&at| ours[at] != theirs[at]);
+            return Err(match differs {
+                Some(at) => format!("byte {at} of {name}: {} and {}", ours[at], theirs[at]),
+                None => format!("lengths of {name}: {} and {}", ours.len(), theirs.len()),
+            });
         }
         Ok(())
     }
@@ -116,9 +118,9 @@ fn kept_as_promised(
 ) -> Result<(), String> {
     let desk = &after.desk;
     let number = after.answer.number;
-    let zero = desk.scratch.iter().all(|&byte| byte == 0);
+    let zero = || desk.scratch.iter().fold(0, |all, byte| all | byte) == 0;
     let scratch_right = match number {
-        0 | 9 => zero && desk.scratch.len() >= SCRATCH_ROOM,
+        0 | 9 => zero() && desk.scratch.len() >= SCRATCH_ROOM,
         _ => desk.scratch == before.scratch,
     };
     if !scratch_right {

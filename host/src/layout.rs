@@ -1,5 +1,6 @@
 //! Where the fields of a sheet stand and their limits (document 01, The
-//! sheet, byte by byte), and what a buffered message costs (document 02, K2).
+//! sheet, byte by byte; the most operations: document 02, K11), and what a
+//! buffered message costs (document 02, K2).
 //! All numbers are little-endian.
 
 pub const HEADER_BYTES: usize = 16;
@@ -8,7 +9,7 @@ pub const OPERATION_BYTES: usize = 16;
 
 pub const MOST_BOARDS: usize = 16;
 pub const MOST_COMMUNICATORS: usize = 8;
-pub const MOST_OPERATIONS: usize = 1024;
+pub const MOST_OPERATIONS: usize = 2048;
 pub const MOST_PAYLOAD: usize = 16_384;
 pub const MOST_ATTACHED: usize = 16_384;
 pub const MOST_INBOX_TOTAL: usize = 16_384;

@@ -10,6 +10,7 @@
 //! - `bench_jobs`: the bench jobs of document 01 as sheets.
 //! - `areas`: the cases around a receive's capacity.
 //! - `buffers`: what buffered sends cost, and the cases around it.
+//! - `lengths`: the cases around long scripts and their rooms.
 //! - `random`: a seeded generator of numbers.
 //! - `generate`: generators of sheets for the differential tests.
 //! - `guarded`: lends buffers to the library between guard bytes.
@@ -30,6 +31,7 @@ pub mod generate;
 pub mod guarded;
 pub mod judge;
 pub mod layout;
+pub mod lengths;
 pub mod random;
 pub mod settled;
 pub mod sheet;

@@ -1,10 +1,21 @@
 //! The jobs that are timed, and that the tests use as large jobs: ring and
 //! all-to-one traffic of empty blocking buffered sends and their receives on
-//! sixteen boards, and messages of 4,096 bytes.
+//! sixteen boards, and messages of 4,096 bytes. Each is made of a number of
+//! operations, a multiple of 32.
 
 use crate::layout::kind::{BUFFERED, STANDARD};
 use crate::layout::{BSEND_OVERHEAD, MOST_BOARDS, MOST_LENGTH, MOST_PAYLOAD};
 use crate::sheet::{Board, Operation, Sheet};
+
+/// All of them. Nothing waits long in the first and the last two; in the
+/// others half of the operations are pending at once.
+pub const SHAPES: [(&str, fn(usize) -> Sheet); 5] = [
+    ("ring", ring),
+    ("ring, sends first", ring_sends_first),
+    ("all to one", all_to_one),
+    ("messages of 4,096 bytes", heavy),
+    ("the same, cut to 2,048 bytes", heavy_cut),
+];
 
 fn empty_send(to: usize) -> Operation {
     Operation::send(BUFFERED, to as u16, 0, 0, 0)
@@ -26,7 +37,6 @@ fn of_scripts(scripts: Vec<Vec<Operation>>) -> Sheet {
 }
 
 /// Each board sends to the next and receives from the one before, in turn.
-/// `operations` is a multiple of 32.
 pub fn ring(operations: usize) -> Sheet {
     of_scripts(ring_scripts(operations, |send, receive, rounds| {
         [send, receive].repeat(rounds)
@@ -70,19 +80,19 @@ pub fn all_to_one(operations: usize) -> Sheet {
     of_scripts(scripts)
 }
 
-/// Four boards send 128 messages each of 4,096 bytes to four others.
-pub fn heavy() -> Sheet {
-    heavy_into(MOST_LENGTH)
+/// Four boards send messages of 4,096 bytes to four others.
+pub fn heavy(operations: usize) -> Sheet {
+    heavy_into(MOST_LENGTH, operations)
 }
 
 /// The same, each message cut to half of it.
-pub fn heavy_cut() -> Sheet {
-    heavy_into(MOST_LENGTH / 2)
+pub fn heavy_cut(operations: usize) -> Sheet {
+    heavy_into(MOST_LENGTH / 2, operations)
 }
 
-fn heavy_into(capacity: u16) -> Sheet {
+fn heavy_into(capacity: u16, operations: usize) -> Sheet {
     const PAIRS: usize = 4;
-    const MESSAGES: usize = 128;
+    let messages = operations / (2 * PAIRS);
     let mut boards = Vec::new();
     for rank in 0..PAIRS {
         let stretch = |message: usize| ((message % 4) * usize::from(MOST_LENGTH)) as u16;
@@ -91,14 +101,14 @@ fn heavy_into(capacity: u16) -> Sheet {
         boards.push(Board {
             attached: 0,
             inbox: 0,
-            script: (0..MESSAGES).map(send).collect(),
+            script: (0..messages).map(send).collect(),
         });
     }
     for rank in 0..PAIRS {
         boards.push(Board {
             attached: 0,
             inbox: MOST_LENGTH,
-            script: vec![Operation::receive(rank as u16, 0, 0, capacity); MESSAGES],
+            script: vec![Operation::receive(rank as u16, 0, 0, capacity); messages],
         });
     }
     Sheet {

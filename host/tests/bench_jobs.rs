@@ -14,8 +14,8 @@ fn every_job_is_accepted() {
 
 #[test]
 fn case_14_refusals() {
-    let operations = bench_jobs::case_14_operations(1025).bytes();
-    expect("N 1,025", &operations, 2, 0);
+    let operations = bench_jobs::case_14_operations(2049).bytes();
+    expect("N 2,049", &operations, 2, 0);
     expect("tag 32,768", &bench_jobs::case_14_tag(32_768).bytes(), 6, 0);
     expect("slot 32", &bench_jobs::case_14_slot(32).bytes(), 6, 0);
 }

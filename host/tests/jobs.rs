@@ -344,15 +344,23 @@ fn matched_at_once() {
     outcome.board(0, (1, 0, 0, 2));
 }
 
-/// 512 empty messages fill the largest buffer, and every receive gives 32 back.
+/// 512 empty messages fill the largest buffer, every receive gives 32 back,
+/// and 512 more fill it again.
 #[test]
 fn case_14_fills_the_largest_buffer() {
-    let sheet = bench_jobs::case_14_operations(1024);
+    let sheet = bench_jobs::case_14_operations(2048);
     let outcome = run(&sheet);
-    assert_eq!(outcome.desk.report[0], FINISHED);
-    outcome.board(0, (1024, 0, 16_384, 2));
+    assert_eq!(
+        (outcome.desk.report[0], outcome.desk.steps()),
+        (FINISHED, 4096)
+    );
+    outcome.board(0, (2048, 0, 16_384, 2));
+    outcome.matched(0, 512);
+    outcome.matched(1535, 2047);
     let outcome = follow(&sheet, &[0; 1026]);
     outcome.board(0, (513, 16_384 - 32, 16_384, 1));
+    let outcome = follow(&sheet, &[0; 3072]);
+    outcome.board(0, (1536, 16_384, 16_384, 1));
 }
 
 /// A beginning of an order is a report of its own.

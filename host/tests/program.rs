@@ -4,7 +4,7 @@
 
 use jamturret::lent::Answer;
 use jamturret_host::desk::Desk;
-use jamturret_host::layout::word;
+use jamturret_host::layout::{word, MOST_OPERATIONS};
 use jamturret_host::{bench_jobs, generate, judge, traffic};
 use std::io::Write;
 use std::path::PathBuf;
@@ -13,18 +13,33 @@ use std::process::{Command, Output, Stdio};
 const SEED: u64 = 13;
 const CASES: u64 = 1500;
 
+fn built() -> PathBuf {
+    PathBuf::from(env!("CARGO_MANIFEST_DIR")).join("../target/bin/judge")
+}
+
 /// The program, with nothing on standard input unless said.
 fn program() -> Command {
-    let built = PathBuf::from(env!("CARGO_MANIFEST_DIR")).join("../target/bin/judge");
-    let mut command = Command::new(built);
+    let mut command = Command::new(built());
     command.stdin(Stdio::null());
+    command
+}
+
+/// The program with so many kilobytes of stack.
+fn with_stack(kilobytes: usize) -> Command {
+    let mut command = Command::new("sh");
+    let limited = format!("ulimit -s {kilobytes} && exec \"$0\"");
+    command.arg("-c").arg(limited).arg(built());
     command
 }
 
 /// What the program writes for an input, to standard output and to standard
 /// error.
 fn printed(input: &[u8]) -> (String, String) {
-    let mut child = program()
+    printed_by(program(), input)
+}
+
+fn printed_by(mut program: Command, input: &[u8]) -> (String, String) {
+    let mut child = program
         .stdin(Stdio::piped())
         .stdout(Stdio::piped())
         .stderr(Stdio::piped())
@@ -79,9 +94,19 @@ fn bench_jobs_and_large_jobs() {
     for (name, sheet) in bench_jobs::accepted() {
         assert_eq!(printed(&sheet.bytes()), expected(&sheet.bytes()), "{name}");
     }
-    for sheet in [traffic::ring(1024), traffic::heavy()] {
-        assert_eq!(printed(&sheet.bytes()), expected(&sheet.bytes()));
+    for (name, sheet) in traffic::SHAPES {
+        let sheet = sheet(MOST_OPERATIONS).bytes();
+        assert_eq!(printed(&sheet), expected(&sheet), "{name}");
     }
+}
+
+/// The program's rooms stand on its stack: for the longest sheet, one byte more
+/// of input, its report in hex, inboxes, order out and scratch.
+#[test]
+fn stack_of_the_longest_sheet() {
+    let sheet = traffic::heavy(MOST_OPERATIONS).bytes();
+    assert_eq!(printed_by(with_stack(256), &sheet), expected(&sheet));
+    assert_eq!(printed_by(with_stack(128), &sheet).0, "");
 }
 
 /// Empty, one byte under and over a header, far over the longest sheet.

@@ -28,7 +28,7 @@ fn every_bit_of_a_sheet_is_covered() {
         let number = match bit / 16 {
             0 if !(1..=16).contains(&word(&sheet, header::BOARDS)) => 2,
             1 if !(1..=8).contains(&communicators) => 2,
-            2 if word(&sheet, header::OPERATIONS) > 1024 => 2,
+            2 if word(&sheet, header::OPERATIONS) > 2048 => 2,
             6 if word(&sheet, header::PAYLOAD_LENGTH) > 16_384 => 2,
             0 | 2..=6 => 3,
             _ => 4,

@@ -4,20 +4,16 @@
 
 use jamturret::lent::{self, Answer};
 use jamturret_host::desk::Desk;
+use jamturret_host::layout::MOST_OPERATIONS;
 use jamturret_host::sheet::Sheet;
 use jamturret_host::{judge, traffic};
 use std::thread;
 
 const STACK: usize = 64 * 1024;
 
-/// Large jobs: many operations, many pending, many bytes.
-fn jobs() -> Vec<Sheet> {
-    vec![
-        traffic::ring(1024),
-        traffic::ring_sends_first(1024),
-        traffic::all_to_one(1024),
-        traffic::heavy(),
-    ]
+/// Large jobs: the most operations, many pending, many bytes.
+fn jobs() -> [Sheet; 5] {
+    traffic::SHAPES.map(|(_, sheet)| sheet(MOST_OPERATIONS))
 }
 
 fn on_small_stack<T: Send + 'static>(call: impl FnOnce() -> T + Send + 'static) -> T {

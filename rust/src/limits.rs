@@ -9,7 +9,7 @@ pub const MOST_BOARDS: usize = 16;
 /// Most communicators of a sheet. It has at least one.
 pub const MOST_COMMUNICATORS: usize = 8;
 /// Most operations of a sheet, all scripts together.
-pub const MOST_OPERATIONS: usize = 1_024;
+pub const MOST_OPERATIONS: usize = 2_048;
 /// Most payload bytes of a sheet.
 pub const MOST_PAYLOAD: usize = 16_384;
 /// The largest buffer that a board can have attached.
@@ -27,7 +27,7 @@ pub const MOST_TAG: usize = 32_767;
 pub const MOST_SLOT: usize = 31;
 /// Bytes of scratch that [`follow`](crate::lent::follow) and
 /// [`run`](crate::lent::run) are lent, whatever the sheet.
-pub const SCRATCH_ROOM: usize = 32_768;
+pub const SCRATCH_ROOM: usize = 65_536;
 
 /// In a receive's field: any source, any tag. In a report: none.
 pub(crate) const ANY: usize = 65_535;

@@ -231,7 +231,7 @@ fn foreign_bytes() {
         ("a stop operation under finished", 3, 0, HEADER),
         ("no boards", 6, 0, HEADER),
         ("17 boards", 6, 17, HEADER),
-        ("1,026 operations", 9, 4, HEADER),
+        ("2,050 operations", 9, 8, HEADER),
         ("three boards", 6, 3, length(64)),
         ("one operation", 8, 1, length(44)),
         ("board state 3", 22, 3, board(0)),

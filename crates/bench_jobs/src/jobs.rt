@@ -2,6 +2,7 @@
 // in the CRCs (document 01, "When the desk says no").
 ghost use Prim.Native.Nat.{_<_, _≤_};
 ghost use lib.ListN.{length};
+use crate::lent;
 use jamturret::jamturret_check;
 use jamturret::jamturret_follow;
 use jamturret::jamturret_premise;
@@ -14,7 +15,7 @@ pub fn job(path: &[u8]) {
         os::fail(path);
         return;
     }
-    let mut input = [0u8; limits::MOST_SHEET + 1];
+    let mut input = lent::input();
     let n = io::read_full(fd, &mut input);
     libc::close(fd);
     io::write_all(1, path);
@@ -26,10 +27,10 @@ pub fn job(path: &[u8]) {
 }
 
 fn run(sheet: &[u8]) {
-    let mut inbox = [90u8; limits::MOST_INBOX];
-    let mut report = [238u8; limits::MOST_REPORT];
-    let mut order = [221u8; limits::MOST_ORDER + 1];
-    let mut scratch = [204u8; limits::SCRATCH_SIZE];
+    let mut inbox = lent::inbox();
+    let mut report = lent::report();
+    let mut order = lent::order();
+    let mut scratch = lent::scratch();
     let ran = jamturret_run(sheet, &mut inbox, &mut report, &mut order, &mut scratch);
     answer(b"  run ", ran.number as u64, ran.place);
     crc(b"  order ", &order);
@@ -51,9 +52,9 @@ fn again(sheet: &[u8], order: &[u8], steps: usize) {
 }
 
 fn follow(name: &[u8], sheet: &[u8], order: &[u8]) {
-    let mut inbox = [90u8; limits::MOST_INBOX];
-    let mut report = [238u8; limits::MOST_REPORT];
-    let mut scratch = [204u8; limits::SCRATCH_SIZE];
+    let mut inbox = lent::inbox();
+    let mut report = lent::report();
+    let mut scratch = lent::scratch();
     let followed = jamturret_follow(sheet, order, &mut inbox, &mut report, &mut scratch);
     answer(name, followed.number as u64, followed.place);
     rooms(&inbox, &report, &scratch);

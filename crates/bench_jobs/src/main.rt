@@ -1,8 +1,10 @@
 // Runs outside vectors through the library and prints what it found, to be held to the file `stdout`.
 // CRC-16/IBM-3740 of the catalogue's check text, and of texts whose CRC another program has given (Python's binascii.crc_hqx);
-// then the sheets in `data/`: bench jobs 13 and 14 of document 01, large sheets, and a sheet for each refusal that check can give.
-// What each must give was worked out by another program, which steps through document 01's rules.
+// then the sheets in `data/`: bench jobs 13 and 14 of document 01, large sheets, the longest ones (document 02, K11), and a sheet
+// for each refusal that check can give. What each must give was worked out by another program, which steps through document 01's
+// rules.
 mod jobs;
+mod lent;
 
 use jobs::job;
 
@@ -32,8 +34,8 @@ fn thirteen() {
 
 // Document 01, "Bench jobs", 14.
 fn fourteen() {
-    job(b"14-operations-1024.sheet");
-    job(b"14-operations-1025.sheet");
+    job(b"14-operations-2048.sheet");
+    job(b"14-operations-2049.sheet");
     job(b"14-tag-32767.sheet");
     job(b"14-tag-32768.sheet");
     job(b"14-slot-31.sheet");
@@ -53,6 +55,17 @@ fn large() {
     job(b"large-mixed-3.sheet");
 }
 
+// 2,048 operations on sixteen boards. Mixed: the longest sheet there is; every mode but ready, cut messages, 8 communicators.
+// Pending: all are messages that nobody receives. The others have in operation 2,047 what lets the order matter: premise 20, 21
+// and 22; the last two stop there.
+fn longest() {
+    job(b"longest-mixed.sheet");
+    job(b"longest-pending.sheet");
+    job(b"longest-any-source.sheet");
+    job(b"longest-not-ready.sheet");
+    job(b"longest-overflow.sheet");
+}
+
 // Document 01, "When the desk says no": 1, 3, 4, 5 twice, 7 twice.
 fn refused() {
     job(b"no-short.sheet");
@@ -69,5 +82,6 @@ fn main() {
     thirteen();
     fourteen();
     large();
+    longest();
     refused();
 }

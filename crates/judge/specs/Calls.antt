@@ -111,15 +111,14 @@ module _ (bs i i' r r' o o' c c' : List ℕ) (n p : ℕ) (said : Run-says bs n p
       ∙ front-report (report s (run s i .end)) r (report-size (P-of s) (N-of s)) (report-length s (run s i .end) long)
 
 -- THE JUDGE'S OWN CALL, from zeroed inboxes
-module _ (bs i' r r' o' c' : List ℕ) (n p : ℕ) (long : most-report ≡ length r) (kept : length r' ≡ length r)
-    (said : Run-says bs n p (zeros most-inbox) i' r r' (zeros most-order) o' (zeros scratch-size) c') where
+module _ (bs i' r r' o o' c c' : List ℕ) (n p : ℕ) (long : most-report ≡ length r) (kept : length r' ≡ length r)
+    (for-order : length o ≡ most-order) (for-scratch : length c ≡ scratch-size)
+    (said : Run-says bs n p (zeros most-inbox) i' r r' o o' c c') where
   answered : answers (run-refusal bs most-inbox most-report most-order scratch-size) n p
   unfolding Run-says
   answered =
       let i = length-replicate {A = ℕ} most-inbox 0 in
-      let o = length-replicate {A = ℕ} most-order 0 in
-      let c = length-replicate {A = ℕ} scratch-size 0 in
-      rw (i, sym long, o, c) at (said .0)
+      rw (i, sym long, for-order, for-scratch) at (said .0)
 
   pub ran : Ran bs n p r'
   unfolding report-for
@@ -129,8 +128,8 @@ module _ (bs i' r r' o' c' : List ℕ) (n p : ℕ) (long : most-report ≡ lengt
         place = checks bs n p answered .1;
         reported = λ z. record {
           passed = sym (checks bs n p answered .0) ∙ z;
-          laid = sheet-laid bs (zeros most-inbox) i' r r' (zeros most-order) o' (zeros scratch-size) c' n p said z;
-          own = own-report bs (zeros most-inbox) i' r r' (zeros most-order) o' (zeros scratch-size) c' n p said z;
+          laid = sheet-laid bs (zeros most-inbox) i' r r' o o' c c' n p said z;
+          own = own-report bs (zeros most-inbox) i' r r' o o' c c' n p said z;
           long = long ∙ sym kept;
         };
       }

@@ -8,6 +8,7 @@ ghost use Rattle.rules.specs.Sheet.{sheet-in, P-of, N-of};
 ghost use Rattle.laws.specs.Laid.{Laid};
 ghost use Rattle.judge.specs.Printed.{most-report, line-size, told-size, refusal-line, report-line, header-numbers, facts-line, printed, told as Printed·told};
 ghost use Rattle.judge.specs.Calls.{Ran, Reported, Lines};
+use crate::rooms;
 use jamturret::jamturret_premise;
 use jamturret::jamturret_run;
 use sheet::Answer;
@@ -30,7 +31,7 @@ pub fn lay_out(sheet: &[u8], line: &mut [u8], told: &mut [u8]) -> Sizes
     requires { ⌜ (line-size ≡ length (now line)) × (told-size ≡ length (now told)) ⌝ }
     ensures { λ l. ⌜ Lines (printed (now (sheet .entry))) (Printed·told (now (sheet .entry))) (l .line) (now (line .exit)) (l .told) (now (told .exit)) ⌝ }
 {
-    let mut report = [0u8; limits::MOST_REPORT];
+    let mut report = rooms::report();
     let answer = run_from_zeros(sheet, &mut report);
     let number = answer.number;
     if number != 0 {
@@ -46,8 +47,8 @@ fn run_from_zeros(sheet: &[u8], report: &mut [u8]) -> Answer
     ensures { λ a. ⌜ Ran (now (sheet .entry)) (a .number) (a .place) (now (report .exit)) ⌝ }
 {
     let mut inbox = [0u8; limits::MOST_INBOX];
-    let mut order = [0u8; limits::MOST_ORDER];
-    let mut scratch = [0u8; limits::SCRATCH_SIZE];
+    let mut order = rooms::order();
+    let mut scratch = rooms::scratch();
     jamturret_run(sheet, &mut inbox, report, &mut order, &mut scratch)
 }
 

@@ -3,6 +3,7 @@
 // puts it into words: a program has no exit status of its own.
 mod input;
 mod lines;
+mod rooms;
 
 // The longest sheet, and one byte more: no further is read. An input of at least so many bytes has its header among them, so 1 is
 // out, 2 reads only the header, and where 2 is out the header asks for at most the longest sheet, so 3 is given for these bytes
@@ -10,7 +11,7 @@ mod lines;
 const MOST_INPUT: usize = limits::MOST_SHEET + 1;
 
 fn main() {
-    let mut room = [0u8; MOST_INPUT];
+    let mut room = rooms::input();
     let got = input::read_input(&mut room);
     let size = got.size;
     if got.failed {
@@ -22,7 +23,7 @@ fn main() {
 
 // Prints the report or the refusal, and tells of it once that is out.
 fn judge(sheet: &[u8]) {
-    let mut line = [0u8; lines::LINE_SIZE];
+    let mut line = rooms::line();
     let mut told = [0u8; lines::TOLD_SIZE];
     let sizes = lines::lay_out(sheet, &mut line, &mut told);
     let size = sizes.line;

@@ -4,12 +4,12 @@ ghost use mathlib.Core.Path.{_≡_};
 ghost use Prim.Native.Nat.{_<_};
 ghost use Rattle.rules.specs.Limits.{ops-at, payload-at, sheet-size, report-size, order-room};
 
-// "The sheet, byte by byte": boards, communicators, operations and payload bytes at the most.
+// "The sheet, byte by byte": boards, communicators, operations (document 02, K11) and payload bytes at the most.
 pub const MOST_BOARDS: usize = 16;
 
 pub const MOST_COMMS: usize = 8;
 
-pub const MOST_OPS: usize = 1024;
+pub const MOST_OPS: usize = 2048;
 
 pub const MOST_PAYLOAD: usize = 16384;
 
@@ -57,10 +57,10 @@ pub const MOST_REPORT: usize = REPORT_HEADER_SIZE
     + BOARD_ROW_SIZE * MOST_BOARDS
     + OP_ROW_SIZE * MOST_OPS;
 
-// Lent rooms: order out for the longest script, and scratch.
+// Lent rooms: order out for the longest script, and scratch (document 02, K11).
 pub const MOST_ORDER: usize = 2 * MOST_OPS;
 
-pub const SCRATCH_SIZE: usize = 32768;
+pub const SCRATCH_SIZE: usize = 65536;
 
 // Where the operation table stands in a sheet of p boards.
 pub fn ops_at(p: usize) -> usize

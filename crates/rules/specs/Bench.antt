@@ -7,10 +7,12 @@
 use mathlib.Core.Path.{_≡_, refl}
 use mathlib.Core.Bool.{Bool, true}
 use mathlib.Core.List.{List, _++_}
+use Prim.Native.Nat.{ℕ, _+_}
+use lib.ListN.{length}
 use Rattle.rules.specs.BenchJob.{BenchJob, as-expected, all}
 use Rattle.rules.specs.BenchNumbered.{numbered-jobs}
 use Rattle.rules.specs.BenchFurther.{further-jobs}
-use Rattle.rules.specs.BenchRefusal.{as-answered}
+use Rattle.rules.specs.BenchRefusal.{as-answered, scratch-asked}
 use Rattle.rules.specs.BenchRefused.{bench-calls}
 use Rattle.rules.specs.BenchRooms.{bench-rooms}
 use Rattle.rules.specs.BenchPremise.{questions-answered}
@@ -32,16 +34,16 @@ bench-calls-hold =
     let before = bench-jobs-hold in
     refl
 
--- each call leaves every byte of its rooms as it must
-pub bench-rooms-hold : bench-rooms
+-- each call leaves every byte of its rooms as it must, whatever scratch held
+pub bench-rooms-hold : (c d : List ℕ) → length c ≡ scratch-asked → length d ≡ scratch-asked + 1 → bench-rooms c d
 unfolding definitions
-bench-rooms-hold =
+bench-rooms-hold c d e f =
     let before = bench-calls-hold in (
       ((refl, refl), refl, refl, refl),
       ((refl, refl), refl, refl, refl),
       ((refl, refl), refl, refl, refl, refl),
-      ((refl, refl), refl, refl, refl),
-      ((refl, refl), refl, refl, refl),
-      ((refl, refl), refl, refl, refl, refl),
-      ((refl, refl), refl, refl, refl, refl),
+      ((rw f, rw f), rw f, rw f, rw f),
+      ((rw f, rw f), rw f, rw f, rw f),
+      ((rw e, rw e), rw e, rw e, rw e, rw e),
+      ((rw e, rw e), rw e, rw e, rw e, rw e),
     )

@@ -36,6 +36,10 @@ infix 70 _at_
 pub data Answer : Type 0 where
   _at_ : (number place : ℕ) → Answer
 
+-- the scratch that follow and run ask for, written out: what is expected does not read Limits (document 02, K11)
+abbrev pub scratch-asked : ℕ
+scratch-asked = 65536
+
 -- rooms are given by their sizes
 pub data BenchCall : Type 0 where
   asks-check : (sheet : List ℕ) → Answer → BenchCall

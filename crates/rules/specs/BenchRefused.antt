@@ -13,22 +13,22 @@ use Rattle.rules.specs.BenchJob.{standard, buffered, synchronous, any, L
 use Rattle.rules.specs.BenchJob.{Script, script, Draft, draft, draft-bytes}
 use Rattle.rules.specs.BenchNumbered.{case-1-sheet, ready-sheet}
 use Rattle.rules.specs.BenchRefusal.{altered, header-only, plain, of-rank-1, of-each, Answer, _at_, BenchCall}
-use Rattle.rules.specs.BenchRefusal.{asks-check, asks-follow, asks-run}
+use Rattle.rules.specs.BenchRefusal.{scratch-asked, asks-check, asks-follow, asks-run}
 
 unfoldable pub bench-calls : List BenchCall
 bench-calls =
     -- 1. No byte; 15 bytes, though P is 0 too. 16 bytes are enough for 1
     asks-check [] (1 at 0)
     ∷ asks-check (take 15 (header-only 0 1 0 0)) (1 at 0)
-    -- 2. P 0 and 17, C 0 and 9, N 1,025, L 16,385; the largest of each is refused for the length that is not there
+    -- 2. P 0 and 17, C 0 and 9, N 2,049, L 16,385; the largest of each is refused for the length that is not there
     ∷ asks-check (header-only 0 1 0 0) (2 at 0)
     ∷ asks-check (header-only 17 1 0 0) (2 at 0)
     ∷ asks-check (header-only 16 1 0 0) (3 at 0)
     ∷ asks-check (header-only 1 0 0 0) (2 at 0)
     ∷ asks-check (header-only 1 9 0 0) (2 at 0)
     ∷ asks-check (header-only 1 8 0 0) (3 at 0)
-    ∷ asks-check (header-only 1 1 1025 0) (2 at 0)
-    ∷ asks-check (header-only 1 1 1024 0) (3 at 0)
+    ∷ asks-check (header-only 1 1 2049 0) (2 at 0)
+    ∷ asks-check (header-only 1 1 2048 0) (3 at 0)
     ∷ asks-check (header-only 1 1 0 16385) (2 at 0)
     ∷ asks-check (header-only 1 1 0 16384) (3 at 0)
     -- 3. Each offset one too large, one of them in its high byte too; one byte less, one more
@@ -140,44 +140,47 @@ bench-calls =
     -- Lowest number first: a board entry behind a wrong kind; a wrong kind behind a slot that is not held
     ∷ asks-check (draft-bytes (draft 1 0x96f2 [] (script 0 0 (send 7 1 0 0 0 0 ∷ []) ∷ script 16385 0 [] ∷ []))) (5 at 1)
     ∷ asks-check (draft-bytes (of-rank-1 0xed21 (wait 0 ∷ send 7 0 0 0 0 1 ∷ []))) (6 at 1)
-    -- 8. Job 1's sheet: inbox 4, report 56, order out 4, scratch 32,768; exactly enough, and more
-    ∷ asks-run (draft-bytes case-1-sheet) 4 56 4 32768 (0 at 0)
-    ∷ asks-run (draft-bytes case-1-sheet) 5 57 5 32769 (0 at 0)
+    -- 8. Job 1's sheet: inbox 4, report 56, order out 4, scratch 65,536; exactly enough, and more
+    ∷ asks-run (draft-bytes case-1-sheet) 4 56 4 65536 (0 at 0)
+    ∷ asks-run (draft-bytes case-1-sheet) 5 57 5 65537 (0 at 0)
     -- Each one short; of several the first is told
-    ∷ asks-run (draft-bytes case-1-sheet) 3 56 4 32768 (8 at 1)
-    ∷ asks-run (draft-bytes case-1-sheet) 4 55 4 32768 (8 at 2)
-    ∷ asks-run (draft-bytes case-1-sheet) 4 56 3 32768 (8 at 3)
-    ∷ asks-run (draft-bytes case-1-sheet) 4 56 4 32767 (8 at 4)
+    ∷ asks-run (draft-bytes case-1-sheet) 3 56 4 scratch-asked (8 at 1)
+    ∷ asks-run (draft-bytes case-1-sheet) 4 55 4 scratch-asked (8 at 2)
+    ∷ asks-run (draft-bytes case-1-sheet) 4 56 3 scratch-asked (8 at 3)
+    ∷ asks-run (draft-bytes case-1-sheet) 4 56 4 65535 (8 at 4)
     ∷ asks-run (draft-bytes case-1-sheet) 0 0 0 0 (8 at 1)
     ∷ asks-run (draft-bytes case-1-sheet) 4 0 0 0 (8 at 2)
     ∷ asks-run (draft-bytes case-1-sheet) 4 56 0 0 (8 at 3)
     -- Follow asks for no order out
-    ∷ asks-follow (draft-bytes case-1-sheet) [] 4 56 32768 (0 at 0)
-    ∷ asks-follow (draft-bytes case-1-sheet) [] 3 56 32768 (8 at 1)
-    ∷ asks-follow (draft-bytes case-1-sheet) [] 4 55 32768 (8 at 2)
-    ∷ asks-follow (draft-bytes case-1-sheet) [] 4 56 32767 (8 at 4)
+    ∷ asks-follow (draft-bytes case-1-sheet) [] 4 56 scratch-asked (0 at 0)
+    ∷ asks-follow (draft-bytes case-1-sheet) [] 3 56 scratch-asked (8 at 1)
+    ∷ asks-follow (draft-bytes case-1-sheet) [] 4 55 scratch-asked (8 at 2)
+    ∷ asks-follow (draft-bytes case-1-sheet) [] 4 56 65535 (8 at 4)
     ∷ asks-follow (draft-bytes case-1-sheet) [] 3 55 0 (8 at 1)
+    -- Document 01's 32,768 bytes of scratch are short (document 02, K11)
+    ∷ asks-run (draft-bytes case-1-sheet) 4 56 4 32768 (8 at 4)
+    ∷ asks-follow (draft-bytes case-1-sheet) [] 4 56 32768 (8 at 4)
     -- 7 goes before 8, and 8 before 9
     ∷ asks-run (draft-bytes (of-rank-1 0xf188 (wait 0 ∷ []))) 0 0 0 0 (7 at 0)
     ∷ asks-follow (draft-bytes (of-rank-1 0xf188 (wait 0 ∷ []))) (0 ∷ []) 0 0 0 (7 at 0)
-    ∷ asks-follow (draft-bytes case-1-sheet) (2 ∷ []) 4 56 32767 (8 at 4)
+    ∷ asks-follow (draft-bytes case-1-sheet) (2 ∷ []) 4 56 65535 (8 at 4)
     -- 9. Job 1's sheet: rank P and rank 255; a send that is not matched; a board that is finished, before and after the job's end
-    ∷ asks-follow (draft-bytes case-1-sheet) (2 ∷ []) 4 56 32768 (9 at 0)
-    ∷ asks-follow (draft-bytes case-1-sheet) (0 ∷ 255 ∷ 1 ∷ []) 4 56 32768 (9 at 1)
-    ∷ asks-follow (draft-bytes case-1-sheet) (0 ∷ 0 ∷ []) 4 56 32768 (9 at 1)
-    ∷ asks-follow (draft-bytes case-1-sheet) (0 ∷ 1 ∷ 0 ∷ 0 ∷ []) 4 56 32768 (9 at 3)
-    ∷ asks-follow (draft-bytes case-1-sheet) (0 ∷ 1 ∷ 0 ∷ 1 ∷ []) 4 56 32768 (0 at 0)
-    ∷ asks-follow (draft-bytes case-1-sheet) (0 ∷ 1 ∷ 0 ∷ 1 ∷ 1 ∷ []) 4 56 32768 (9 at 4)
+    ∷ asks-follow (draft-bytes case-1-sheet) (2 ∷ []) 4 56 scratch-asked (9 at 0)
+    ∷ asks-follow (draft-bytes case-1-sheet) (0 ∷ 255 ∷ 1 ∷ []) 4 56 scratch-asked (9 at 1)
+    ∷ asks-follow (draft-bytes case-1-sheet) (0 ∷ 0 ∷ []) 4 56 scratch-asked (9 at 1)
+    ∷ asks-follow (draft-bytes case-1-sheet) (0 ∷ 1 ∷ 0 ∷ 0 ∷ []) 4 56 scratch-asked (9 at 3)
+    ∷ asks-follow (draft-bytes case-1-sheet) (0 ∷ 1 ∷ 0 ∷ 1 ∷ []) 4 56 scratch-asked (0 at 0)
+    ∷ asks-follow (draft-bytes case-1-sheet) (0 ∷ 1 ∷ 0 ∷ 1 ∷ 1 ∷ []) 4 56 scratch-asked (9 at 4)
     -- A wait on a send that is not matched; then of two the first is told
     ∷ asks-follow (draft-bytes (of-each 0xa504 (isend synchronous 1 0 0 0 0 0 ∷ wait 0 ∷ []) (receive 0 0 0 0 0 ∷ [])))
-    (0 ∷ 0 ∷ 9 ∷ []) 4 68 32768 (9 at 1)
+    (0 ∷ 0 ∷ 9 ∷ []) 4 68 scratch-asked (9 at 1)
     ∷ asks-follow (draft-bytes (of-each 0xa504 (isend synchronous 1 0 0 0 0 0 ∷ wait 0 ∷ []) (receive 0 0 0 0 0 ∷ [])))
-    (0 ∷ 1 ∷ 0 ∷ []) 4 68 32768 (0 at 0)
+    (0 ∷ 1 ∷ 0 ∷ []) 4 68 scratch-asked (0 at 0)
     -- After a stop no board is able: not ready, overflow. The stopping step itself is taken
-    ∷ asks-follow (draft-bytes ready-sheet) (0 ∷ []) 2 56 32768 (0 at 0)
-    ∷ asks-follow (draft-bytes ready-sheet) (0 ∷ 1 ∷ []) 2 56 32768 (9 at 1)
+    ∷ asks-follow (draft-bytes ready-sheet) (0 ∷ []) 2 56 scratch-asked (0 at 0)
+    ∷ asks-follow (draft-bytes ready-sheet) (0 ∷ 1 ∷ []) 2 56 scratch-asked (9 at 1)
     ∷ asks-follow (draft-bytes (of-each 0xc15f (send buffered 1 0 0 0 1 ∷ []) (receive 0 0 0 0 1 ∷ [])))
-    (0 ∷ 1 ∷ 1 ∷ []) 4 56 32768 (9 at 1)
+    (0 ∷ 1 ∷ 1 ∷ []) 4 56 scratch-asked (9 at 1)
     ∷ asks-follow (draft-bytes (of-each 0xc15f (send buffered 1 0 0 0 1 ∷ []) (receive 0 0 0 0 1 ∷ [])))
-    (1 ∷ 0 ∷ 0 ∷ 1 ∷ []) 4 56 32768 (0 at 0)
+    (1 ∷ 0 ∷ 0 ∷ 1 ∷ []) 4 56 scratch-asked (0 at 0)
     ∷ []

@@ -2,7 +2,7 @@
 -- Assumes nothing: these are definitions.
 use Prim.Native.Nat.{ℕ, _+_, _*_}
 
--- "The sheet, byte by byte": P boards, C communicators, N operations, L payload bytes at the most
+-- "The sheet, byte by byte": P boards, C communicators, N operations (document 02, K11), L payload bytes at the most
 abbrev pub most-boards : ℕ
 most-boards = 16
 
@@ -10,7 +10,7 @@ abbrev pub most-comms : ℕ
 most-comms = 8
 
 abbrev pub most-ops : ℕ
-most-ops = 1024
+most-ops = 2048
 
 abbrev pub most-payload : ℕ
 most-payload = 16384
@@ -78,9 +78,9 @@ op-row-size = 12
 abbrev pub report-size : (p n : ℕ) → ℕ
 report-size p n = report-header-size + board-row-size * p + op-row-size * n
 
--- "When the desk says no", rooms: order out, and the scratch lent to follow and run
+-- "When the desk says no", rooms: order out, and the scratch lent to follow and run (document 02, K11)
 abbrev pub order-room : (n : ℕ) → ℕ
 order-room n = 2 * n
 
 abbrev pub scratch-size : ℕ
-scratch-size = 32768
+scratch-size = 65536

@@ -13,7 +13,7 @@ pub fn header(sheet: &mut Vec<u8>, random: &mut Random) {
     let (at, limits) = random.pick(&[
         (head::BOARDS, [0, 1, 16, 17, 256]),
         (head::COMMUNICATORS, [0, 1, 8, 9, 256]),
-        (head::OPERATIONS, [0, 1, 1024, 1025, 256]),
+        (head::OPERATIONS, [0, 1, 2048, 2049, 256]),
         (head::PAYLOAD_LENGTH, [0, 1, 16_384, 16_385, 256]),
     ]);
     match random.below(4) {
@@ -80,7 +80,7 @@ pub fn board(sheet: &mut Vec<u8>, random: &mut Random) {
         0 => add_word(sheet, at + board::FIRST, near),
         1 => add_word(sheet, at + board::COUNT, near),
         2 => set_word(sheet, at + board::FIRST, random.word()),
-        3 => set_word(sheet, at + board::COUNT, random.pick(&[0, 1024, 65_535])),
+        3 => set_word(sheet, at + board::COUNT, random.pick(&[0, 2048, 65_535])),
         4 => {
             let sizes = [0, 16_383, 16_384, 16_385, 32_768, 65_535];
             set_word(sheet, at + board::ATTACHED, random.pick(&sizes));

@@ -5,7 +5,7 @@
 use super::script::{Surroundings, Writer};
 use crate::layout::kind::{BUFFERED, READY, RECEIVE, STANDARD, SYNCHRONOUS};
 use crate::layout::{ANY, BSEND_OVERHEAD, MOST_ATTACHED, MOST_BOARDS};
-use crate::layout::{MOST_INBOX_TOTAL, MOST_LENGTH, MOST_PAYLOAD};
+use crate::layout::{MOST_INBOX_TOTAL, MOST_LENGTH, MOST_OPERATIONS, MOST_PAYLOAD};
 use crate::random::Random;
 use crate::sheet::{Board, Operation, Sheet};
 
@@ -95,15 +95,15 @@ pub fn medium(random: &mut Random, calm: bool) -> Vec<u8> {
     sheet(random, &manner).bytes()
 }
 
-/// Up to 1,024 operations, messages of up to 4,096 bytes.
+/// Up to the most operations, messages of up to 4,096 bytes.
 pub fn large(random: &mut Random, calm: bool) -> Vec<u8> {
     let nonblocking = random.pick(&[0, 30]);
     let manner = Manner {
         boards: random.pick(&[1, 4, 15, MOST_BOARDS]),
         messages: match nonblocking {
-            0 => random.pick(&[300, 512]),
+            0 => random.pick(&[300, MOST_OPERATIONS / 2]),
             // Each transfer may bring a wait.
-            _ => random.between(100, 250),
+            _ => random.between(100, MOST_OPERATIONS / 4),
         },
         payload: MOST_PAYLOAD,
         inboxes: MOST_INBOX_TOTAL,

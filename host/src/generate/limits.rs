@@ -81,7 +81,7 @@ fn last_board(change: fn(&mut Board)) -> Vec<u8> {
     sheet.bytes()
 }
 
-/// 1,024 operations on one board, the last one given.
+/// The most operations on one board, the last one given.
 fn last_operation(operation: Operation) -> Vec<u8> {
     let mut operations = vec![Operation::send(BUFFERED, 0, 0, 0, 0); MOST_OPERATIONS];
     operations[MOST_OPERATIONS - 1] = operation;
@@ -130,11 +130,12 @@ pub const LIMITS: &[Limit] = &[
     ("C 1", || sized(2, 1, 0, 0), 0, 0),
     ("C 8", || sized(2, 8, 0, 0), 0, 0),
     ("C 9", || sized(2, 9, 0, 0), 2, 0),
-    ("N 1,024", || sized(1, 1, 1024, 0), 0, 0),
-    ("N 1,025", || sized(1, 1, 1025, 0), 2, 0),
+    ("N 1,025", || sized(1, 1, 1025, 0), 0, 0),
+    ("N 2,048", || sized(1, 1, 2048, 0), 0, 0),
+    ("N 2,049", || sized(1, 1, 2049, 0), 2, 0),
     ("L 16,384", || sized(1, 1, 0, 16_384), 0, 0),
     ("L 16,385", || sized(1, 1, 0, 16_385), 2, 0),
-    ("all at the limit", || sized(16, 8, 1024, 16_384), 0, 0),
+    ("all at the limit", || sized(16, 8, 2048, 16_384), 0, 0),
     ("board table 15", || shifted(header::BOARD_TABLE, -1), 3, 0),
     ("board table 17", || shifted(header::BOARD_TABLE, 1), 3, 0),
     ("operation table one less", || shifted(header::OPERATION_TABLE, -1), 3, 0),
@@ -225,7 +226,7 @@ pub const LIMITS: &[Limit] = &[
     ("wait tag 1", || behind(with(wait(), |o| o.tag = 1)), 6, 2),
     ("wait offset 1", || behind(with(wait(), |o| o.offset = 1)), 6, 2),
     ("wait length 1", || behind(with(wait(), |o| o.length = 1)), 6, 2),
-    ("last of 1,024 operations", || last_operation(with(send(), |o| o.zero = 1)), 6, 1023),
+    ("last of 2,048 operations", || last_operation(with(send(), |o| o.zero = 1)), 6, 2047),
     // Refusal 7, slots.
     ("all 32 slots of two boards", all_slots, 0, 0),
     ("held slot taken", || behind(send().nonblocking(31)), 7, 2),
@@ -236,7 +237,7 @@ pub const LIMITS: &[Limit] = &[
     ("slot retaken", || script(&[&[send().nonblocking(31), wait(), send().nonblocking(31)], &[]]), 0, 0),
     ("slot of another board", || script(&[&[send().nonblocking(31)], &[wait()]]), 7, 1),
     ("blocking does not take slot 0", || script(&[&[send(), Operation::wait(0)], &[]]), 7, 1),
-    ("wait as last of 1,024 operations", || last_operation(wait()), 7, 1023),
+    ("wait as last of 2,048 operations", || last_operation(wait()), 7, 2047),
     // Refusal 7, areas.
     ("first byte shared", || behind(Operation::receive(0, 0, 91, 10)), 7, 2),
     ("touching in front", || behind(Operation::receive(0, 0, 90, 10)), 0, 0),

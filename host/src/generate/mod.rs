@@ -11,11 +11,13 @@
 //! - `requests`: slots and areas just right and just wrong.
 //! - `premise`: sheets for which the order cannot matter, and nearly such ones.
 //! - `limits`: both sides of every limit, the sheet otherwise right.
+//! - `longest`: jobs of the most operations.
 
 mod damage;
 mod garbage;
 pub mod jobs;
 mod limits;
+mod longest;
 mod premise;
 mod requests;
 mod script;
@@ -30,12 +32,13 @@ pub use limits::LIMITS;
 type Generator = fn(&mut Random) -> Vec<u8>;
 
 /// The kinds of cases: name, how many of a hundred cases, generator.
-pub const KINDS: [(&str, usize, Generator); 15] = [
+pub const KINDS: [(&str, usize, Generator); 16] = [
     ("right, small", 12, |random| right(random, size::small)),
     ("right, medium", 5, |random| right(random, size::medium)),
     ("right, large", 2, |random| right(random, size::large)),
     ("all slots held", 2, requests::all_slots_held),
-    ("at a limit", 8, limits::any),
+    ("at a limit", 7, limits::any),
+    ("longest", 1, longest::any),
     ("header", 6, |random| damaged(random, &[damage::header])),
     ("offset or length", 6, |random| {
         damaged(random, &[damage::offset_or_length])

@@ -9,9 +9,10 @@ use crate::random::Random;
 use crate::sheet::{board_at, mend_crc, operation_at, set_word};
 
 pub fn any(random: &mut Random) -> Vec<u8> {
-    let mut sheet = match random.chance(10) {
-        true => jobs::medium(random, true),
-        false => jobs::small(random, true),
+    let mut sheet = match random.below(50) {
+        0 => jobs::large(random, true),
+        1..=5 => jobs::medium(random, true),
+        _ => jobs::small(random, true),
     };
     for _ in 0..random.below(4) {
         match random.below(3) {

@@ -85,10 +85,10 @@ impl View<'_> {
         self.byte(at) + 256 * self.byte(at + 1)
     }
 
-    /// P 1 to 16, C 1 to 8, N 0 to 1,024, L 0 to 16,384.
+    /// P 1 to 16, C 1 to 8, N 0 to 2,048, L 0 to 16,384.
     fn ranges(&self) -> bool {
         let (p, c, n, l) = (self.word(0), self.word(2), self.word(4), self.word(12));
-        1 <= p && p <= 16 && 1 <= c && c <= 8 && n <= 1024 && l <= 16384
+        1 <= p && p <= 16 && 1 <= c && c <= 8 && n <= 2048 && l <= 16384
     }
 
     fn offsets_and_length(&self) -> bool {

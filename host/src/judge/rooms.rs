@@ -2,7 +2,7 @@
 //! desk says no).
 
 /// Bytes of scratch, whatever the sheet.
-pub const SCRATCH_ROOM: usize = 32_768;
+pub const SCRATCH_ROOM: usize = 65_536;
 
 /// What is lent to both services.
 pub struct Rooms<'a> {

@@ -2,9 +2,9 @@
 
 use super::{KINDS, ORDERS};
 use crate::command::tally;
-use crate::compare::Outcome;
+use crate::compare::{Call, Outcome};
 use crate::layout::word;
-use crate::{areas, buffers};
+use crate::{areas, buffers, lengths};
 use jamturret::lent::Answer;
 use std::fmt;
 
@@ -22,6 +22,8 @@ pub struct Counts {
     buffers: [u64; buffers::LEFT.len()],
     /// Reports that show each case around a capacity.
     areas: [u64; areas::LEFT.len()],
+    /// Calls that make each case around long scripts and their rooms.
+    lengths: [u64; lengths::CALLED.len()],
     steps: u64,
     matches: u64,
     cut: u64,
@@ -33,7 +35,8 @@ pub struct Counts {
 }
 
 impl Counts {
-    pub fn call(&mut self, kind: usize, sheet: &[u8], outcome: &Outcome) {
+    pub fn call(&mut self, kind: usize, sheet: &[u8], call: &Call, outcome: &Outcome) {
+        tally(&mut self.lengths, lengths::called(sheet, call, outcome));
         let Answer { number, place } = outcome.answer;
         if number == 0 {
             let report = &outcome.desk.report;
@@ -85,6 +88,11 @@ impl Counts {
         columns.chain(wrong).chain(others).min().unwrap_or(0)
     }
 
+    /// The smallest count of a case around long scripts, which are seldom made.
+    pub fn least_of_lengths(&self) -> u64 {
+        self.lengths.into_iter().min().unwrap_or(0)
+    }
+
     fn column(&self, column: usize) -> u64 {
         self.kinds.iter().map(|row| row[column]).sum()
     }
@@ -115,7 +123,9 @@ impl fmt::Display for Counts {
         }
         cells(out, "refusal 8 at place 1 to 4", &self.short)?;
         let buffers = buffers::LEFT.iter().zip(self.buffers);
-        for (name, count) in buffers.chain(areas::LEFT.iter().zip(self.areas)) {
+        let areas = areas::LEFT.iter().zip(self.areas);
+        let lengths = lengths::CALLED.iter().zip(self.lengths);
+        for (name, count) in buffers.chain(areas).chain(lengths) {
             writeln!(out, "{name:<40}{count:>8}")?;
         }
         writeln!(

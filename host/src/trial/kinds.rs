@@ -2,6 +2,7 @@
 
 use crate::bench_jobs;
 use crate::generate::{self, jobs};
+use crate::layout::MOST_OPERATIONS;
 use crate::random::Random;
 use crate::traffic;
 
@@ -36,17 +37,11 @@ fn bench_job(random: &mut Random) -> Vec<u8> {
     sheet.bytes()
 }
 
-/// The jobs that are timed: up to 512 messages pending at once.
+/// The jobs that are timed: up to half of the most operations pending at once.
 fn any_traffic(random: &mut Random) -> Vec<u8> {
-    let operations = random.pick(&[32, 128, 1024, 1024]);
-    let sheet = match random.below(5) {
-        0 => traffic::ring(operations),
-        1 => traffic::ring_sends_first(operations),
-        2 => traffic::all_to_one(operations),
-        3 => traffic::heavy(),
-        _ => traffic::heavy_cut(),
-    };
-    sheet.bytes()
+    let operations = random.pick(&[32, 128, 1024, MOST_OPERATIONS]);
+    let (_, sheet) = random.pick(&traffic::SHAPES);
+    sheet(operations).bytes()
 }
 
 fn as_for_check(random: &mut Random) -> Vec<u8> {

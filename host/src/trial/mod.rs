@@ -99,7 +99,7 @@ impl Trial<'_> {
     fn ask(&mut self, call: &Call, before: &Desk) -> Result<Outcome, String> {
         let outcome = compare::all(self.sheet, call, before, &mut self.random)
             .map_err(|text| format!("{call}: {text}"))?;
-        self.counts.call(self.kind, self.sheet, &outcome);
+        self.counts.call(self.kind, self.sheet, call, &outcome);
         Ok(outcome)
     }
 }

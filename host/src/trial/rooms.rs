@@ -11,8 +11,9 @@ pub struct Filler {
 }
 
 const POOL: usize = 1 << 17;
-/// No room is longer than this.
-const LONGEST: usize = 40_000;
+/// What is lent above what is asked for, and the longest room: scratch.
+const MOST_EXCESS: usize = 5000;
+const LONGEST: usize = SCRATCH_ROOM + MOST_EXCESS;
 
 impl Filler {
     pub fn new(seed: u64) -> Filler {
@@ -49,7 +50,11 @@ impl Filler {
             0..=4 => {}
             5..=7 => lengths
                 .iter_mut()
-                .for_each(|length| *length += random.pick(&[0, 0, 1, 7, 100, 5000])),
+                .for_each(|length| *length += random.pick(&[0, 0, 1, 7, 100, MOST_EXCESS])),
+            8 => {
+                let length = &mut lengths[random.below(4)];
+                *length = length.saturating_sub(1);
+            }
             _ => shorten(&mut lengths, random),
         }
         self.desk(lengths, random)
@@ -76,9 +81,11 @@ fn shorten(lengths: &mut [usize; 4], random: &mut Random) {
     let others = random.pick(&[0, 0, 50]);
     for (at, length) in lengths.iter_mut().enumerate() {
         if at == chosen || random.chance(others) {
-            *length = match random.below(3) {
+            *length = match random.below(4) {
                 0 => 0,
-                1 => random.below(*length + 1),
+                // Of scratch, document 01's 32,768 bytes.
+                1 => *length / 2,
+                2 => random.below(*length + 1),
                 _ => length.saturating_sub(1),
             };
         } else if random.chance(20) {

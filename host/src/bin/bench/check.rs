@@ -3,14 +3,14 @@
 use crate::timing::{heading, line, medians};
 use jamturret::lent::{self, Answer};
 use jamturret_host::layout::kind::STANDARD;
-use jamturret_host::layout::{MOST_BOARDS, MOST_PAYLOAD, SLOTS};
+use jamturret_host::layout::{MOST_BOARDS, MOST_OPERATIONS, MOST_PAYLOAD, SLOTS};
 use jamturret_host::sheet::{Board, Operation, Sheet};
 use jamturret_host::{bench_jobs, judge};
 use std::hint::black_box;
 
-/// Operations a board: 1,024 on sixteen boards.
-const SCRIPT: usize = 64;
-const INBOX: u16 = 1024;
+/// Areas of a board, each of its own bytes.
+const AREAS: usize = 2 * SLOTS;
+const AREA: u16 = 16;
 
 /// A service that is asked of a sheet alone.
 type Service = fn(&[u8]) -> Answer;
@@ -37,33 +37,38 @@ fn table(service: &str, library: Service, ours: Service, rounds: usize) {
                 black_box(ours(black_box(&sheet)));
             },
         );
-        line(name, sheet.len(), times);
+        line(name, &sheet, times);
     }
 }
 
-/// Name, calls a measurement, sheet.
-fn sheets() -> [(&'static str, usize, Sheet); 4] {
-    let then = |after: fn(u16) -> Operation| {
-        full(move |index| match index < SLOTS {
-            true => area(index as u16).nonblocking(index as u16),
-            false => after(index as u16),
-        })
-    };
-    let waits = then(|index| Operation::wait(index - SLOTS as u16));
-    [
-        ("blocking, 1,024 operations", 1, full(blocking)),
-        ("32 receives, 32 waits a board", 1, waits),
-        ("32 held, 32 blocking a board", 1, then(area)),
-        ("case 1", 500, bench_jobs::case_1()),
-    ]
+/// Operations of a script by index: for all boards the same.
+type Script = fn(usize) -> Operation;
+
+const SCRIPTS: [(&str, Script); 3] = [
+    ("blocking", blocking),
+    ("32 receives, 32 waits, in turn", received_and_waited),
+    ("32 held a board, then blocking", held_then_blocking),
+];
+
+/// Name, calls a measurement, sheet: the most operations beside half of them,
+/// and a small job.
+fn sheets() -> Vec<(&'static str, usize, Sheet)> {
+    let mut sheets = Vec::new();
+    for (name, script) in SCRIPTS {
+        for operations in [MOST_OPERATIONS / 2, MOST_OPERATIONS] {
+            sheets.push((name, 1, full(operations, script)));
+        }
+    }
+    sheets.push(("case 1", 500, bench_jobs::case_1()));
+    sheets
 }
 
 /// Sixteen boards with the same script and the largest payload.
-fn full(operation: impl Fn(usize) -> Operation) -> Sheet {
+fn full(operations: usize, script: Script) -> Sheet {
     let board = Board {
         attached: 0,
-        inbox: INBOX,
-        script: (0..SCRIPT).map(operation).collect(),
+        inbox: AREA * AREAS as u16,
+        script: (0..operations / MOST_BOARDS).map(script).collect(),
     };
     Sheet {
         communicators: 8,
@@ -74,14 +79,31 @@ fn full(operation: impl Fn(usize) -> Operation) -> Sheet {
     }
 }
 
-/// A receive with an area of its own, touching its neighbours.
-fn area(index: u16) -> Operation {
-    Operation::receive(3, index, index * 16, 16)
+/// A receive into an area that touches its neighbours.
+fn area(index: usize) -> Operation {
+    let index = index as u16;
+    Operation::receive(3, index, index * AREA, AREA)
 }
 
 fn blocking(index: usize) -> Operation {
     match index % 2 {
         0 => Operation::send(STANDARD, 5, index as u16, 256 * (index as u16 / 2), 256),
-        _ => area(index as u16),
+        _ => area(index % AREAS),
+    }
+}
+
+fn received_and_waited(index: usize) -> Operation {
+    let slot = index % SLOTS;
+    match index / SLOTS % 2 {
+        0 => area(slot).nonblocking(slot as u16),
+        _ => Operation::wait(slot as u16),
+    }
+}
+
+/// The areas behind the slots' share no byte with those that are held.
+fn held_then_blocking(index: usize) -> Operation {
+    match index < SLOTS {
+        true => area(index).nonblocking(index as u16),
+        false => area(SLOTS + index % SLOTS),
     }
 }

@@ -5,6 +5,7 @@ use crate::timing::{heading, line, medians};
 use jamturret::lent::{self, Answer};
 use jamturret_host::desk::Desk;
 use jamturret_host::judge::engine;
+use jamturret_host::layout::MOST_OPERATIONS;
 use jamturret_host::sheet::Sheet;
 use jamturret_host::{bench_jobs, traffic};
 use std::hint::black_box;
@@ -84,30 +85,29 @@ impl Timed {
     }
 }
 
-/// 1,024 operations on sixteen boards, save the last three.
+/// Every shape of the most operations beside half of them, and a small job.
 pub fn table(rounds: usize) {
-    let jobs = [
-        ("ring", 1, traffic::ring(1024)),
-        ("ring, sends first", 1, traffic::ring_sends_first(1024)),
-        ("all to one", 1, traffic::all_to_one(1024)),
-        ("512 messages of 4,096 bytes", 1, traffic::heavy()),
-        ("the same, cut to 2,048 bytes", 1, traffic::heavy_cut()),
-        ("case 1", 100, bench_jobs::case_1()),
-    ];
-    let jobs = jobs.map(|(name, calls, sheet)| (name, calls, Timed::new(&sheet)));
+    let mut jobs = Vec::new();
+    for (name, sheet) in traffic::SHAPES {
+        for operations in [MOST_OPERATIONS / 2, MOST_OPERATIONS] {
+            jobs.push((name, 1, Timed::new(&sheet(operations))));
+        }
+    }
+    jobs.push(("case 1", 100, Timed::new(&bench_jobs::case_1())));
     heading("run");
     for (name, calls, job) in &jobs {
-        line(name, job.sheet.len(), job.run(rounds, *calls));
+        line(name, &job.sheet, job.run(rounds, *calls));
     }
     heading("follow, run's order");
     for (name, calls, job) in &jobs {
-        line(name, job.sheet.len(), job.follow(rounds, *calls));
+        line(name, &job.sheet, job.follow(rounds, *calls));
     }
 }
 
-const OPERATIONS: [usize; 4] = [128, 256, 512, 1024];
+const OPERATIONS: [usize; 5] = [128, 256, 512, 1024, MOST_OPERATIONS];
 
-/// A search passes over what is pending, so all-to-one grows faster than the
+/// In the ring nothing waits, and the time an operation stays as it is. A
+/// search passes over what is pending, so all-to-one grows faster than the
 /// number of operations.
 pub fn growth(rounds: usize) {
     let jobs: [(&str, fn(usize) -> Sheet); 2] =
@@ -116,9 +116,8 @@ pub fn growth(rounds: usize) {
     for (name, sheet) in jobs {
         for operations in OPERATIONS {
             let job = Timed::new(&sheet(operations));
-            let calls = 1024 / operations;
-            let name = format!("{name}, {operations} operations");
-            line(&name, job.sheet.len(), job.run(rounds, calls));
+            let calls = MOST_OPERATIONS / operations;
+            line(name, &job.sheet, job.run(rounds, calls));
         }
     }
 }

@@ -1,5 +1,6 @@
 //! Times two functions in turn, so that both meet the same machine.
 
+use jamturret_host::layout::{header, word};
 use std::time::Instant;
 
 /// The medians of both, in nanoseconds a call. A measurement is `calls` calls,
@@ -41,12 +42,18 @@ fn median(mut times: Vec<f64>) -> f64 {
 pub fn heading(what: &str) {
     println!();
     println!(
-        "{what:<40}{:>10}{:>12}{:>12}{:>8}",
-        "bytes", "library", "judge", "ratio"
+        "{what:<34}{:>12}{:>10}{:>12}{:>12}{:>8}{:>14}",
+        "operations", "bytes", "library", "judge", "ratio", "an operation"
     );
 }
 
-pub fn line(name: &str, bytes: usize, (library, judge): (f64, f64)) {
+/// Times of a sheet that has operations; the last column is the library's.
+pub fn line(name: &str, sheet: &[u8], (library, judge): (f64, f64)) {
+    let operations = word(sheet, header::OPERATIONS);
+    let bytes = sheet.len();
     let ratio = library / judge;
-    println!("{name:<40}{bytes:>10}{library:>12.0}{judge:>12.0}{ratio:>8.2}");
+    let each = library / f64::from(operations);
+    println!(
+        "{name:<34}{operations:>12}{bytes:>10}{library:>12.0}{judge:>12.0}{ratio:>8.2}{each:>14.1}"
+    );
 }
