@@ -56,8 +56,8 @@ fn large() {
 }
 
 // 2,048 operations on sixteen boards. Mixed: the longest sheet there is; every mode but ready, cut messages, 8 communicators.
-// Pending: all are messages that nobody receives. The others have in operation 2,047 what lets the order matter: premise 20, 21
-// and 22; the last two stop there.
+// Pending: all are messages that nobody receives. The others let the order matter: premise 20 and 21 at operation 2,047, 22 at
+// rank 15; the last two stop at operation 2,047.
 fn longest() {
     job(b"longest-mixed.sheet");
     job(b"longest-pending.sheet");
