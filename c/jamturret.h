@@ -56,7 +56,7 @@ extern "C" {
 
 /*
  * Stack to have free at a call, in bytes. Measured on sheets of 2,048
- * operations (stack_test.c): 1,103, with the call's arguments and the red
+ * operations (stack_test.c): 1,151, with the call's arguments and the red
  * zone. The rest is margin for another build of the library. A signal handler
  * is not in it, nor is what a dynamic linker takes at the first call of
  * memmove or memset, nor a memmove or memset that takes much itself (a
@@ -94,6 +94,11 @@ typedef struct jamturret_answer {
  * The lowest number that applies is given, each judged over the whole sheet
  * (document 01, When the desk says no). P, C, N and L are the header's
  * numbers of boards, communicators, operations and payload bytes.
+ *
+ * Number 7 has two rounds (document 02, K7): a slot that is taken twice, a
+ * wait for one that is not held, an area that is shared; and, where the whole
+ * sheet has none of these, a forgotten request: a nonblocking operation whose
+ * slot its board's script never frees (in MPI, a request leak).
  */
 enum jamturret_number {
     JAMTURRET_SUCCESS = 0,
@@ -103,7 +108,7 @@ enum jamturret_number {
     JAMTURRET_CRC = 4,          /* CRC differs; place 0 */
     JAMTURRET_BOARD = 5,        /* first wrong board entry; P if only the counts' total */
     JAMTURRET_OPERATION = 6,    /* first operation with a wrong field */
-    JAMTURRET_SLOT_OR_AREA = 7, /* first operation that breaks the slot or area rule */
+    JAMTURRET_SLOT_OR_AREA = 7, /* first operation with wrong slot or area, else first forgotten */
     JAMTURRET_ROOM = 8,         /* first short room: an enum jamturret_room */
     JAMTURRET_ORDER = 9,        /* first index whose rank is above P-1 or not able */
     /* Premise only: why the order may matter. */

@@ -7,7 +7,9 @@
  *
  * Finished is not delivered: a job can finish with messages pending, since a
  * buffered send is complete once it is in its sender's buffer. Look at the
- * pending messages, too.
+ * pending messages, too. Nothing else is pending then: every request was
+ * waited for (document 02, K7), so each receive got its message, and each send
+ * that was not buffered was received.
  */
 /* Before the guard: jamturret.h includes its parts in their order. */
 #include "jamturret.h"
@@ -61,7 +63,7 @@ extern "C" {
 
 enum jamturret_verdict {
     JAMTURRET_STILL_ABLE = 0, /* the order stopped early; follow only */
-    JAMTURRET_FINISHED = 1,   /* all boards are; messages may be pending */
+    JAMTURRET_FINISHED = 1,   /* all boards are; only buffered messages may be pending */
     JAMTURRET_DEADLOCK = 2,   /* some board is unfinished and none is able */
     JAMTURRET_OVERFLOW = 3,   /* stopped: an unmatched buffered send found too little room */
     JAMTURRET_NOT_READY = 4   /* stopped: a ready send found no posted receive */

@@ -63,8 +63,8 @@ extern "C" {
  * counted over the whole sheet. In a wait all fields but kind and slot are 0.
  *
  * Slots: a nonblocking operation takes a slot that its board does not hold,
- * and holds it. A wait names a held slot and frees it. A slot may be held at
- * the end.
+ * and holds it. A wait names a held slot and frees it. No slot is held at the
+ * end of a script: each nonblocking operation has its wait (document 02, K7).
  *
  * Areas: offset and length of a send lie inside the payload, which sends may
  * share; those of a receive inside its board's own inbox. A receive's area
@@ -98,8 +98,8 @@ enum jamturret_kind {
 };
 
 enum jamturret_flag {
-    JAMTURRET_FLAG_BLOCKING = 0, /* also of a wait */
-    JAMTURRET_FLAG_NONBLOCKING = 1
+    JAMTURRET_FLAG_BLOCKING = 0,   /* also of a wait */
+    JAMTURRET_FLAG_NONBLOCKING = 1 /* its board waits for it later on */
 };
 
 /* The length of a sheet, and of the longest. */
@@ -172,7 +172,10 @@ static inline jamturret_operation jamturret_wait(uint32_t slot)
     return made;
 }
 
-/* The same send or receive, nonblocking, with a slot. */
+/*
+ * The same send or receive, nonblocking, with a slot. Its script has to wait
+ * for it later on, or the sheet is refused.
+ */
 static inline jamturret_operation jamturret_nonblocking(jamturret_operation made, uint32_t slot)
 {
     made.flag = JAMTURRET_FLAG_NONBLOCKING;

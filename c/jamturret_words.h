@@ -32,7 +32,8 @@ static inline const char *jamturret_refusal_words(uint32_t number)
     case JAMTURRET_OPERATION:
         return "a field of an operation is wrong";
     case JAMTURRET_SLOT_OR_AREA:
-        return "a request slot is taken or not held, or an area is shared with a held one";
+        return "a request slot is taken or not held, an area is shared with a held one, "
+               "or a request is never waited for";
     case JAMTURRET_ROOM:
         return "a lent room is short";
     case JAMTURRET_ORDER:

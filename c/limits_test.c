@@ -59,7 +59,11 @@ static void count_limits(void)
     }
 }
 
-/* A number of a board or of an operation: its most passes, one more is refused 5 or 6. */
+/*
+ * A number of a board or of an operation: its most passes, one more is refused
+ * 5 or 6. The operation is nonblocking, so that it has a slot, and is waited
+ * for.
+ */
 static void field_limits(void)
 {
     static const struct {
@@ -80,6 +84,9 @@ static void field_limits(void)
                                     &operations[0].length, &operations[0].slot};
         operations[0].flag = JAMTURRET_FLAG_NONBLOCKING;
         *fields[i] = limits[i].most;
+        operations[1] = jamturret_wait(operations[0].slot);
+        boards[0].count = 2;
+        job.operation_count = 2;
         expect_answer(limits[i].name, built(&job), JAMTURRET_SUCCESS, 0);
         ++*fields[i];
         expect_answer(limits[i].name, built(&job), limits[i].refusal, 0);

@@ -31,7 +31,9 @@ static void expect_built(const char *what, const jamturret_job *job, const uint8
     expect_filled("bytes after the sheet", sheet + length, FILL, sizeof sheet - length);
 }
 
-static void expect_sample(const char *path, const jamturret_job *job)
+/* The builder gives the sample's bytes, and check this answer to them. */
+static void expect_sample(const char *path, const jamturret_job *job, uint32_t number,
+                          uint64_t place)
 {
     static uint8_t sample[JAMTURRET_MOST_SHEET];
     size_t length;
@@ -43,7 +45,7 @@ static void expect_sample(const char *path, const jamturret_job *job)
     length = fread(sample, 1, sizeof sample, file);
     fclose(file);
     expect_built(path, job, sample, length);
-    expect_answer(path, jamturret_check(sheet, length), JAMTURRET_SUCCESS, 0);
+    expect_answer(path, jamturret_check(sheet, length), number, place);
 }
 
 /* All sample sheets have the bytes 0B, 0C and so on as payload. */
@@ -55,19 +57,34 @@ static void block_sample(const char *path, uint32_t mode)
     const jamturret_board boards[] = {{1, 8 + 32, 0}, {0, 0, 8}};
     const jamturret_operation operations[] = {jamturret_send(mode, 1, 1, 0, 8)};
     const jamturret_job job = {1, boards, 2, operations, 1, payload, 8};
-    expect_sample(path, &job);
+    expect_sample(path, &job, JAMTURRET_SUCCESS, 0);
 }
 
-/* Bench job 1. */
-static void handshake_sample(void)
+/* Bench job 1; and the same with a nonblocking send that is never waited for. */
+static void handshake_samples(void)
 {
     const jamturret_board boards[] = {{1, 0, 0}, {1, 0, 4}};
-    const jamturret_operation operations[] = {
+    jamturret_operation operations[] = {
         jamturret_send(JAMTURRET_KIND_SYNCHRONOUS, 1, 7, 0, 3),
         jamturret_receive(0, JAMTURRET_ANY, 0, 4),
     };
     const jamturret_job job = {1, boards, 2, operations, 2, payload, 3};
-    expect_sample("sheets/handshake.sheet", &job);
+    expect_sample("sheets/handshake.sheet", &job, JAMTURRET_SUCCESS, 0);
+    operations[0] = jamturret_nonblocking(operations[0], 0);
+    expect_sample("sheets/refused-7-forgotten.sheet", &job, JAMTURRET_SLOT_OR_AREA, 0);
+}
+
+/* sheets/README.md, Refused sheets: a slot that is taken while it is held. */
+static void taken_slot_sample(void)
+{
+    const jamturret_board boards[] = {{3, 0, 8}, {0, 0, 0}};
+    const jamturret_operation operations[] = {
+        jamturret_nonblocking(jamturret_receive(1, 0, 0, 4), 3),
+        jamturret_nonblocking(jamturret_receive(1, 0, 4, 4), 3),
+        jamturret_wait(3),
+    };
+    const jamturret_job job = {1, boards, 2, operations, 3, payload, 0};
+    expect_sample("sheets/refused-7.sheet", &job, JAMTURRET_SLOT_OR_AREA, 1);
 }
 
 /* Bench job 7. */
@@ -85,7 +102,7 @@ static void nonblocking_sample(void)
         jamturret_wait(1),
     };
     const jamturret_job job = {1, boards, 2, operations, 8, payload, 4};
-    expect_sample("sheets/nonblocking.sheet", &job);
+    expect_sample("sheets/nonblocking.sheet", &job, JAMTURRET_SUCCESS, 0);
 }
 
 /*
@@ -207,8 +224,9 @@ int main(void)
 {
     block_sample("sheets/block-buffered.sheet", JAMTURRET_KIND_BUFFERED);
     block_sample("sheets/block-synchronous.sheet", JAMTURRET_KIND_SYNCHRONOUS);
-    handshake_sample();
+    handshake_samples();
     nonblocking_sample();
+    taken_slot_sample();
     every_field();
     widths();
     wide_sum();

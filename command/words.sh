@@ -16,12 +16,13 @@ words_of_refusal() { # NUMBER PLACE
     4) say "refused 4: the CRC differs: a byte was changed, or the CRC is wrong" ;;
     5) say "refused 5 at rank $2: the board entry is wrong; if there is no rank $2, the counts do not total the operations" ;;
     6) say "refused 6 at operation $2: a field of it is wrong" ;;
-    7) say "refused 7 at operation $2: its request slot is taken or not held, or its area shares a byte with a held one" ;;
+    7) say "refused 7 at operation $2: its request slot is taken or not held, its area shares a byte with a held one, or it is never waited for" ;;
     *) say "refused $1 at place $2" ;;
     esac
 }
 
-# Document 01, "The report"; premise's numbers are ours.
+# Document 01, "The report"; premise's numbers are ours. Where all boards finished, every request was waited for (document 02, K7):
+# no receive is pending, and what is not delivered stands in buffers.
 words_of_report() { # VERDICT STOP-RANK STOP-OPERATION STEPS BOARDS OPERATIONS MESSAGES RECEIVES CUT PREMISE PLACE
     [ "$quiet" -eq 0 ] || return 0
     case $1:$7 in

@@ -181,9 +181,17 @@ pub fn case_14_tag(tag: u16) -> Sheet {
     job(&[&[send(STANDARD, 1, tag)], &[]])
 }
 
-/// A nonblocking receive in this slot, held at the end.
+/// A nonblocking receive in this slot, and its wait.
 pub fn case_14_slot(slot: u16) -> Sheet {
-    job(&[&[receive(1, 0).nonblocking(slot)], &[]])
+    let received = [receive(1, 0).nonblocking(slot), Operation::wait(slot)];
+    job(&[&received, &[send(STANDARD, 0, 0)]])
+}
+
+/// The same without the wait, which document 02's request K7 refuses.
+pub fn case_14_slot_forgotten(slot: u16) -> Sheet {
+    let mut sheet = case_14_slot(slot);
+    sheet.boards[0].script.pop();
+    sheet
 }
 
 /// The name and sheet of every bench job that *check* accepts.

@@ -11,6 +11,7 @@
 //! - `areas`: the cases around a receive's capacity.
 //! - `buffers`: what buffered sends cost, and the cases around it.
 //! - `lengths`: the cases around long scripts and their rooms.
+//! - `requests_left`: the cases around requests that no wait frees.
 //! - `random`: a seeded generator of numbers.
 //! - `generate`: generators of sheets for the differential tests.
 //! - `guarded`: lends buffers to the library between guard bytes.
@@ -33,6 +34,7 @@ pub mod judge;
 pub mod layout;
 pub mod lengths;
 pub mod random;
+pub mod requests_left;
 pub mod settled;
 pub mod sheet;
 pub mod traffic;

@@ -18,4 +18,6 @@ fn case_14_refusals() {
     expect("N 2,049", &operations, 2, 0);
     expect("tag 32,768", &bench_jobs::case_14_tag(32_768).bytes(), 6, 0);
     expect("slot 32", &bench_jobs::case_14_slot(32).bytes(), 6, 0);
+    let forgotten = bench_jobs::case_14_slot_forgotten(31).bytes();
+    expect("slot 31 without its wait", &forgotten, 7, 0);
 }

@@ -1,4 +1,4 @@
-//! Bench jobs 1 to 13 of document 01 under *run* and *follow* of the library
+//! Bench jobs 1 to 14 of document 01 under *run* and *follow* of the library
 //! and of both judges: verdicts, orders, matches, cut messages and inbox
 //! bytes.
 
@@ -9,6 +9,7 @@ use jamturret_host::desk::{Desk, FILL};
 use jamturret_host::layout::kind::{BUFFERED, STANDARD};
 use jamturret_host::layout::word;
 use jamturret_host::random::Random;
+use jamturret_host::requests_left::no_request_left;
 use jamturret_host::sheet::{Operation, Sheet};
 
 const FINISHED: u8 = 1;
@@ -363,6 +364,17 @@ fn case_14_fills_the_largest_buffer() {
     outcome.board(0, (1536, 16_384, 16_384, 1));
 }
 
+/// Slot 31 with its wait.
+#[test]
+fn case_14_slot() {
+    let outcome = run(&bench_jobs::case_14_slot(31));
+    outcome.ends(FINISHED, &[0, 1, 0, 1]);
+    outcome.counts(0, 0, 0);
+    outcome.matched(2, 0);
+    assert_eq!(outcome.row(1)[0], 5, "the wait is finished");
+    outcome.inbox(&[(0, &[1, 2, 3])]);
+}
+
 /// A beginning of an order is a report of its own.
 #[test]
 fn beginnings_of_case_1() {
@@ -386,13 +398,47 @@ fn beginnings_of_case_1() {
 fn slots_are_told_apart() {
     let never = Operation::receive(1, 9, 0, 4).nonblocking(0);
     let empty = Operation::send(BUFFERED, 1, 0, 0, 0).nonblocking(1);
-    let waits_for_1 = [never, empty, Operation::wait(1), empty, Operation::wait(1)];
+    let (for_0, for_1) = (Operation::wait(0), Operation::wait(1));
+    let waits_for_1 = [never, empty, for_1, empty, for_1, for_0];
     let outcome = run(&Sheet::of_scripts(&[&waits_for_1, &[]], 16).attach(0, 64));
-    outcome.ends(FINISHED, &[0; 5]);
+    outcome.ends(DEADLOCK, &[0; 5]);
     outcome.counts(2, 1, 0);
+    outcome.board(0, (5, 64, 64, 0));
+    let states = [0, 1, 2, 3, 4, 5].map(|index| outcome.row(index)[0]);
+    assert_eq!(states, [1, 2, 5, 2, 5, 0]);
 
-    let waits_for_0 = [empty, Operation::wait(1), never, Operation::wait(0)];
+    let waits_for_0 = [empty, for_1, never, for_0];
     let outcome = run(&Sheet::of_scripts(&[&waits_for_0, &[]], 16).attach(0, 64));
     outcome.ends(DEADLOCK, &[0; 3]);
     outcome.board(0, (3, 32, 32, 0));
+}
+
+/// The same with a message for the receive: of the job only what is buffered is
+/// left (document 02, K7, No-request-left).
+#[test]
+fn finished_job_has_no_request_left() {
+    let awaited = Operation::receive(1, 9, 0, 4).nonblocking(0);
+    let empty = Operation::send(BUFFERED, 1, 0, 0, 0).nonblocking(1);
+    let (for_0, for_1) = (Operation::wait(0), Operation::wait(1));
+    let waits = [awaited, empty, for_1, empty, for_1, for_0];
+    let send = Operation::send(STANDARD, 0, 9, 0, 3).nonblocking(31);
+    let sends = [send, Operation::wait(31)];
+    let sheet = Sheet::of_scripts(&[&waits, &sends], 16).attach(0, 64);
+    let outcome = run(&sheet);
+    outcome.ends(FINISHED, &[0, 0, 0, 0, 0, 1, 0, 1]);
+    outcome.counts(2, 0, 0);
+    outcome.matched(6, 0);
+    outcome.board(0, (6, 64, 64, 2));
+    outcome.board(1, (2, 0, 0, 2));
+    let states = [0, 1, 2, 3, 4, 5, 6, 7].map(|index| outcome.row(index)[0]);
+    assert_eq!(states, [3, 2, 5, 2, 5, 5, 3, 5]);
+    let report = &outcome.desk.report;
+    assert_eq!(no_request_left(&sheet.bytes(), report), Ok(()));
+
+    let outcome = follow(&sheet, &[1, 0, 1]);
+    assert_eq!(outcome.desk.report[0], 0, "rank 0 is able");
+    outcome.counts(0, 0, 0);
+    outcome.matched(6, 0);
+    outcome.board(0, (1, 0, 0, 1));
+    outcome.board(1, (2, 0, 0, 2));
 }

@@ -47,6 +47,6 @@ fn fields_of_operations() {
 }
 
 #[test]
-fn slots_and_areas() {
+fn slots_areas_and_forgotten_requests() {
     group(7);
 }

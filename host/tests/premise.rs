@@ -44,14 +44,16 @@ fn any_source_before_ready_before_buffers() {
     expect("21 and 22", &sheet(&[buffered, ready, ready], 0), 21, 1);
     expect("22 alone", &sheet(&[buffered], 0), 22, 0);
     let nonblocking = [any.nonblocking(3), ready.nonblocking(4)];
-    expect("nonblocking", &sheet(&nonblocking, 0), 20, 0);
+    let waits = [3, 4].map(Operation::wait);
+    let waited = [nonblocking, waits].concat();
+    expect("nonblocking", &sheet(&waited, 0), 20, 0);
 }
 
 #[test]
 fn buffers_cover_all_buffered_sends_of_their_board() {
     let others = [send(STANDARD, 9), send(SYNCHRONOUS, 9)];
     let buffered = [send(BUFFERED, 5), send(BUFFERED, 6).nonblocking(0)];
-    let script = [buffered, others].concat();
+    let script = [&buffered[..], &others, &[Operation::wait(0)]].concat();
     expect("covered", &sheet(&script, 76), 0, 0);
     expect("covered exactly", &sheet(&script, 5 + 6 + 64), 0, 0);
     expect("a byte short", &sheet(&script, 74), 22, 0);
@@ -85,6 +87,26 @@ fn refusals_of_check_come_first() {
     expect("crc", &bytes, 4, 0);
     mend_crc(&mut bytes);
     expect("field", &bytes, 6, 1);
+}
+
+/// Document 02, K7: 7 for a request that is forgotten comes before 20 to 22.
+#[test]
+fn forgotten_requests_come_first() {
+    let any = Operation::receive(ANY, 0, 0, 1);
+    for (other, number) in [
+        (any, 20),
+        (send(READY, 1), 21),
+        (send(BUFFERED, 3), 22),
+        (send(STANDARD, 3), 0),
+    ] {
+        let place = if (20..22).contains(&number) { 2 } else { 0 };
+        let script = [send(STANDARD, 1), send(STANDARD, 2).nonblocking(7), other];
+        let waited = [&script[..], &[Operation::wait(7)]].concat();
+        expect("waited for", &sheet(&waited, 0), number, place);
+        expect("forgotten", &sheet(&script, 0), 7, 1);
+        let itself = [send(STANDARD, 1), other.nonblocking(7)];
+        expect("forgotten itself", &sheet(&itself, 0), 7, 1);
+    }
 }
 
 #[test]

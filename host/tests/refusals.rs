@@ -5,7 +5,7 @@ mod common;
 
 use common::expect;
 use jamturret_host::bench_jobs;
-use jamturret_host::layout::{board, header, operation, word};
+use jamturret_host::layout::{board, header, operation, word, ANY};
 use jamturret_host::sheet::{
     add_word, board_at, mend_crc, operation_at, set_word, Operation, Sheet,
 };
@@ -60,6 +60,33 @@ fn each_lower_number_comes_first() {
     expect("2 to 7", &sheet, 2, 0);
 
     expect("1 to 7", &sheet[..15], 1, 0);
+}
+
+/// Document 02, K7: a forgotten request is told where nothing else is wrong,
+/// also not behind it or on a later board.
+#[test]
+fn forgotten_requests_come_last() {
+    let send = Operation::send(1, 0, 0, 0, 3);
+    let receive = Operation::receive(ANY, 0, 0, 4);
+    // Operations 1 and 3 hold slots at the end.
+    let mut first = vec![send, receive.nonblocking(9), send];
+    let mut last = vec![send.nonblocking(0), send];
+    let sheet =
+        |first: &[Operation], last: &[Operation]| Sheet::of_scripts(&[first, &[], last], 8).bytes();
+    expect("two forgotten", &sheet(&first, &last), 7, 1);
+    let freed = [&first[..], &[Operation::wait(9)]].concat();
+    expect("one freed", &sheet(&freed, &last), 7, 4);
+    let freed_too = [&last[..], &[Operation::wait(0)]].concat();
+    expect("both freed", &sheet(&freed, &freed_too), 0, 0);
+
+    last.push(Operation::wait(1));
+    expect("a wait for nothing", &sheet(&first, &last), 7, 5);
+    last.insert(1, receive.nonblocking(0));
+    expect("a slot taken twice", &sheet(&first, &last), 7, 4);
+    first.push(receive);
+    expect("an area shared", &sheet(&first, &last), 7, 3);
+    last[2].zero = 1;
+    expect("a wrong field", &sheet(&first, &last), 6, 6);
 }
 
 #[test]

@@ -34,15 +34,24 @@ fn first_short_room() {
     }
 }
 
+/// The last of them is a request that is forgotten (document 02, K7).
 #[test]
 fn sheet_refusals_come_first() {
-    let sheet = bench_jobs::case_14_tag(32_768).bytes();
-    let mut desk = Desk::for_sheet(&sheet);
-    ROOMS.iter().for_each(|(_, shorten)| shorten(&mut desk));
-    let before = desk.clone();
-    assert_eq!(desk.naive_run(&sheet), Answer::refusal(6, 0));
-    assert_eq!(desk.naive_follow(&sheet, &[9]), Answer::refusal(6, 0));
-    assert_eq!(desk, before);
+    for (sheet, number) in [
+        (bench_jobs::case_14_tag(32_768), 6),
+        (bench_jobs::case_14_slot_forgotten(31), 7),
+    ] {
+        let sheet = sheet.bytes();
+        let mut desk = Desk::for_sheet(&sheet);
+        let whole = desk.clone();
+        assert_eq!(desk.naive_follow(&sheet, &[9]), Answer::refusal(number, 0));
+        assert_eq!(desk, whole);
+        ROOMS.iter().for_each(|(_, shorten)| shorten(&mut desk));
+        let before = desk.clone();
+        assert_eq!(desk.naive_run(&sheet), Answer::refusal(number, 0));
+        assert_eq!(desk.naive_follow(&sheet, &[9]), Answer::refusal(number, 0));
+        assert_eq!(desk, before);
+    }
 }
 
 #[test]

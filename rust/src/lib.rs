@@ -9,7 +9,7 @@
 //! answer is the library's own; the crate lays out sheets, lends the rooms and
 //! puts answers and reports into names and words. No function panics, whatever
 //! it is given. The rules are in `docs/RULES.md` of the repository; comments
-//! call them document 01.
+//! call them document 01, and their part two document 02.
 //!
 //! # Depend on it
 //!
@@ -69,7 +69,10 @@
 //! its sender's buffer, whether or not anybody takes it. Look at
 //! [`Report::pending_messages`] beside the verdict. In the buffer a message
 //! costs its length and [`limits::BSEND_OVERHEAD`]; without room for both the
-//! job stops with [`Verdict::Overflow`].
+//! job stops with [`Verdict::Overflow`]. Nothing but buffered messages can be
+//! pending in a finished job, since no request is forgotten: a sheet with a
+//! nonblocking operation that its board never waits for is refused with
+//! [`Refusal::Request`].
 //!
 //! **A run's verdict holds for one order**, the one that [`run`] chooses. It is
 //! known to hold for every full order exactly where [`premise()`] holds;

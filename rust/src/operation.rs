@@ -49,7 +49,8 @@ pub struct SendOperation {
     pub offset: usize,
     /// The message's length.
     pub length: usize,
-    /// The request slot of a nonblocking send; none for a blocking one.
+    /// The request slot of a nonblocking send; none for a blocking one. A later
+    /// wait of the board has to free it.
     pub slot: Option<usize>,
 }
 
@@ -67,7 +68,8 @@ pub struct ReceiveOperation {
     /// The area's length. A longer message is cut: its first bytes fill the
     /// area.
     pub capacity: usize,
-    /// The request slot of a nonblocking receive; none for a blocking one.
+    /// The request slot of a nonblocking receive; none for a blocking one. A
+    /// later wait of the board has to free it.
     pub slot: Option<usize>,
 }
 
@@ -94,7 +96,9 @@ pub enum Operation {
     /// A receive.
     Receive(ReceiveOperation),
     /// A wait for the nonblocking operation that holds a slot; it frees the
-    /// slot.
+    /// slot. Each nonblocking operation needs one, later in its board's script:
+    /// a sheet that forgets it is refused
+    /// ([`Refusal::Request`](crate::Refusal::Request); document 02, K7).
     Wait {
         /// The request slot.
         slot: usize,
@@ -137,7 +141,8 @@ impl SendOperation {
         }
     }
 
-    /// The same, nonblocking with this request slot.
+    /// The same, nonblocking with this request slot, which a later
+    /// [`Operation::Wait`] has to free.
     pub fn nonblocking(self, slot: usize) -> SendOperation {
         SendOperation {
             slot: Some(slot),
@@ -181,7 +186,8 @@ impl ReceiveOperation {
         }
     }
 
-    /// The same, nonblocking with this request slot.
+    /// The same, nonblocking with this request slot, which a later
+    /// [`Operation::Wait`] has to free.
     pub fn nonblocking(self, slot: usize) -> ReceiveOperation {
         ReceiveOperation {
             slot: Some(slot),

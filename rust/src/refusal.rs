@@ -49,7 +49,21 @@ pub enum Refusal {
     },
     /// 7: an operation takes a slot that its board holds, waits for one that
     /// it does not hold, or receives into an area that shares a byte with that
-    /// of an earlier receive whose slot is still held.
+    /// of an earlier receive whose slot is still held. Where the whole sheet
+    /// has no such operation: one is forgotten, that is, nonblocking and never
+    /// waited for (document 02, K7; in MPI, a request leak).
+    ///
+    /// ```
+    /// use jamturret::{check, Board, Mode, Operation, Refusal, SendOperation, Sheet};
+    ///
+    /// let sender = Board::new().then(SendOperation::new(Mode::Buffered, 0).nonblocking(5));
+    /// let forgotten = Sheet::build(1, vec![sender.clone()], &[])?;
+    /// assert_eq!(check(&forgotten), Err(Refusal::Request { index: 0 }));
+    ///
+    /// let waited_for = sender.then(Operation::Wait { slot: 5 });
+    /// assert_eq!(check(Sheet::build(1, vec![waited_for], &[])?), Ok(()));
+    /// # Ok::<(), jamturret::BuildError>(())
+    /// ```
     Request {
         /// The first such operation.
         index: usize,
@@ -179,7 +193,7 @@ impl fmt::Display for Refusal {
             Refusal::Operation { index } => write!(out, "a field of operation {index} is wrong"),
             Refusal::Request { index } => write!(
                 out,
-                "operation {index} takes a slot that is held, waits for one that is not, or shares an area with a held one"
+                "operation {index} takes a slot that is held, waits for one that is not, shares an area with a held one, or is never waited for"
             ),
             Refusal::Room(room) => write!(out, "the {room} room is short"),
             Refusal::Order { index } => write!(

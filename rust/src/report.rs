@@ -15,8 +15,9 @@ pub enum Verdict {
     /// The order stopped early: a board can still step. Only `follow` gives
     /// it.
     StillAble = 0,
-    /// All boards are finished. **Finished is not delivered**: messages can be
-    /// pending, see [`Report::pending_messages`].
+    /// All boards are finished, and every request was waited for (document 02,
+    /// K7). **Finished is not delivered**: buffered messages can be pending,
+    /// and nothing else; see [`Report::pending_messages`].
     Finished = 1,
     /// Not all boards are finished, and none is able.
     Deadlock = 2,
@@ -149,13 +150,14 @@ impl Report {
         self.header.steps
     }
 
-    /// Messages that nobody has received, buffered ones among them. They may
-    /// remain where the verdict is [`Finished`](Verdict::Finished).
+    /// Messages that nobody has received, buffered ones among them. Where the
+    /// verdict is [`Finished`](Verdict::Finished) only buffered ones can remain.
     pub fn pending_messages(&self) -> usize {
         self.header.pending_messages
     }
 
-    /// Posted receives that have got no message.
+    /// Posted receives that have got no message. None remains where the verdict
+    /// is [`Finished`](Verdict::Finished): each receive was waited for.
     pub fn pending_receives(&self) -> usize {
         self.header.pending_receives
     }

@@ -8,10 +8,11 @@
 
 mod common;
 
-use common::parts::random_sheet;
+use common::parts::{forgetful_sheet, random_sheet};
 use common::random::Random;
 use jamturret::{
-    check, follow, lent, premise, run, Outcome, Premise, Refusal, Report, ReportError, Sheet,
+    check, follow, lent, premise, run, OperationState, Outcome, Premise, Refusal, Report,
+    ReportError, Sheet, Verdict,
 };
 use std::collections::BTreeMap;
 
@@ -77,8 +78,11 @@ fn any_sheet(random: &mut Random) -> Vec<u8> {
         let length = random.below(80);
         return random.bytes(length);
     }
-    let sheet = random_sheet(random).expect("every number fits");
-    let mut bytes = sheet.bytes().to_vec();
+    let sheet = match random.chance(90) {
+        true => random_sheet(random),
+        false => forgetful_sheet(random),
+    };
+    let mut bytes = sheet.expect("every number fits").bytes().to_vec();
     if random.chance(70) {
         damage(&mut bytes, random);
     }
@@ -149,6 +153,29 @@ fn look(outcome: &Outcome, bytes: &[u8], counts: &mut Counts) {
     let scripts = sheet.boards().iter().map(|board| board.script.len());
     assert_eq!(report.operations().len(), scripts.sum());
     assert_eq!(Report::parse(report.bytes()).as_ref(), Ok(report));
+    if report.verdict() == Verdict::Finished {
+        look_finished(report, counts);
+    }
+}
+
+/// Every request was waited for (document 02, K7): nothing is pending but
+/// messages in buffers.
+fn look_finished(report: &Report, counts: &mut Counts) {
+    let states = report.operations().map(|row| row.state);
+    let (done, pending): (Vec<_>, Vec<_>) = states.partition(|state| {
+        matches!(
+            state,
+            OperationState::Matched | OperationState::WaitFinished
+        )
+    });
+    assert!(pending
+        .iter()
+        .all(|&state| state == OperationState::Buffered));
+    assert_eq!(report.pending_messages(), pending.len());
+    assert_eq!(report.pending_receives(), 0);
+    if done.contains(&OperationState::WaitFinished) && !pending.is_empty() {
+        counts.add("finished after a wait, not delivered".into());
+    }
 }
 
 fn read_damaged_report(report: &Report, random: &mut Random, counts: &mut Counts) {
@@ -233,6 +260,8 @@ fn nothing_panics() {
         "report board",
         "report operation",
     ];
-    let plain = refusals.into_iter().chain(reports).map(String::from);
+    let finished = ["finished after a wait, not delivered"];
+    let plain = refusals.into_iter().chain(reports).chain(finished);
+    let plain = plain.map(String::from);
     counts.have(plain.chain(premises).chain(verdicts));
 }

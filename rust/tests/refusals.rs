@@ -107,7 +107,8 @@ fn of_operations() {
         Refusal::Request { index: 1 },
         7,
         1,
-        "operation 1 takes a slot that is held, waits for one that is not, or shares an area with a held one",
+        "operation 1 takes a slot that is held, waits for one that is not, \
+         shares an area with a held one, or is never waited for",
     );
 }
 

@@ -3,9 +3,10 @@
 mod common;
 
 use common::sample;
+use jamturret::limits::BSEND_OVERHEAD;
 use jamturret::{
-    follow, run, BoardRow, BoardState, OperationRow, OperationState, Report, ReportError, Status,
-    Stop, Verdict,
+    follow, run, Board, BoardRow, BoardState, Mode, Operation, OperationRow, OperationState,
+    ReceiveOperation, Report, ReportError, SendOperation, Sheet, Source, Status, Stop, Verdict,
 };
 
 /// The report of bench job 1, as document 01 prints it.
@@ -139,6 +140,7 @@ fn verdicts() {
     let buffered = ran("block-buffered");
     assert_eq!(buffered.verdict(), Verdict::Finished);
     assert_eq!((buffered.steps(), buffered.pending_messages()), (2, 1));
+    assert_eq!(buffered.pending_receives(), 0);
     let sender = buffered.board(0).expect("rank 0");
     assert_eq!((sender.in_use, sender.peak), (40, 40));
     let row = buffered.operation(0).expect("operation 0");
@@ -179,6 +181,32 @@ fn verdicts() {
     let status = cut.operation(1).and_then(|row| row.status);
     let status = status.expect("matched");
     assert_eq!((status.cut, status.length), (true, 5));
+}
+
+/// An operation that nobody answers, and the wait for it. Only a buffered send
+/// is complete then: the job finishes, and its message is pending. With any
+/// other the wait hangs (document 02, K7).
+#[test]
+fn unanswered_requests() {
+    use OperationState::{Buffered, Pending};
+    let send = |mode| Operation::Send(SendOperation::new(mode, 1).nonblocking(0));
+    let receive = ReceiveOperation::new(Source::Rank(1)).nonblocking(0);
+    for (operation, verdict, state, pending) in [
+        (send(Mode::Buffered), Verdict::Finished, Buffered, (1, 0)),
+        (send(Mode::Standard), Verdict::Deadlock, Pending, (1, 0)),
+        (send(Mode::Synchronous), Verdict::Deadlock, Pending, (1, 0)),
+        (receive.into(), Verdict::Deadlock, Pending, (0, 1)),
+    ] {
+        let board = Board::new().attached(BSEND_OVERHEAD).then(operation);
+        let board = board.then(Operation::Wait { slot: 0 });
+        let sheet = Sheet::build(1, vec![board, Board::new()], &[]);
+        let ran = run(sheet.expect("every number fits"), None);
+        let report = ran.expect("the sheet passes").report;
+        assert_eq!(report.verdict(), verdict, "{operation:?}");
+        assert_eq!(report.operation(0).map(|row| row.state), Some(state));
+        let told = (report.pending_messages(), report.pending_receives());
+        assert_eq!(told, pending, "{operation:?}");
+    }
 }
 
 #[test]

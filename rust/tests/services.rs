@@ -79,14 +79,21 @@ fn sheet_or_bytes() {
     assert_eq!(follow(&sheet, &[0], None), follow(bytes, &[0], None));
 }
 
-/// Refused before any room is looked at.
+/// Refused before any room is looked at: by the CRC, and by the last rule of
+/// all, that of forgotten requests.
 #[test]
 fn refused_sheet() {
-    let mut bytes = sample("handshake");
-    bytes[14] ^= 1;
-    assert_eq!(run(&bytes, None), Err(Refusal::Crc));
-    assert_eq!(run(&bytes, Some(&[])), Err(Refusal::Crc));
-    assert_eq!(follow(&bytes, &[9], Some(&[])), Err(Refusal::Crc));
+    let mut damaged = sample("handshake");
+    damaged[14] ^= 1;
+    let forgotten = sample("refused-7-forgotten");
+    for (bytes, refusal) in [
+        (damaged, Refusal::Crc),
+        (forgotten, Refusal::Request { index: 0 }),
+    ] {
+        assert_eq!(run(&bytes, None), Err(refusal));
+        assert_eq!(run(&bytes, Some(&[])), Err(refusal));
+        assert_eq!(follow(&bytes, &[9], Some(&[])), Err(refusal));
+    }
 }
 
 /// An order that stops early, and the empty one.

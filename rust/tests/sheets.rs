@@ -111,18 +111,20 @@ fn bytes_by_hand() {
                     .on(1)
                     .nonblocking(0x1f),
             )
-            .then(send(Mode::Ready, 1).tag(0x0e)),
+            .then(send(Mode::Ready, 1).tag(0x0e))
+            .then(Operation::Wait { slot: 0x1f }),
     ];
     let sheet = Sheet::build(3, boards, &[0xAA, 0xBB, 0xCC]).expect("every number fits");
     #[rustfmt::skip]
     let expected = [
-        2, 0,  3, 0,  4, 0,  16, 0,  32, 0,  96, 0,  3, 0,  0, 0,
+        2, 0,  3, 0,  5, 0,  16, 0,  32, 0,  112, 0,  3, 0,  0, 0,
         0, 0,  2, 0,  0x02, 0x01,  0x04, 0x03,
-        2, 0,  2, 0,  0x0a, 0,  0x0b, 0,
+        2, 0,  3, 0,  0x0a, 0,  0x0b, 0,
         5, 1,  1, 0,  2, 0,  0, 0,  0x06, 0x05,  0x01, 0x02,  7, 0,  9, 0,
         6, 0,  0, 0,  0, 0,  0, 0,  0, 0,  0, 0,  0, 0,  9, 0,
         2, 1,  0, 0,  1, 0,  0, 0,  0x0d, 0x0c,  1, 0,  2, 0,  0x1f, 0,
         4, 0,  1, 0,  0, 0,  0, 0,  0x0e, 0,  0, 0,  0, 0,  0, 0,
+        6, 0,  0, 0,  0, 0,  0, 0,  0, 0,  0, 0,  0, 0,  0x1f, 0,
         0xAA, 0xBB, 0xCC,
     ];
     let mut bytes = sheet.bytes().to_vec();
@@ -131,7 +133,8 @@ fn bytes_by_hand() {
     assert_eq!(check(&sheet), Ok(()));
     assert_eq!(Sheet::parse(sheet.bytes()), Ok(sheet.clone()));
     assert_eq!(sheet.operation(1), Some(&Operation::Wait { slot: 9 }));
-    assert_eq!(sheet.operation(4), None);
+    assert_eq!(sheet.operation(4), Some(&Operation::Wait { slot: 0x1f }));
+    assert_eq!(sheet.operation(5), None);
 }
 
 #[test]
@@ -162,7 +165,11 @@ fn only_a_sheet_that_passes_is_parsed() {
 /// Two boards, the first with an inbox of this size and one operation; and so
 /// much payload.
 fn with(inbox: usize, operation: impl Into<Operation>, payload: usize) -> Sheet {
-    let boards = vec![Board::new().inbox(inbox).then(operation), Board::new()];
+    beside_another(Board::new().inbox(inbox).then(operation), payload)
+}
+
+fn beside_another(board: Board, payload: usize) -> Sheet {
+    let boards = vec![board, Board::new()];
     Sheet::build(1, boards, &vec![0; payload]).expect("every number fits")
 }
 
@@ -219,7 +226,8 @@ fn limits_of_operations() {
         with(0, receive(1).tag(Tag::Is(most)), 0)
     });
     is_limit(MOST_SLOT, refusal, |most| {
-        with(0, send.nonblocking(most), 0)
+        let started = Board::new().then(send.nonblocking(most));
+        beside_another(started.then(Operation::Wait { slot: most }), 0)
     });
 }
 

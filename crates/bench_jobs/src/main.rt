@@ -32,17 +32,19 @@ fn thirteen() {
     job(b"13-empty-buffered-32.sheet");
 }
 
-// Document 01, "Bench jobs", 14.
+// Document 01, "Bench jobs", 14; slot 31 with its wait, and without it, which is refused 7 (document 02, K7).
 fn fourteen() {
     job(b"14-operations-2048.sheet");
     job(b"14-operations-2049.sheet");
     job(b"14-tag-32767.sheet");
     job(b"14-tag-32768.sheet");
     job(b"14-slot-31.sheet");
+    job(b"14-slot-31-forgotten.sheet");
     job(b"14-slot-32.sheet");
 }
 
-// Up to sixteen boards, 1,024 operations and 4,096-byte messages; each way to end.
+// Up to sixteen boards, 1,263 operations and 4,096-byte messages; each way to end. Scripts that hold slots to the last end with
+// the waits for them.
 fn large() {
     job(b"large-ring.sheet");
     job(b"large-all-to-one.sheet");
@@ -66,7 +68,8 @@ fn longest() {
     job(b"longest-overflow.sheet");
 }
 
-// Document 01, "When the desk says no": 1, 3, 4, 5 twice, 7 twice.
+// Document 01, "When the desk says no": 1, 3, 4, 5 twice, 7 three times. Of those three, the first two forget a request as well,
+// but another rule goes before it; the last forgets two, and nothing else is wrong (document 02, K7).
 fn refused() {
     job(b"no-short.sheet");
     job(b"no-length.sheet");
@@ -75,6 +78,7 @@ fn refused() {
     job(b"no-total.sheet");
     job(b"no-slot.sheet");
     job(b"no-area.sheet");
+    job(b"no-forgotten.sheet");
 }
 
 fn main() {

@@ -16,7 +16,7 @@ use borrow.Author.Tests.{eq-eqb, lt-ltb}
 use Rattle.rules.specs.Limits.{header-size}
 use Rattle.rules.specs.Crc.{crc, crc-from}
 use Rattle.rules.specs.Sheet.{Sheet, two, sheet-in, P-of, N-of, counts-before}
-use Rattle.rules.specs.Refusal.{Refusal, refusal, accepted, or-else, first-broken, sizes-good, layout-good, crc-good, board-good, boards-refusal, op-good, ops-refusal, request-good, requests-refusal, tables-refusal, sheet-refusal}
+use Rattle.rules.specs.Refusal.{Refusal, refusal, accepted, or-else, first-broken, sizes-good, layout-good, crc-good, board-good, boards-refusal, op-good, ops-refusal, request-good, slot-freed, requests-refusal, tables-refusal, sheet-refusal}
 use Rattle.rules.specs.Step.{splice}
 use Rattle.rules.specs.Report.{low-two}
 use Rattle.laws.specs.Broken.{or-else-not, broken-not}
@@ -39,11 +39,15 @@ unfolding tables-refusal boards-refusal ops-refusal requests-refusal refusal
 tables-not-four s =
     let five = broken-not 5 (board-good s) 4 (λ e. omega (arith, e)) (λ e. omega (arith, e)) (P-of s) 0 in
     let six = broken-not 6 (op-good s) 4 (λ e. omega (arith, e)) (λ e. omega (arith, e)) (N-of s) 0 in
-    let seven = broken-not 7 (request-good s) 4 (λ e. omega (arith, e)) (λ e. omega (arith, e)) (N-of s) 0 in
+    let seven : (f : ℕ → Bool) → first-broken 7 f (N-of s) 0 .number ≢ 4 =
+    λ f. broken-not 7 f 4 (λ e. omega (arith, e)) (λ e. omega (arith, e)) (N-of s) 0 in
+    let requests =
+    or-else-not 4 (first-broken 7 (request-good s) (N-of s) 0) (first-broken 7 (slot-freed s) (N-of s) 0)
+    (seven (request-good s)) (seven (slot-freed s)) in
     let totals = eqb (counts-before s (P-of s)) (N-of s) in
     let total = cond-not 4 totals accepted (refusal 5 (P-of s)) (λ e. omega (arith, e)) (λ e. omega (arith, e)) in
     let boards = or-else-not 4 (first-broken 5 (board-good s) (P-of s) 0) (cond totals accepted (refusal 5 (P-of s))) five total in
-    or-else-not 4 (boards-refusal s) (or-else (ops-refusal s) (requests-refusal s)) boards (or-else-not 4 (ops-refusal s) (requests-refusal s) six seven)
+    or-else-not 4 (boards-refusal s) (or-else (ops-refusal s) (requests-refusal s)) boards (or-else-not 4 (ops-refusal s) (requests-refusal s) six requests)
 
 -- SHEETS
 module _ (bs : List ℕ) where

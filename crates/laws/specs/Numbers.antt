@@ -8,7 +8,7 @@ use lib.ListN.{length}
 use Rattle.rules.specs.Limits.{header-size}
 use Rattle.rules.specs.Sheet.{Sheet, sheet-in, P-of, N-of, counts-before}
 use Rattle.rules.specs.Refusal.{Refusal, refusal, accepted, or-else, first-broken, board-good, boards-refusal, ops-refusal}
-use Rattle.rules.specs.Refusal.{requests-refusal, tables-refusal, sizes-good, layout-good, crc-good, sheet-refusal}
+use Rattle.rules.specs.Refusal.{request-good, slot-freed, requests-refusal, tables-refusal, sizes-good, layout-good, crc-good, sheet-refusal}
 
 pub broken-most : (n m : ℕ) (f : ℕ → Bool) (left i : ℕ) → n ≤ m → first-broken n f left i .number ≤ m
 unfolding first-broken refusal
@@ -45,4 +45,6 @@ sheet-most bs =
     (or-else-most 7 (first-broken 5 (board-good s) (P-of s) 0) (cond total accepted (refusal 5 (P-of s)))
     (broken-most 5 7 (board-good s) (P-of s) 0 (omega arith)) (cond-most 7 total accepted (refusal 5 (P-of s)) (omega arith) (omega arith)))
     (or-else-most 7 (ops-refusal s) (requests-refusal s)
-    (broken-most 6 7 _ (N-of s) 0 (omega arith)) (broken-most 7 7 _ (N-of s) 0 (omega arith)))))))
+    (broken-most 6 7 _ (N-of s) 0 (omega arith))
+    (or-else-most 7 (first-broken 7 (request-good s) (N-of s) 0) (first-broken 7 (slot-freed s) (N-of s) 0)
+    (broken-most 7 7 (request-good s) (N-of s) 0 (omega arith)) (broken-most 7 7 (slot-freed s) (N-of s) 0 (omega arith))))))))

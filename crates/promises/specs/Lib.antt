@@ -5,6 +5,7 @@
 --   Theorems             each claim, proved
 --   Counterexamples      why demand 3 asks for calm sheets and sets the peaks aside, by computed sheets
 --   SwapCounterexamples  the same where two steps are exchanged
+--   RequestCounterexample  why verdict 1 leaves no request only with document 02's K7
 --   compare              two jobs of one sheet: behind one another, alike, exchanged steps, full orders
 --   claims               the proofs of the claims, of a sheet's bytes
 pub mod Statements
@@ -12,5 +13,6 @@ pub mod ServiceStatements
 pub mod Theorems
 pub mod Counterexamples
 pub mod SwapCounterexamples
+pub mod RequestCounterexample
 pub mod compare
 pub mod claims

@@ -17,7 +17,7 @@ use Rattle.rules.specs.Report.{entry-in}
 use Rattle.rules.specs.Claims.{passes, calm, accepts, left-by, without-peaks}
 use Rattle.rules.specs.Service.{Follow-says, Run-says}
 use Rattle.promises.specs.Statements.{Told, No-pair-left, Sends-in-order, Receives-in-order, Earlier-first, Matched-receives, Matched-sends, Delivered}
-use Rattle.promises.specs.Statements.{Exact, Why-stopped, Counted, Charged, most-in-use, Within-attached}
+use Rattle.promises.specs.Statements.{Exact, Finished-leaves-none, Why-stopped, Counted, Charged, most-in-use, Within-attached}
 
 -- CALLS of follow or of run on a sheet, which answered and left what the service says, and which number 8 does not refuse.
 pub record Follow-call (bs order : List ℕ) : Type 0 where
@@ -100,6 +100,7 @@ pub record Reported (s : Sheet) (lent inbox report : List ℕ) : Type 0 where
   pub matched-sends : Matched-sends s (told-in s report)
   pub delivered : Delivered s (told-in s report) lent inbox
   pub verdict-exact : Exact s (told-in s report)
+  pub none-left : Finished-leaves-none s (told-in s report)
   pub why-stopped : Why-stopped s (told-in s report)
   pub counted : Counted s (told-in s report)
   pub charged : Charged s (told-in s report)

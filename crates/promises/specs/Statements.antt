@@ -2,7 +2,7 @@
 -- stands in plain words and then in antt, over `rules` only. ServiceStatements has the same of the services. Theorems proves
 -- each under its name in small letters. Assumes nothing: these are statements.
 use mathlib.Core.Path.{_≡_}
-use mathlib.Core.Logic.{_≢_, _↔_}
+use mathlib.Core.Logic.{_⊎_, _≢_, _↔_}
 use mathlib.Core.Bool.{Bool, true, false, _&&_, _||_, cond}
 use mathlib.Core.List.{List, [], _∷_, _++_}
 use mathlib.Core.Option.{Option, none, some}
@@ -11,8 +11,9 @@ use lib.Dec.{ltb, leb, eqb}
 use lib.ListN.{length, getD, drop}
 use Rattle.rules.specs.Limits.{absent, order-room}
 use Rattle.rules.specs.Sheet.{Sheet, op, board, sheet-in, P-of, N-of, rank-of, inbox-total, is-send, is-receive, is-buffered, is-ready}
+use Rattle.rules.specs.Sheet.{takes-slot, frees-slot}
 use Rattle.rules.specs.Job.{Job, Entry, Stop, entry, entry-at, place-at, started, with-stop, with-steps}
-use Rattle.rules.specs.Step.{able, step, next-op, in-waiting-half, is-finished, fits-with, is-cut, copied, area-start, charge-of}
+use Rattle.rules.specs.Step.{able, step, next-op, waited, in-waiting-half, is-finished, fits-with, is-cut, copied, area-start, charge-of}
 use Rattle.rules.specs.Order.{follow, run, none-able}
 use Rattle.rules.specs.Report.{verdict-of, count-from, pending-messages, pending-receives, cut-messages}
 use Rattle.rules.specs.Claims.{passes, is-any-source, accepts, left-by, Alike, Given}
@@ -176,6 +177,36 @@ Exact s t = Verdict-exact s t (t .verdict)
 
 unfoldable pub Verdicts : Type 0
 Verdicts = Of-jobs Exact
+
+-- Verdict 1 leaves no request (document 02, K7; MPI: no request leaks). Each operation that takes a slot was waited for: one that
+-- frees its slot waits for it, and is finished (state 5).
+pub record Waited-for (s : Sheet) (t : Told) (i : ℕ) : Type 0 where
+  pub by : ℕ
+  pub frees : frees-slot (op s by) ≡ true
+  pub waits : waited s by ≡ some i
+  pub finished : t .row by .state ≡ 5
+
+-- board r holds the slot k: an operation of it that takes the slot is entered, and was not waited for
+unfoldable pub Slot-held : Sheet → Told → (r k : ℕ) → Type 0
+Slot-held s t r k =
+    (i : ℕ) × (rank-of s i ≡ r) × (takes-slot (op s i) ≡ true) × (op s i .slot ≡ k) × (1 ≤ t .row i .state) × (Waited-for s t i → ⊥)
+
+-- So every request is complete (state 2 or more) and every slot is free; every receive is matched, and none is pending; a send
+-- is matched, or it is a buffered one whose message nobody received.
+pub record None-left (s : Sheet) (t : Told) : Type 0 where
+  pub waited-for : (i : ℕ) → takes-slot (op s i) ≡ true → Waited-for s t i
+  pub requests-complete : (i : ℕ) → takes-slot (op s i) ≡ true → 2 ≤ t .row i .state
+  pub slots-free : (r k : ℕ) → Slot-held s t r k → ⊥
+  pub receives-matched : (q : ℕ) → is-receive (op s q) ≡ true → t .row q .state ≡ 3
+  pub none-pending : t .receives ≡ 0
+  pub sends-matched : (m : ℕ) → is-send (op s m) ≡ true →
+      (t .row m .state ≡ 3) ⊎ ((t .row m .state ≡ 2) × (is-buffered (op s m) ≡ true))
+
+unfoldable pub Finished-leaves-none : Sheet → Told → Type 0
+Finished-leaves-none s t = t .verdict ≡ 1 → None-left s t
+
+unfoldable pub No-request-left : Type 0
+No-request-left = Of-jobs Finished-leaves-none
 
 -- Why a job stopped: its stop operation is the next one of its stop rank, a send that is not entered and that fits no posted
 -- receive; overflow exactly if it is a buffered send whose charge does not fit beside what is in use, not ready exactly if it is

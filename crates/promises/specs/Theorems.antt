@@ -1,13 +1,13 @@
 -- Each claim of Statements and ServiceStatements under its name in small letters, proved.
 --   demand 2             none-fit, no-overtaking, no-overtaking-receives, statuses, send-statuses (claims.Matching);
 --                        by-arrival (claims.Arrivals); stop-reasons, stopping-steps (claims.Stops);
---                        deliveries, verdicts, steps, counts, in-use, peaks, buffers-hold (claims.OneJob)
+--                        deliveries, verdicts, no-request-left, steps, counts, in-use, peaks, buffers-hold (claims.OneJob)
 --   run, demand 3        run-ends, ends-alike (claims.EndsAlike); swap-general, swap-same (claims.SwapSame)
 --   of the services      follow-reports, run-reports, follow-by-arrival (claims.Reported); run-replayed (claims.Replays);
 --                        follows-alike, run-alike (claims.EndsAlike); follow-swaps (claims.SwapSame)
 -- Assumes nothing.
 use Rattle.promises.specs.Statements.{None-fit, No-overtaking, No-overtaking-receives, By-arrival, Statuses, Send-statuses, Deliveries}
-use Rattle.promises.specs.Statements.{Verdicts, Stop-reasons, Stopping-steps, Steps, Counts, In-use, Peaks, Buffers-hold, Run-ends, Ends-alike, Swap-same, Swap-general}
+use Rattle.promises.specs.Statements.{Verdicts, No-request-left, Stop-reasons, Stopping-steps, Steps, Counts, In-use, Peaks, Buffers-hold, Run-ends, Ends-alike, Swap-same, Swap-general}
 use Rattle.promises.specs.ServiceStatements.{Follow-reports, Run-reports, Run-replayed, Follow-by-arrival, Follows-alike, Run-alike, Follow-swaps}
 use Rattle.promises.specs.claims.Matching
 use Rattle.promises.specs.claims.OneJob
@@ -42,6 +42,9 @@ deliveries = OneJob.deliveries
 
 pub verdicts : Verdicts
 verdicts = OneJob.verdicts
+
+pub no-request-left : No-request-left
+no-request-left = OneJob.no-request-left
 
 pub stop-reasons : Stop-reasons
 stop-reasons = Stops.stop-reasons

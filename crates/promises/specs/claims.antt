@@ -1,6 +1,7 @@
 -- The proofs of the claims, of a sheet's bytes and the lent inboxes.
 --   Deliveries    memory byte by byte
 --   Verdicts      each verdict exactly when it should be given
+--   RequestsLeft  verdict 1 leaves no request
 --   Figures       buffer use, its peak, and steps
 --   OneJob        demand 2 of one job
 --   Matching      demand 2 of its matching
@@ -16,6 +17,7 @@
 --   SwapSame      exchanged steps
 pub mod Deliveries
 pub mod Verdicts
+pub mod RequestsLeft
 pub mod Figures
 pub mod OneJob
 pub mod Matching

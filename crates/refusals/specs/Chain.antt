@@ -8,8 +8,8 @@ use lib.Dec.{ltb}
 use lib.ListN.{length}
 use borrow.Author.Tests.{lt-ltb, le-ltb}
 use Rattle.rules.specs.Limits.{header-size}
-use Rattle.rules.specs.Sheet.{Sheet, sheet-in}
-use Rattle.rules.specs.Refusal.{Refusal, refusal, or-else, sizes-good, layout-good, crc-good, sheet-refusal}
+use Rattle.rules.specs.Sheet.{Sheet, N-of, sheet-in}
+use Rattle.rules.specs.Refusal.{Refusal, refusal, or-else, first-broken, request-good, slot-freed, sizes-good, layout-good, crc-good, sheet-refusal}
 use Rattle.rules.specs.Refusal.{boards-refusal, ops-refusal, requests-refusal, tables-refusal}
 use Rattle.rules.specs.Service.{answers, Check-says}
 use Rattle.laws.specs.Answers.{or-else-told, first-accepts, or-else-next}
@@ -17,6 +17,19 @@ use Rattle.laws.specs.Broken.{rule-kept, rule-broken}
 use Rattle.laws.specs.Fields.{Fielded, fielded}
 use Rattle.laws.specs.Laid.{Laid, laid}
 use Rattle.laws.specs.Tabled.{Tabled, tabled}
+
+-- REQUESTS: the rules of slots and areas, then forgotten requests
+module _ (s : Sheet) (n p : ℕ) (broken : answers (first-broken 7 (request-good s) (N-of s) 0) n p) where
+  abbrev forgotten : Refusal
+  forgotten = first-broken 7 (slot-freed s) (N-of s) 0
+
+  pub requests-broken : (n ≡ 0 → ⊥) → answers (requests-refusal s) n p
+  unfolding requests-refusal
+  requests-broken h = or-else-told (first-broken 7 (request-good s) (N-of s) 0) forgotten n p broken h
+
+  pub requests-kept : n ≡ 0 → (m q : ℕ) → answers forgotten m q → answers (requests-refusal s) m q
+  unfolding requests-refusal
+  requests-kept h m q last = or-else-next (first-broken 7 (request-good s) (N-of s) 0) forgotten n p broken h m q last
 
 -- TABLES: 5 to 7 in turn
 module _ (s : Sheet) (n p : ℕ) (fifth : answers (boards-refusal s) n p) where

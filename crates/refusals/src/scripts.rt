@@ -11,10 +11,11 @@ use crate::ops;
 use sheet::Answer;
 use sheet::header;
 
-// The rules: an operation's fields are good; so are its slot and its area.
+// The rules: an operation's fields are good; so are its slot and its area; a slot that it takes is freed later in its script.
 pub enum Rule {
     Fields,
     Requests,
+    Freed,
 }
 
 // Where the script of board r first breaks the rule.
@@ -26,6 +27,7 @@ fn script_refusal(s: &[u8], rule: Rule, r: usize) -> Answer
     match rule {
         Rule::Fields => ops::script_refusal(s, r),
         Rule::Requests => requests::script_refusal(s, r),
+        Rule::Freed => requests::forgotten::script_refusal(s, r),
     }
 }
 

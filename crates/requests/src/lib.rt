@@ -11,6 +11,9 @@ ghost use Rattle.laws.specs.Tabled.{Tabled};
 ghost use Rattle.laws.specs.Fields.{Fielded};
 ghost use Rattle.laws.specs.Scripts.{script-broken};
 ghost use Rattle.requests.specs.Slots.{hit, table-good, starts-after, ends-after, Slotted};
+
+pub mod forgotten;
+
 use sheet::Answer;
 use sheet::boards;
 use sheet::ops;

@@ -36,13 +36,13 @@ bench-into long capacity crc cuts after =
 unfoldable pub further-jobs : List BenchJob
 further-jobs =
     -- A. Fits: two communicators: the receive, of any tag, is on communicator 1. It leaves the earlier message, on
-    -- communicator 0, which stays pending though all boards are finished; its slot is held at the end
+    -- communicator 0, which is buffered and stays pending though all boards are finished and its request was waited for
     bench
-    (draft 2 0x4e89 (11 ∷ 12 ∷ [])
-    (script 0 0 (isend standard 1 0 1 0 1 0 ∷ send standard 1 1 2 1 1 ∷ [])
+    (draft 2 0x410f (11 ∷ 12 ∷ [])
+    (script 33 0 (isend buffered 1 0 1 0 1 0 ∷ send standard 1 1 2 1 1 ∷ wait 0 ∷ [])
     ∷ script 0 1 (receive 0 1 any 0 1 ∷ []) ∷ []))
-    (runs (0 ∷ 0 ∷ 1 ∷ 0 ∷ 1 ∷ []))
-    (told finished 5 (1 meets 2 ∷ []) (pending 1 0) (cut 0) (row 2 0 0 2 ∷ row 1 0 0 2 ∷ []))
+    (runs (0 ∷ 0 ∷ 1 ∷ 0 ∷ 0 ∷ 1 ∷ []))
+    (told finished 6 (1 meets 3 ∷ []) (pending 1 0) (cut 0) (row 3 33 33 2 ∷ row 1 0 0 2 ∷ []))
     ((90 ∷ []) becomes (12 ∷ []))
     -- B. The same with the receive posted first, of any source and any tag: no message on its communicator, deadlock
     ∷ bench
@@ -52,33 +52,33 @@ further-jobs =
     (follows (1 ∷ 0 ∷ []))
     (told deadlock 2 [] (pending 1 1) (cut 0) (row 0 0 0 0 ∷ row 0 0 0 0 ∷ []))
     ((90 ∷ []) becomes (90 ∷ []))
-    -- C. A receive from any source, of any tag, leaves the earlier message, which is addressed to another board
+    -- C. A receive from any source, of any tag, leaves the earlier message, which is addressed to another board; its wait hangs
     ∷ bench
-    (draft 1 0xb884 (11 ∷ 12 ∷ [])
-    (script 0 0 (isend standard 1 0 1 0 1 0 ∷ send standard 2 0 1 1 1 ∷ [])
+    (draft 1 0x2a26 (11 ∷ 12 ∷ [])
+    (script 0 0 (isend standard 1 0 1 0 1 0 ∷ send standard 2 0 1 1 1 ∷ wait 0 ∷ [])
     ∷ script 0 2 []
     ∷ script 0 1 (receive any 0 any 0 1 ∷ []) ∷ []))
     (runs (0 ∷ 0 ∷ 2 ∷ 0 ∷ 2 ∷ []))
-    (told finished 5 (1 meets 2 ∷ []) (pending 1 0) (cut 0) (row 2 0 0 2 ∷ row 0 0 0 2 ∷ row 1 0 0 2 ∷ []))
+    (told deadlock 5 (1 meets 3 ∷ []) (pending 1 0) (cut 0) (row 2 0 0 0 ∷ row 0 0 0 2 ∷ row 1 0 0 2 ∷ []))
     ((90 ∷ 91 ∷ 92 ∷ []) becomes (90 ∷ 91 ∷ 12 ∷ []))
-    -- D. A receive from rank 1 leaves rank 0's message, which arrived first
+    -- D. A receive from rank 1 leaves rank 0's message, which arrived first; its wait hangs
     ∷ bench
-    (draft 1 0x5f64 (11 ∷ 12 ∷ [])
-    (script 0 0 (isend standard 2 0 1 0 1 0 ∷ [])
+    (draft 1 0xcb88 (11 ∷ 12 ∷ [])
+    (script 0 0 (isend standard 2 0 1 0 1 0 ∷ wait 0 ∷ [])
     ∷ script 0 0 (send standard 2 0 1 1 1 ∷ [])
     ∷ script 0 1 (receive 1 0 any 0 1 ∷ []) ∷ []))
     (runs (0 ∷ 1 ∷ 2 ∷ 1 ∷ 2 ∷ []))
-    (told finished 5 (1 meets 2 ∷ []) (pending 1 0) (cut 0) (row 1 0 0 2 ∷ row 1 0 0 2 ∷ row 1 0 0 2 ∷ []))
+    (told deadlock 5 (2 meets 3 ∷ []) (pending 1 0) (cut 0) (row 1 0 0 0 ∷ row 1 0 0 2 ∷ row 1 0 0 2 ∷ []))
     ((90 ∷ []) becomes (12 ∷ []))
     -- E. Posted receives: the first send goes past the earliest posted receive, whose tag differs, to the next that fits;
-    -- the third, which fits too, was posted later and stays pending
+    -- the third, which fits too, was posted later and stays pending: its wait hangs
     ∷ bench
-    (draft 1 0x4ee1 (11 ∷ 12 ∷ [])
+    (draft 1 0x4be0 (11 ∷ 12 ∷ [])
     (script 0 0 (send standard 1 0 1 0 1 ∷ send synchronous 1 0 2 1 1 ∷ [])
     ∷ script 0 3
-    (ireceive 0 0 2 0 1 0 ∷ ireceive 0 0 1 1 1 1 ∷ ireceive any 0 any 2 1 2 ∷ wait 1 ∷ wait 0 ∷ []) ∷ []))
+    (ireceive 0 0 2 0 1 0 ∷ ireceive 0 0 1 1 1 1 ∷ ireceive any 0 any 2 1 2 ∷ wait 1 ∷ wait 0 ∷ wait 2 ∷ []) ∷ []))
     (follows (1 ∷ 1 ∷ 1 ∷ 0 ∷ 0 ∷ 0 ∷ 0 ∷ 1 ∷ 1 ∷ []))
-    (told finished 9 (0 meets 3 ∷ 1 meets 2 ∷ []) (pending 0 1) (cut 0) (row 2 0 0 2 ∷ row 5 0 0 2 ∷ []))
+    (told deadlock 9 (0 meets 3 ∷ 1 meets 2 ∷ []) (pending 0 1) (cut 0) (row 2 0 0 2 ∷ row 5 0 0 0 ∷ []))
     ((90 ∷ 91 ∷ 92 ∷ []) becomes (12 ∷ 11 ∷ 92 ∷ []))
     -- F. Job 7's sheet with both receives posted before the sends, which both fit both: a matched receive is posted no
     -- longer

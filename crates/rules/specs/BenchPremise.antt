@@ -29,19 +29,19 @@ questions =
     -- 21 at the first operation, and at a later one, which is nonblocking
     ∷ asked ready-sheet 21 0
     ∷ asked
-    (draft 1 0x7dff (11 ∷ 12 ∷ [])
+    (draft 1 0x9997 (11 ∷ 12 ∷ [])
     (script 0 2 (receive 1 0 1 0 1 ∷ receive 1 0 2 1 1 ∷ [])
-    ∷ script 0 0 (send standard 0 0 1 0 1 ∷ isend ready 0 0 2 1 1 0 ∷ []) ∷ []))
+    ∷ script 0 0 (send standard 0 0 1 0 1 ∷ isend ready 0 0 2 1 1 0 ∷ wait 0 ∷ []) ∷ []))
     21 3
     -- two buffered sends, charged 2 + 32 and 3 + 32: 69 bytes cover them; with 68, which cover either alone, 22 at rank 0
     ∷ asked
-    (draft 1 0xa090 (11 ∷ 12 ∷ 13 ∷ 14 ∷ 15 ∷ [])
-    (script 69 0 (send buffered 1 0 4 0 2 ∷ isend buffered 1 0 4 2 3 0 ∷ [])
+    (draft 1 0x6d26 (11 ∷ 12 ∷ 13 ∷ 14 ∷ 15 ∷ [])
+    (script 69 0 (send buffered 1 0 4 0 2 ∷ isend buffered 1 0 4 2 3 0 ∷ wait 0 ∷ [])
     ∷ script 0 6 (receive 0 0 any 0 3 ∷ receive 0 0 4 3 3 ∷ []) ∷ []))
     0 0
     ∷ asked
-    (draft 1 0x3c8a (11 ∷ 12 ∷ 13 ∷ 14 ∷ 15 ∷ [])
-    (script 68 0 (send buffered 1 0 4 0 2 ∷ isend buffered 1 0 4 2 3 0 ∷ [])
+    (draft 1 0xf31c (11 ∷ 12 ∷ 13 ∷ 14 ∷ 15 ∷ [])
+    (script 68 0 (send buffered 1 0 4 0 2 ∷ isend buffered 1 0 4 2 3 0 ∷ wait 0 ∷ [])
     ∷ script 0 6 (receive 0 0 any 0 3 ∷ receive 0 0 4 3 3 ∷ []) ∷ []))
     22 0
     -- each board covers its own sends, though not both boards'; with a byte less at rank 1, 22 there
@@ -57,22 +57,23 @@ questions =
     22 1
     -- 20 wins over 21 and 22, behind them or before them; 21 wins over 22
     ∷ asked
-    (draft 1 0x27c7 (11 ∷ 12 ∷ [])
+    (draft 1 0x9382 (11 ∷ 12 ∷ [])
     (script 0 0 (send ready 1 0 1 0 1 ∷ send buffered 1 0 1 0 1 ∷ [])
-    ∷ script 0 2 (receive 0 0 1 0 1 ∷ ireceive any 0 1 1 1 0 ∷ []) ∷ []))
+    ∷ script 0 2 (receive 0 0 1 0 1 ∷ ireceive any 0 1 1 1 0 ∷ wait 0 ∷ []) ∷ []))
     20 3
     ∷ asked
-    (draft 1 0x1bfe (11 ∷ []) (script 0 1 (ireceive any 0 1 0 1 0 ∷ send ready 0 0 1 0 1 ∷ []) ∷ []))
+    (draft 1 0x823c (11 ∷ []) (script 0 1 (ireceive any 0 1 0 1 0 ∷ send ready 0 0 1 0 1 ∷ wait 0 ∷ []) ∷ []))
     20 0
     ∷ asked
     (draft 1 0x8c23 (11 ∷ [])
     (script 0 1 (send buffered 1 0 1 0 1 ∷ receive 1 0 1 0 1 ∷ [])
     ∷ script 0 1 (receive 0 0 1 0 1 ∷ send ready 0 0 1 0 1 ∷ []) ∷ []))
     21 3
-    -- a refusal of check wins over all: another CRC, a peer that is no rank, a wait on a slot that nobody holds
+    -- a refusal of check wins over all: another CRC, a peer that is no rank, a wait on a slot that nobody holds, a forgotten request
     ∷ asked (draft 1 0x465d [] (script 0 1 (receive any 0 3 0 1 ∷ []) ∷ [])) 4 0
     ∷ asked (draft 1 0x519d [] (script 0 0 (send ready 9 0 3 0 0 ∷ []) ∷ [])) 6 0
     ∷ asked (draft 1 0x610e [] (script 0 1 (receive any 0 3 0 1 ∷ wait 0 ∷ []) ∷ [])) 7 1
+    ∷ asked (draft 1 0xe8a0 [] (script 0 1 (ireceive any 0 3 0 1 0 ∷ []) ∷ [])) 7 0
     -- a receive of any tag names its source, and a synchronous send is charged nothing; no operations at all
     ∷ asked case-1-sheet 0 0
     ∷ asked (draft 1 0xe5b1 [] (script 0 0 [] ∷ [])) 0 0 ∷ []

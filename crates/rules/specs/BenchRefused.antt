@@ -95,7 +95,8 @@ bench-calls =
     ∷ asks-check (draft-bytes (of-rank-1 0xb0bc (receive 0 0 0 2 3 ∷ []))) (6 at 0)
     ∷ asks-check (draft-bytes (of-rank-1 0xb944 (receive 0 0 0 5 0 ∷ []))) (6 at 0)
     -- Slots 31 and 32, of a send, a receive and a wait
-    ∷ asks-check (draft-bytes (of-rank-1 0x498b (isend standard 0 0 0 0 1 31 ∷ wait 31 ∷ ireceive 0 0 0 0 1 31 ∷ []))) (0 at 0)
+    ∷ asks-check (draft-bytes (of-rank-1 0x2f9d (isend standard 0 0 0 0 1 31 ∷ wait 31 ∷ ireceive 0 0 0 0 1 31 ∷ wait 31 ∷ [])))
+    (0 at 0)
     ∷ asks-check (draft-bytes (of-rank-1 0x6351 (isend standard 0 0 0 0 1 32 ∷ []))) (6 at 0)
     ∷ asks-check (draft-bytes (of-rank-1 0x93f6 (ireceive 0 0 0 0 1 32 ∷ []))) (6 at 0)
     ∷ asks-check (draft-bytes (of-rank-1 0xc6c6 (wait 32 ∷ []))) (6 at 0)
@@ -118,28 +119,53 @@ bench-calls =
     ∷ asks-check (draft-bytes (of-rank-1 0xb322 (isend standard 0 0 0 0 1 3 ∷ wait 3 ∷ isend standard 0 0 0 0 1 3 ∷ wait 3 ∷ [])))
     (0 at 0)
     -- Each board has its own slots: both take slot 0; rank 1 waits on rank 0's
-    ∷ asks-check (draft-bytes (of-each 0x8a57 (isend standard 1 0 0 0 0 0 ∷ []) (isend standard 0 0 0 0 0 0 ∷ []))) (0 at 0)
+    ∷ asks-check (draft-bytes (of-each 0x1c42 (isend standard 1 0 0 0 0 0 ∷ wait 0 ∷ []) (isend standard 0 0 0 0 0 0 ∷ wait 0 ∷ [])))
+    (0 at 0)
     ∷ asks-check (draft-bytes (of-each 0x50dd (isend standard 1 0 0 0 0 0 ∷ []) (wait 0 ∷ []))) (7 at 1)
     -- Areas: one byte shared, from either side; areas that touch; of two the first is told
     ∷ asks-check (draft-bytes (of-rank-1 0x1025 (ireceive 0 0 0 0 2 0 ∷ ireceive 0 0 0 1 2 1 ∷ []))) (7 at 1)
     ∷ asks-check (draft-bytes (of-rank-1 0x7c50 (ireceive 0 0 0 2 2 0 ∷ ireceive 0 0 0 0 3 1 ∷ []))) (7 at 1)
-    ∷ asks-check (draft-bytes (of-rank-1 0xa7e9 (ireceive 0 0 0 1 2 0 ∷ ireceive 0 0 0 3 1 1 ∷ ireceive 0 0 0 0 1 2 ∷ []))) (0 at 0)
+    ∷ asks-check (draft-bytes (of-rank-1 0x9c25 (ireceive 0 0 0 1 2 0 ∷ ireceive 0 0 0 3 1 1 ∷ ireceive 0 0 0 0 1 2 ∷ wait 0 ∷ wait 1 ∷ wait 2 ∷ [])))
+    (0 at 0)
     ∷ asks-check (draft-bytes (of-rank-1 0x1199 (ireceive 0 0 0 0 2 0 ∷ send standard 0 0 0 0 1 ∷ receive 0 0 0 1 1 ∷ wait 1 ∷ [])))
     (7 at 2)
     -- An empty area inside a held one, and a held empty one inside another
-    ∷ asks-check (draft-bytes (of-rank-1 0xe794 (ireceive 0 0 0 0 4 0 ∷ ireceive 0 0 0 1 0 1 ∷ []))) (0 at 0)
-    ∷ asks-check (draft-bytes (of-rank-1 0x36a4 (ireceive 0 0 0 1 0 0 ∷ ireceive 0 0 0 0 4 1 ∷ []))) (0 at 0)
+    ∷ asks-check (draft-bytes (of-rank-1 0x51ff (ireceive 0 0 0 0 4 0 ∷ ireceive 0 0 0 1 0 1 ∷ wait 0 ∷ wait 1 ∷ []))) (0 at 0)
+    ∷ asks-check (draft-bytes (of-rank-1 0x0d4d (ireceive 0 0 0 1 0 0 ∷ ireceive 0 0 0 0 4 1 ∷ wait 0 ∷ wait 1 ∷ []))) (0 at 0)
     -- A blocking receive holds no area; a wait frees its slot's area and no other; a send's slot holds none
-    ∷ asks-check (draft-bytes (of-rank-1 0xac9e (receive 0 0 0 0 2 ∷ ireceive 0 0 0 0 2 0 ∷ []))) (0 at 0)
+    ∷ asks-check (draft-bytes (of-rank-1 0x96af (receive 0 0 0 0 2 ∷ ireceive 0 0 0 0 2 0 ∷ wait 0 ∷ []))) (0 at 0)
     ∷ asks-check (draft-bytes (of-rank-1 0x42db (ireceive 0 0 0 0 2 0 ∷ wait 0 ∷ receive 0 0 0 0 2 ∷ []))) (0 at 0)
     ∷ asks-check (draft-bytes (of-rank-1 0xd4c1 (ireceive 0 0 0 0 2 0 ∷ ireceive 0 0 0 2 2 1 ∷ wait 1 ∷ receive 0 0 0 0 1 ∷ [])))
     (7 at 3)
-    ∷ asks-check (draft-bytes (of-rank-1 0x6176 (isend standard 0 0 0 0 2 0 ∷ receive 0 0 0 0 2 ∷ []))) (0 at 0)
+    ∷ asks-check (draft-bytes (of-rank-1 0xefcf (isend standard 0 0 0 0 2 0 ∷ receive 0 0 0 0 2 ∷ wait 0 ∷ []))) (0 at 0)
     -- Areas of two boards share nothing
-    ∷ asks-check (draft-bytes (of-each 0x21a3 (ireceive 1 0 0 0 2 0 ∷ []) (ireceive 0 0 0 0 2 0 ∷ []))) (0 at 0)
-    -- Lowest number first: a board entry behind a wrong kind; a wrong kind behind a slot that is not held
+    ∷ asks-check (draft-bytes (of-each 0x4d89 (ireceive 1 0 0 0 2 0 ∷ wait 0 ∷ []) (ireceive 0 0 0 0 2 0 ∷ wait 0 ∷ []))) (0 at 0)
+    -- Forgotten requests (document 02, K7): a send and a receive, on the first board and on the last
+    ∷ asks-check (draft-bytes (of-each 0x61fb (isend standard 1 0 0 0 0 0 ∷ []) (receive 0 0 0 0 0 ∷ []))) (7 at 0)
+    ∷ asks-check (draft-bytes (of-each 0x3541 (ireceive 1 0 0 0 0 0 ∷ []) (send standard 0 0 0 0 0 ∷ []))) (7 at 0)
+    ∷ asks-check (draft-bytes (of-each 0xc423 (receive 1 0 0 0 0 ∷ []) (isend standard 0 0 0 0 0 0 ∷ []))) (7 at 1)
+    ∷ asks-check (draft-bytes (of-each 0x9099 (send standard 1 0 0 0 0 ∷ []) (ireceive 0 0 0 0 0 0 ∷ []))) (7 at 1)
+    -- Of two on one board, and of one on each, the first is told, though its slot is the higher
+    ∷ asks-check (draft-bytes (of-rank-1 0x0f86 (send standard 0 0 0 0 1 ∷ isend standard 0 0 0 0 1 31 ∷ ireceive 0 0 0 0 1 0 ∷ [])))
+    (7 at 1)
+    ∷ asks-check (draft-bytes (of-each 0x56a7 (send standard 1 0 0 0 0 ∷ isend standard 1 0 0 0 0 1 ∷ []) (isend standard 0 0 0 0 0 0 ∷ [])))
+    (7 at 1)
+    -- A slot taken again after its wait and then forgotten: the operation that kept it is told. One that is freed behind it is not
+    ∷ asks-check (draft-bytes (of-rank-1 0xa6e0 (isend standard 0 0 0 0 1 3 ∷ wait 3 ∷ isend standard 0 0 0 0 1 3 ∷ []))) (7 at 2)
+    ∷ asks-check (draft-bytes (of-rank-1 0x8ff2 (isend standard 0 0 0 0 1 3 ∷ isend standard 0 0 0 0 1 4 ∷ wait 3 ∷ []))) (7 at 1)
+    -- A wait on another board frees nothing here
+    ∷ asks-check (draft-bytes (of-each 0xddaf (isend standard 1 0 0 0 0 0 ∷ []) (isend standard 0 0 0 0 0 0 ∷ wait 0 ∷ []))) (7 at 0)
+    -- The other rules of 7 go before it over the whole sheet: a later area overlap, on its board and on another; a later wait
+    ∷ asks-check (draft-bytes (of-rank-1 0x673d (isend standard 0 0 0 0 1 0 ∷ ireceive 0 0 0 0 2 1 ∷ receive 0 0 0 1 1 ∷ wait 1 ∷ [])))
+    (7 at 2)
+    ∷ asks-check (draft-bytes (of-each 0x2816 (isend standard 1 0 0 0 0 0 ∷ []) (ireceive 0 0 0 0 2 0 ∷ receive 0 0 0 0 1 ∷ wait 0 ∷ [])))
+    (7 at 2)
+    ∷ asks-check (draft-bytes (of-each 0x513b (ireceive 1 0 0 0 0 0 ∷ []) (send standard 0 0 0 0 0 ∷ wait 0 ∷ []))) (7 at 2)
+    -- Lowest number first: a board entry behind a wrong kind; a wrong kind behind a slot that is not held, and behind a forgotten
+    -- request
     ∷ asks-check (draft-bytes (draft 1 0x96f2 [] (script 0 0 (send 7 1 0 0 0 0 ∷ []) ∷ script 16385 0 [] ∷ []))) (5 at 1)
     ∷ asks-check (draft-bytes (of-rank-1 0xed21 (wait 0 ∷ send 7 0 0 0 0 1 ∷ []))) (6 at 1)
+    ∷ asks-check (draft-bytes (of-rank-1 0xe9bd (isend standard 0 0 0 0 1 0 ∷ send 7 0 0 0 0 1 ∷ []))) (6 at 1)
     -- 8. Job 1's sheet: inbox 4, report 56, order out 4, scratch 65,536; exactly enough, and more
     ∷ asks-run (draft-bytes case-1-sheet) 4 56 4 65536 (0 at 0)
     ∷ asks-run (draft-bytes case-1-sheet) 5 57 5 65537 (0 at 0)
@@ -160,9 +186,11 @@ bench-calls =
     -- Document 01's 32,768 bytes of scratch are short (document 02, K11)
     ∷ asks-run (draft-bytes case-1-sheet) 4 56 4 32768 (8 at 4)
     ∷ asks-follow (draft-bytes case-1-sheet) [] 4 56 32768 (8 at 4)
-    -- 7 goes before 8, and 8 before 9
+    -- 7 goes before 8, a forgotten request too, and 8 before 9
     ∷ asks-run (draft-bytes (of-rank-1 0xf188 (wait 0 ∷ []))) 0 0 0 0 (7 at 0)
+    ∷ asks-run (draft-bytes (of-rank-1 0xa4b8 (ireceive 0 0 0 0 1 0 ∷ []))) 0 0 0 0 (7 at 0)
     ∷ asks-follow (draft-bytes (of-rank-1 0xf188 (wait 0 ∷ []))) (0 ∷ []) 0 0 0 (7 at 0)
+    ∷ asks-follow (draft-bytes (of-rank-1 0xa4b8 (ireceive 0 0 0 0 1 0 ∷ []))) (0 ∷ []) 0 0 0 (7 at 0)
     ∷ asks-follow (draft-bytes case-1-sheet) (2 ∷ []) 4 56 65535 (8 at 4)
     -- 9. Job 1's sheet: rank P and rank 255; a send that is not matched; a board that is finished, before and after the job's end
     ∷ asks-follow (draft-bytes case-1-sheet) (2 ∷ []) 4 56 scratch-asked (9 at 0)

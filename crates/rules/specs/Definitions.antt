@@ -28,7 +28,7 @@ unfolding
     Refusal.board-good Refusal.boards-refusal Refusal.or-any Refusal.envelope-good Refusal.slot-good
     Refusal.extent-good Refusal.wait-good Refusal.fields-good Refusal.room-for Refusal.op-good Refusal.ops-refusal
     Refusal.freed Refusal.holds Refusal.some-below Refusal.slot-held Refusal.share Refusal.area-taken
-    Refusal.request-good Refusal.requests-refusal Refusal.tables-refusal Refusal.sheet-refusal
+    Refusal.request-good Refusal.slot-freed Refusal.requests-refusal Refusal.tables-refusal Refusal.sheet-refusal
     Job.entry Job.bare-entry Job.place Job.job Job.started Job.entry-at Job.place-at Job.with-entries
     Job.with-places Job.with-messages Job.with-receives Job.with-memory Job.with-stop Job.with-steps
     Step.next-op Step.is-finished Step.complete Step.waited-below Step.waited Step.complete-if Step.half-complete

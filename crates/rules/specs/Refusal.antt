@@ -135,8 +135,16 @@ request-good s i =
     cond (names-slot o) (slot-held s i (o .slot))
     (not (takes-slot o && slot-held s i (o .slot)) && not (is-receive o && area-taken s i))
 
+-- the slot that operation i takes, if it takes one, is freed later in its board's script. Where it is not, the board ends with
+-- the slot held: a forgotten request (document 02, K7; MPI: a request leak)
+unfoldable pub slot-freed : Sheet → (i : ℕ) → Bool
+slot-freed s i =
+    let b = board s (rank-of s i) in
+    not (takes-slot (op s i)) || freed s ((b .first + b .count) - suc i) (suc i) (op s i .slot)
+
+-- the rules of slots and areas over the whole sheet, and behind them forgotten requests
 unfoldable pub requests-refusal : Sheet → Refusal
-requests-refusal s = first-broken 7 (request-good s) (N-of s) 0
+requests-refusal s = or-else (first-broken 7 (request-good s) (N-of s) 0) (first-broken 7 (slot-freed s) (N-of s) 0)
 
 -- 5 to 7 read the tables that 1 to 4 have found in place
 unfoldable pub tables-refusal : Sheet → Refusal

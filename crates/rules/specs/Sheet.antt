@@ -99,7 +99,7 @@ unfoldable pub no-half : Op → Bool
 no-half o = is-nonblocking o
 
 -- SLOTS (MPI: requests): "a nonblocking operation takes a slot that its board doesn't hold; a wait names one it holds and
--- frees it"
+-- frees it". At the end of its script a board holds none (document 02, K7)
 unfoldable pub takes-slot : Op → Bool
 takes-slot o = is-nonblocking o
 

@@ -3,13 +3,13 @@
 //! generated sheets. Prints how many cases of each kind got each answer; at
 //! the first difference prints what is needed to see it and exits with 1, as
 //! it does where an answer of premise to accepted sheets, or a case around an
-//! attached buffer or around the most operations, never came up.
+//! attached buffer, the most operations or a forgotten request, never came up.
 
 use jamturret::lent::Answer;
 use jamturret_host::command::{argument, difference, tally};
 use jamturret_host::generate::{self, KINDS};
 use jamturret_host::random::Random;
-use jamturret_host::{buffers, guarded, judge, lengths};
+use jamturret_host::{buffers, guarded, judge, lengths, requests_left};
 use std::process;
 use std::time::Instant;
 
@@ -61,6 +61,7 @@ fn main() {
     let mut counts: Counts = [[0; NUMBERS.len()]; KINDS.len()];
     let mut covered = [0; buffers::COVERED.len()];
     let mut asked = [0; lengths::ASKED.len()];
+    let mut requests = [0; requests_left::ASKED.len()];
     let mut naive = 0;
     for number in 0..cases {
         let (kind, sheet, mut random) = generate::case(seed, number);
@@ -73,6 +74,8 @@ fn main() {
         });
         count(&mut counts[kind], check, premise);
         tally(&mut asked, lengths::asked(&sheet, check, premise));
+        let found = requests_left::asked(&sheet, check, premise);
+        tally(&mut requests, found);
         if check.number == 0 {
             tally(&mut covered, buffers::covered(&sheet, premise));
         }
@@ -81,14 +84,16 @@ fn main() {
     for (name, count) in buffers::COVERED.iter().zip(covered) {
         println!("premise {name:<40}{count:>8}");
     }
-    for (name, count) in lengths::ASKED.iter().zip(asked) {
+    let lengths = lengths::ASKED.iter().zip(asked);
+    for (name, count) in lengths.chain(requests_left::ASKED.iter().zip(requests)) {
         println!("{name:<48}{count:>8}");
     }
     println!(
         "seed {seed}: {cases} cases agree, {naive} of them with the naive judge too, in {:.1} s",
         start.elapsed().as_secs_f64()
     );
-    if cases >= ENOUGH && [&totals[..], &covered, &asked].concat().contains(&0) {
+    let reached = [&totals[..], &covered, &asked, &requests].concat();
+    if cases >= ENOUGH && reached.contains(&0) {
         eprintln!("an answer or a case never came up: see the zeros above");
         process::exit(1);
     }

@@ -1,6 +1,7 @@
 //! Random bytes, truncated and extended sheets, and sheets whose tables hold
 //! random values from small sets.
 
+use super::script::free_all;
 use super::{size, valid};
 use crate::layout::{ANY, HEADER_BYTES};
 use crate::random::Random;
@@ -50,12 +51,13 @@ fn right_header(random: &mut Random) -> Vec<u8> {
     sheet
 }
 
-/// Few operations with every field drawn from a small set around its range.
+/// Few operations with every field drawn from a small set around its range,
+/// mostly with waits for what they hold in the end.
 fn random_fields(random: &mut Random) -> Vec<u8> {
     let boards = (0..random.between(1, 3)).map(|_| Board {
         attached: random.pick(&[0, 16_384, 16_384, 16_385]),
         inbox: random.pick(&[0, 4, 8]),
-        script: (0..random.below(5)).map(|_| fields(random)).collect(),
+        script: random_script(random),
     });
     Sheet {
         communicators: 2,
@@ -63,6 +65,14 @@ fn random_fields(random: &mut Random) -> Vec<u8> {
         payload: vec![7; 6],
     }
     .bytes()
+}
+
+fn random_script(random: &mut Random) -> Vec<Operation> {
+    let mut script = (0..random.below(5)).map(|_| fields(random)).collect();
+    if random.chance(70) {
+        free_all(&mut script, random);
+    }
+    script
 }
 
 fn fields(random: &mut Random) -> Operation {

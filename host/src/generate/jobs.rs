@@ -75,15 +75,15 @@ fn manner(random: &mut Random, calm: bool) -> Manner {
     }
 }
 
-pub fn small(random: &mut Random, calm: bool) -> Vec<u8> {
+pub fn small(random: &mut Random, calm: bool) -> Sheet {
     let mut manner = manner(random, calm);
     if random.chance(10) {
         manner.boards = random.pick(&[1, 5, 9, MOST_BOARDS]);
     }
-    sheet(random, &manner).bytes()
+    sheet(random, &manner)
 }
 
-pub fn medium(random: &mut Random, calm: bool) -> Vec<u8> {
+pub fn medium(random: &mut Random, calm: bool) -> Sheet {
     let manner = Manner {
         boards: random.between(2, MOST_BOARDS),
         messages: random.between(20, 120),
@@ -92,11 +92,11 @@ pub fn medium(random: &mut Random, calm: bool) -> Vec<u8> {
         longest: random.pick(&[0, 12, 200, 600]),
         ..manner(random, calm)
     };
-    sheet(random, &manner).bytes()
+    sheet(random, &manner)
 }
 
 /// Up to the most operations, messages of up to 4,096 bytes.
-pub fn large(random: &mut Random, calm: bool) -> Vec<u8> {
+pub fn large(random: &mut Random, calm: bool) -> Sheet {
     let nonblocking = random.pick(&[0, 30]);
     let manner = Manner {
         boards: random.pick(&[1, 4, 15, MOST_BOARDS]),
@@ -113,7 +113,7 @@ pub fn large(random: &mut Random, calm: bool) -> Vec<u8> {
         waits: nonblocking,
         ..manner(random, calm)
     };
-    sheet(random, &manner).bytes()
+    sheet(random, &manner)
 }
 
 fn sheet(random: &mut Random, manner: &Manner) -> Sheet {
@@ -128,17 +128,13 @@ fn sheet(random: &mut Random, manner: &Manner) -> Sheet {
         nonblocking: manner.nonblocking,
         waits: manner.waits,
     };
-    let all_waited = random.chance(70);
     let inbox = manner.inboxes / manner.boards;
     let boards = wishes.iter().map(|wishes| {
         let mut writer = Writer::new(&around, inbox);
         for &wish in wishes {
             writer.put(wish, random);
         }
-        if all_waited {
-            writer.wait_for_all(random);
-        }
-        let script = writer.finish();
+        let script = writer.finish(random);
         Board {
             attached: attached(random, manner, &script),
             inbox: inbox as u16,

@@ -1,6 +1,7 @@
 //! Both sides of every limit of document 01, each on a sheet that is
 //! otherwise right, with the answer written down by hand.
 
+use super::script::held_at_end;
 use crate::layout::kind::{BUFFERED, RECEIVE, STANDARD, WAIT};
 use crate::layout::{board, header, ANY, HEADER_BYTES, MOST_BOARDS, MOST_OPERATIONS};
 use crate::random::Random;
@@ -22,7 +23,7 @@ const ROOM: u16 = 5000;
 /// Two boards and two communicators; the operation stands at index 1.
 fn field(operation: Operation) -> Vec<u8> {
     let empty = Operation::send(BUFFERED, 0, 0, 0, 0);
-    script(&[&[empty], &[operation]])
+    freed(&[&[empty], &[operation]])
 }
 
 /// The operation stands at index 2, behind a receive that holds slot 31 and
@@ -30,7 +31,19 @@ fn field(operation: Operation) -> Vec<u8> {
 fn behind(operation: Operation) -> Vec<u8> {
     let held = Operation::receive(0, 0, 100, 10).nonblocking(31);
     let empty = Operation::send(BUFFERED, 0, 0, 0, 0);
-    script(&[&[empty], &[held, operation]])
+    freed(&[&[empty], &[held, operation]])
+}
+
+/// Each script ends with waits for all slots that it holds.
+fn freed(scripts: &[&[Operation]]) -> Vec<u8> {
+    let scripts: Vec<Vec<Operation>> = scripts.iter().map(|each| with_waits(each)).collect();
+    let scripts: Vec<&[Operation]> = scripts.iter().map(Vec::as_slice).collect();
+    script(&scripts)
+}
+
+fn with_waits(script: &[Operation]) -> Vec<Operation> {
+    let waits = held_at_end(script).into_iter().map(Operation::wait);
+    script.iter().copied().chain(waits).collect()
 }
 
 fn script(scripts: &[&[Operation]]) -> Vec<u8> {
@@ -81,11 +94,10 @@ fn last_board(change: fn(&mut Board)) -> Vec<u8> {
     sheet.bytes()
 }
 
-/// The most operations on one board, the last one given.
-fn last_operation(operation: Operation) -> Vec<u8> {
-    let mut operations = vec![Operation::send(BUFFERED, 0, 0, 0, 0); MOST_OPERATIONS];
-    operations[MOST_OPERATIONS - 1] = operation;
-    script(&[&operations, &[]])
+/// The most operations on one board, the last ones given.
+fn last_operations(last: &[Operation]) -> Vec<u8> {
+    let others = vec![Operation::send(BUFFERED, 0, 0, 0, 0); MOST_OPERATIONS - last.len()];
+    script(&[&[&others, last].concat(), &[]])
 }
 
 /// Two boards of one operation each with an amount added to a field.
@@ -110,10 +122,10 @@ fn with(operation: Operation, change: fn(&mut Operation)) -> Operation {
     changed
 }
 
-fn all_slots() -> Vec<u8> {
-    let script_of = |slot: u16| Operation::receive(0, 0, slot, 1).nonblocking(slot);
-    let receives: Vec<Operation> = (0..32).map(script_of).collect();
-    script(&[&receives, &receives])
+/// A nonblocking receive in each slot, the highest first.
+fn all_slots() -> Vec<Operation> {
+    let receive = |slot: u16| Operation::receive(0, 0, slot, 1).nonblocking(slot);
+    (0..32).rev().map(receive).collect()
 }
 
 #[rustfmt::skip]
@@ -226,18 +238,18 @@ pub const LIMITS: &[Limit] = &[
     ("wait tag 1", || behind(with(wait(), |o| o.tag = 1)), 6, 2),
     ("wait offset 1", || behind(with(wait(), |o| o.offset = 1)), 6, 2),
     ("wait length 1", || behind(with(wait(), |o| o.length = 1)), 6, 2),
-    ("last of 2,048 operations", || last_operation(with(send(), |o| o.zero = 1)), 6, 2047),
+    ("last of 2,048 operations", || last_operations(&[with(send(), |o| o.zero = 1)]), 6, 2047),
     // Refusal 7, slots.
-    ("all 32 slots of two boards", all_slots, 0, 0),
+    ("all 32 slots of two boards", || freed(&[&all_slots(), &all_slots()]), 0, 0),
     ("held slot taken", || behind(send().nonblocking(31)), 7, 2),
     ("other slot taken", || behind(send().nonblocking(30)), 0, 0),
     ("wait for a slot never taken", || behind(Operation::wait(0)), 7, 2),
-    ("wait before the slot is taken", || script(&[&[wait(), send().nonblocking(31)], &[]]), 7, 0),
+    ("wait before the slot is taken", || freed(&[&[wait(), send().nonblocking(31)], &[]]), 7, 0),
     ("two waits", || script(&[&[send().nonblocking(31), wait(), wait()], &[]]), 7, 2),
-    ("slot retaken", || script(&[&[send().nonblocking(31), wait(), send().nonblocking(31)], &[]]), 0, 0),
-    ("slot of another board", || script(&[&[send().nonblocking(31)], &[wait()]]), 7, 1),
+    ("slot retaken", || freed(&[&[send().nonblocking(31), wait(), send().nonblocking(31)], &[]]), 0, 0),
+    ("slot of another board", || freed(&[&[send().nonblocking(31)], &[wait()]]), 7, 2),
     ("blocking does not take slot 0", || script(&[&[send(), Operation::wait(0)], &[]]), 7, 1),
-    ("wait as last of 2,048 operations", || last_operation(wait()), 7, 2047),
+    ("wait as last of 2,048 operations", || last_operations(&[wait()]), 7, 2047),
     // Refusal 7, areas.
     ("first byte shared", || behind(Operation::receive(0, 0, 91, 10)), 7, 2),
     ("touching in front", || behind(Operation::receive(0, 0, 90, 10)), 0, 0),
@@ -248,13 +260,39 @@ pub const LIMITS: &[Limit] = &[
     ("nonblocking, last byte shared", || behind(Operation::receive(0, 0, 109, 1).nonblocking(0)), 7, 2),
     ("nonblocking, touching behind", || behind(Operation::receive(0, 0, 110, 1).nonblocking(0)), 0, 0),
     ("empty inside", || behind(Operation::receive(0, 0, 105, 0)), 0, 0),
-    ("around a held empty area", || script(&[&[Operation::receive(0, 0, 4, 0).nonblocking(1), receive()], &[]]), 0, 0),
+    ("around a held empty area", || freed(&[&[Operation::receive(0, 0, 4, 0).nonblocking(1), receive()], &[]]), 0, 0),
     ("area of a freed slot", || script(&[&[receive().nonblocking(4), Operation::wait(4), receive()], &[]]), 0, 0),
-    ("area of another board", || script(&[&[receive().nonblocking(4)], &[receive().nonblocking(4)]]), 0, 0),
-    ("area of a blocking receive", || script(&[&[receive(), receive().nonblocking(0)], &[]]), 0, 0),
-    ("area of a held send", || script(&[&[send().nonblocking(0), receive()], &[]]), 0, 0),
+    ("area of another board", || freed(&[&[receive().nonblocking(4)], &[receive().nonblocking(4)]]), 0, 0),
+    ("area of a blocking receive", || freed(&[&[receive(), receive().nonblocking(0)], &[]]), 0, 0),
+    ("area of a held send", || freed(&[&[send().nonblocking(0), receive()], &[]]), 0, 0),
     ("send over a held receive", || behind(Operation::send(STANDARD, 0, 0, 100, 10)), 0, 0),
-    ("slot retaken by a send, area free", || script(&[&[receive().nonblocking(4), Operation::wait(4), send().nonblocking(4), receive()], &[]]), 0, 0),
+    ("slot retaken by a send, area free", || freed(&[&[receive().nonblocking(4), Operation::wait(4), send().nonblocking(4), receive()], &[]]), 0, 0),
+    // Refusal 7, forgotten requests (document 02, K7).
+    ("forgotten send", || script(&[&[send(), send().nonblocking(3), send()], &[]]), 7, 1),
+    ("forgotten receive", || script(&[&[send(), receive().nonblocking(3), send()], &[]]), 7, 1),
+    ("forgotten slot 0", || script(&[&[send(), send().nonblocking(0)], &[]]), 7, 1),
+    ("forgotten slot 31", || script(&[&[send(), send().nonblocking(31)], &[]]), 7, 1),
+    ("forgotten on the first board", || script(&[&[receive().nonblocking(3), send()], &[send()]]), 7, 0),
+    ("forgotten on the last board", || script(&[&[send()], &[send(), receive().nonblocking(3)]]), 7, 2),
+    ("two forgotten on one board", || script(&[&[send(), send().nonblocking(5), send().nonblocking(3)], &[]]), 7, 1),
+    ("two forgotten on two boards", || script(&[&[send(), send().nonblocking(5)], &[send().nonblocking(3)]]), 7, 1),
+    ("slot retaken and forgotten", || script(&[&[send().nonblocking(31), wait(), receive().nonblocking(31)], &[]]), 7, 2),
+    ("freed once of two", || script(&[&[send().nonblocking(31), send().nonblocking(30), wait()], &[]]), 7, 1),
+    ("freed on another board", || script(&[&[send().nonblocking(31)], &[send().nonblocking(31), wait()]]), 7, 0),
+    ("all 32 slots held at the end", || script(&[&[&[send()], &all_slots()[..]].concat(), &[]]), 7, 1),
+    ("freed by the last operation", || script(&[&[receive().nonblocking(31), send(), wait()], &[]]), 0, 0),
+    ("freed by the last of 2,048 operations", || last_operations(&[send().nonblocking(31), wait()]), 0, 0),
+    ("forgotten as last of 2,048 operations", || last_operations(&[send().nonblocking(31)]), 7, 2047),
+    // Another broken rule goes before a forgotten request.
+    ("slot taken twice later", || script(&[&[send().nonblocking(0), send().nonblocking(1), send().nonblocking(1)], &[]]), 7, 2),
+    ("slot taken twice on a later board", || script(&[&[send().nonblocking(0)], &[send().nonblocking(1), send().nonblocking(1)]]), 7, 2),
+    ("area shared later", || script(&[&[send().nonblocking(0), receive().nonblocking(1), receive()], &[]]), 7, 2),
+    ("area of the forgotten one shared", || script(&[&[receive().nonblocking(0), receive()], &[]]), 7, 1),
+    ("area shared on a later board", || script(&[&[receive().nonblocking(0)], &[receive().nonblocking(1), receive()]]), 7, 2),
+    ("wait for nothing later", || script(&[&[send().nonblocking(0), wait()], &[]]), 7, 1),
+    ("wait for nothing on a later board", || script(&[&[send().nonblocking(31)], &[send(), wait()]]), 7, 2),
+    ("broken rule, then a forgotten one", || script(&[&[wait(), send().nonblocking(0)], &[]]), 7, 0),
+    ("forgotten early, 6 late", || script(&[&[send().nonblocking(0)], &[with(send(), |o| o.zero = 1)]]), 6, 1),
     // The lowest number first, then the first place.
     ("6 early, 5 late", six_and_five, 5, 1),
     ("7 early, 6 late", || script(&[&[wait()], &[with(send(), |o| o.zero = 1)]]), 6, 1),

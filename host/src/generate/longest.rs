@@ -1,5 +1,6 @@
 //! Jobs of the most operations, at times one less or one more; or with a last
-//! operation that stops the job, or lets the order matter (document 02, K11).
+//! operation that stops the job, or lets the order matter (document 02, K11);
+//! that is nonblocking, or frees the slot of the one before it (K7).
 
 use crate::layout::kind::{BUFFERED, READY};
 use crate::layout::{ANY, MOST_LENGTH, MOST_OPERATIONS};
@@ -17,12 +18,17 @@ pub fn any(random: &mut Random) -> Vec<u8> {
     let script = &mut sheet.boards[rank].script;
     let last = script.pop().expect("every board has operations");
     let to_oneself = |kind| Operation::send(kind, rank as u16, 0, 0, MOST_LENGTH);
-    match random.below(7) {
+    match random.below(9) {
         0 => {}
         1 => script.extend([last, last]),
         2 => script.push(to_oneself(READY)),
         3 => script.push(to_oneself(BUFFERED)),
         4 => script.push(Operation { peer: ANY, ..last }),
+        5 => script.push(last.nonblocking(31)),
+        6 => {
+            script.pop();
+            script.extend([last.nonblocking(31), Operation::wait(31)]);
+        }
         _ => script.push(last),
     }
     sheet.bytes()

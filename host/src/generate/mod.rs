@@ -9,11 +9,13 @@
 //! - `damage`: one wrong field, or one at the edge of its range.
 //! - `garbage`: random bytes, truncations, extensions, random fields.
 //! - `requests`: slots and areas just right and just wrong.
+//! - `forgotten`: slots that are held when their script ends.
 //! - `premise`: sheets for which the order cannot matter, and nearly such ones.
 //! - `limits`: both sides of every limit, the sheet otherwise right.
 //! - `longest`: jobs of the most operations.
 
 mod damage;
+pub mod forgotten;
 mod garbage;
 pub mod jobs;
 mod limits;
@@ -32,25 +34,24 @@ pub use limits::LIMITS;
 type Generator = fn(&mut Random) -> Vec<u8>;
 
 /// The kinds of cases: name, how many of a hundred cases, generator.
-pub const KINDS: [(&str, usize, Generator); 16] = [
-    ("right, small", 12, |random| right(random, size::small)),
+pub const KINDS: [(&str, usize, Generator); 17] = [
+    ("right, small", 11, |random| right(random, size::small)),
     ("right, medium", 5, |random| right(random, size::medium)),
     ("right, large", 2, |random| right(random, size::large)),
     ("all slots held", 2, requests::all_slots_held),
     ("at a limit", 7, limits::any),
     ("longest", 1, longest::any),
-    ("header", 6, |random| damaged(random, &[damage::header])),
-    ("offset or length", 6, |random| {
+    ("header", 5, |random| damaged(random, &[damage::header])),
+    ("offset or length", 5, |random| {
         damaged(random, &[damage::offset_or_length])
     }),
-    ("crc", 6, damage::crc),
-    ("board entry", 10, |random| {
-        damaged(random, &[damage::board])
-    }),
-    ("operation field", 11, |random| {
+    ("crc", 5, damage::crc),
+    ("board entry", 9, |random| damaged(random, &[damage::board])),
+    ("operation field", 10, |random| {
         damaged(random, &[damage::operation])
     }),
     ("slots and areas", 11, requests::pair),
+    ("forgotten requests", 6, forgotten::any),
     ("calm or nearly", 6, premise::any),
     ("several faults", 8, several_faults),
     ("truncated or extended", 3, garbage::truncated_or_extended),

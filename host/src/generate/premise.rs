@@ -1,8 +1,9 @@
 //! Sheets for which the order of steps cannot matter (document 01, What is
 //! pinned down), and such sheets with up to three things changed that let it
-//! matter: an any-source receive, a ready send, a buffer that is too small.
+//! matter: an any-source receive, a ready send, a buffer that is too small. A
+//! few of them forget a request, which is told before (document 02, K7).
 
-use super::jobs;
+use super::{forgotten, jobs};
 use crate::buffers::Buffered;
 use crate::layout::{board, header, kind, operation, word, ANY};
 use crate::random::Random;
@@ -14,6 +15,10 @@ pub fn any(random: &mut Random) -> Vec<u8> {
         1..=5 => jobs::medium(random, true),
         _ => jobs::small(random, true),
     };
+    if random.chance(8) {
+        forgotten::forget(&mut sheet, random);
+    }
+    let mut sheet = sheet.bytes();
     for _ in 0..random.below(4) {
         match random.below(3) {
             0 => any_source(&mut sheet, random),

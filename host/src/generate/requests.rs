@@ -1,8 +1,10 @@
 //! Slots and areas just right and just wrong (document 01, Slots and Areas):
 //! an operation is put into a right script behind a nonblocking one, and is
 //! made from its slot or its area. Whether a rule is broken depends on
-//! whether that slot is still held there.
+//! whether that slot is still held there. Most scripts get the waits that
+//! they lack in the end (document 02, K7).
 
+use super::script::free_all;
 use super::{size, valid};
 use crate::layout::{kind, SLOTS};
 use crate::random::Random;
@@ -13,19 +15,34 @@ pub fn pair(random: &mut Random) -> Vec<u8> {
     size.inboxes = size.inboxes.max(24);
     let mut sheet = valid::sheet(random, &size);
     for _ in 0..random.between(1, 3) {
-        let rank = random.below(sheet.boards.len());
-        let other = random.below(sheet.boards.len());
-        match random.below(6) {
-            0 => copy_to_other_board(&mut sheet.boards, rank, other, random),
-            _ => put_behind(&mut sheet.boards[rank], random),
-        }
+        put(&mut sheet, random);
     }
+    free_most(&mut sheet, random);
     sheet.bytes()
 }
 
-/// Every board takes all 32 slots, then waits for some and retakes those:
-/// the same slots on different boards, and nothing free for a while. Half of
-/// these sheets get one more operation, as above.
+/// Puts an operation into one of the scripts.
+pub fn put(sheet: &mut Sheet, random: &mut Random) {
+    let rank = random.below(sheet.boards.len());
+    let other = random.below(sheet.boards.len());
+    match random.below(6) {
+        0 => copy_to_other_board(&mut sheet.boards, rank, other, random),
+        _ => put_behind(&mut sheet.boards[rank], random),
+    }
+}
+
+fn free_most(sheet: &mut Sheet, random: &mut Random) {
+    let freed = random.pick(&[0, 90, 100, 100, 100]);
+    for board in &mut sheet.boards {
+        if random.chance(freed) {
+            free_all(&mut board.script, random);
+        }
+    }
+}
+
+/// Every board takes all 32 slots, then waits for some and retakes those, and
+/// mostly frees all in the end: the same slots on different boards, and nothing
+/// free for a while. Half of these sheets get one more operation, as above.
 pub fn all_slots_held(random: &mut Random) -> Vec<u8> {
     let width = random.between(0, 6) as u16;
     let scripts: Vec<Vec<Operation>> = (0..random.between(1, 3))
@@ -37,6 +54,7 @@ pub fn all_slots_held(random: &mut Random) -> Vec<u8> {
         let rank = random.below(sheet.boards.len());
         put_behind(&mut sheet.boards[rank], random);
     }
+    free_most(&mut sheet, random);
     sheet.bytes()
 }
 
@@ -53,7 +71,7 @@ fn full_script(random: &mut Random, width: u16) -> Vec<Operation> {
 }
 
 /// The index of a nonblocking operation of the script, if it has one. If it
-/// has none, a nonblocking receive is put in front.
+/// has none, a nonblocking receive is put in front, and its wait behind it.
 fn holder(board: &mut Board, random: &mut Random) -> usize {
     let script = &board.script;
     let holders: Vec<usize> = (0..script.len())
@@ -67,6 +85,8 @@ fn holder(board: &mut Board, random: &mut Random) -> usize {
     let slot = random.below(SLOTS) as u16;
     let receive = Operation::receive(0, 0, offset, length).nonblocking(slot);
     board.script.insert(0, receive);
+    let place = random.between(1, board.script.len());
+    board.script.insert(place, Operation::wait(slot));
     0
 }
 
@@ -77,17 +97,36 @@ fn put_behind(board: &mut Board, random: &mut Random) {
         true => index + 1,
         false => random.between(index + 1, board.script.len()),
     };
-    let operation = match random.below(5) {
-        0 => Operation::wait(held.slot),
-        1 => Operation::wait(random.below(SLOTS) as u16),
-        2 => slot_again(held, random),
-        _ => receive_near(held, random),
-    };
-    board.script.insert(place, operation);
-    if random.chance(25) {
-        // Now the slot is freed just before.
-        board.script.insert(place, Operation::wait(held.slot));
+    let script = &mut board.script;
+    let freed = random.chance(25);
+    match random.below(5) {
+        0 => wait_at(script, place, held.slot, random),
+        1 => wait_at(script, place, random.below(SLOTS) as u16, random),
+        2 => {
+            script.insert(place, slot_again(held, random));
+            if freed {
+                // The wait behind is now for the operation that was put in.
+                script.insert(place, Operation::wait(held.slot));
+            }
+        }
+        _ => {
+            script.insert(place, receive_near(held, random));
+            if freed {
+                wait_at(script, place, held.slot, random);
+            }
+        }
     }
+}
+
+/// A wait at this place, mostly the next one for its slot, which comes earlier
+/// now.
+fn wait_at(script: &mut Vec<Operation>, place: usize, slot: u16, random: &mut Random) {
+    let wait = Operation::wait(slot);
+    let next = (place..script.len()).find(|&at| script[at] == wait);
+    if let Some(at) = next.filter(|_| random.chance(70)) {
+        script.remove(at);
+    }
+    script.insert(place, wait);
 }
 
 /// A nonblocking operation with an empty area in the same slot.

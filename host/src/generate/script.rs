@@ -1,6 +1,6 @@
 //! Right scripts for one board: slots are taken when free and freed when
-//! held, and areas keep clear of those of held receives (document 01, Slots
-//! and Areas).
+//! held, areas keep clear of those of held receives (document 01, Slots and
+//! Areas), and at the end every slot is free (document 02, K7).
 
 use crate::layout::{kind, ANY, MOST_TAG, SLOTS};
 use crate::random::Random;
@@ -36,30 +36,41 @@ impl<'a> Writer<'a> {
         }
     }
 
-    pub fn finish(self) -> Vec<Operation> {
+    /// The script, with waits for all slots that are still held.
+    pub fn finish(mut self, random: &mut Random) -> Vec<Operation> {
+        while self.holding() > 0 {
+            self.wait(random);
+        }
         self.script
     }
 
-    fn holding(&self) -> bool {
-        self.held.iter().any(Option::is_some)
+    /// How many slots are held.
+    fn holding(&self) -> usize {
+        self.held.iter().flatten().count()
     }
 
-    /// Adds one operation that breaks no rule.
-    pub fn add(&mut self, random: &mut Random) {
-        if self.holding() && random.chance(self.around.waits) {
+    /// Adds one operation that breaks no rule. It is the first of `left`, which
+    /// are enough for a wait for each slot that is held.
+    pub fn add(&mut self, left: usize, random: &mut Random) {
+        let holding = self.holding();
+        if holding > 0 && (holding == left || random.chance(self.around.waits)) {
             return self.wait(random);
         }
         let operation = match random.chance(50) {
             true => self.receive(random),
             false => self.send(random),
         };
-        self.take_up(operation, random);
+        match holding + 2 <= left {
+            true => self.take_up(operation, random),
+            // A nonblocking one would have no wait.
+            false => self.script.push(operation),
+        }
     }
 
     /// Adds this blocking transfer, at times as a nonblocking one and at
     /// times behind a wait. A receive gets a free area of its length.
     pub fn put(&mut self, mut operation: Operation, random: &mut Random) {
-        if self.holding() && random.chance(self.around.waits) {
+        if self.holding() > 0 && random.chance(self.around.waits) {
             self.wait(random);
         }
         if operation.kind == kind::RECEIVE {
@@ -70,13 +81,6 @@ impl<'a> Writer<'a> {
         self.take_up(operation, random);
     }
 
-    /// Waits for all slots that are held.
-    pub fn wait_for_all(&mut self, random: &mut Random) {
-        while self.holding() {
-            self.wait(random);
-        }
-    }
-
     /// Waits for a held slot; there is one.
     fn wait(&mut self, random: &mut Random) {
         let slot = self.some_slot(random, true);
@@ -85,8 +89,7 @@ impl<'a> Writer<'a> {
     }
 
     fn take_up(&mut self, mut operation: Operation, random: &mut Random) {
-        let full = self.held.iter().all(Option::is_some);
-        if !full && random.chance(self.around.nonblocking) {
+        if self.holding() < SLOTS && random.chance(self.around.nonblocking) {
             let slot = self.free_slot(random);
             operation = operation.nonblocking(slot);
             self.held[usize::from(slot)] = Some(operation);
@@ -194,6 +197,27 @@ impl<'a> Writer<'a> {
                     && offset < held.offset + held.length
                     && held.offset < offset + length
             })
+    }
+}
+
+/// The slots that no wait of a script frees, in the order of their number.
+pub fn held_at_end(script: &[Operation]) -> Vec<u16> {
+    let mut held = [false; SLOTS];
+    for operation in script {
+        if let Some(held) = held.get_mut(usize::from(operation.slot)) {
+            *held = operation.takes_slot() || *held && operation.kind != kind::WAIT;
+        }
+    }
+    let slots = (0..SLOTS).filter(|&slot| held[slot]);
+    slots.map(|slot| slot as u16).collect()
+}
+
+/// Puts waits for all slots that are held to the end of a script.
+pub fn free_all(script: &mut Vec<Operation>, random: &mut Random) {
+    let mut held = held_at_end(script);
+    while !held.is_empty() {
+        let slot = held.swap_remove(random.below(held.len()));
+        script.push(Operation::wait(slot));
     }
 }
 

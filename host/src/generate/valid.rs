@@ -18,13 +18,13 @@ pub fn sheet(random: &mut Random, size: &Size) -> Sheet {
     let inboxes = shares(random, size.inboxes, size.boards);
     let boards = counts.iter().zip(&inboxes).map(|(&count, &inbox)| {
         let mut writer = Writer::new(&around, inbox);
-        for _ in 0..count {
-            writer.add(random);
+        for left in (1..=count).rev() {
+            writer.add(left, random);
         }
         Board {
             attached: attached(random),
             inbox: inbox as u16,
-            script: writer.finish(),
+            script: writer.finish(random),
         }
     });
     Sheet {

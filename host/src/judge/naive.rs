@@ -30,7 +30,10 @@ pub fn check(sheet: &[u8]) -> Answer {
     if let Some(index) = (0..n).find(|&index| !view.fields_right(index)) {
         return Answer::refusal(6, index);
     }
-    match (0..n).find(|&index| !view.slot_right(index) || !view.area_right(index)) {
+    if let Some(index) = (0..n).find(|&i| !view.slot_right(i) || !view.area_right(i)) {
+        return Answer::refusal(7, index);
+    }
+    match (0..n).find(|&index| view.forgotten(index)) {
         Some(index) => Answer::refusal(7, index),
         None => Answer::refusal(0, 0),
     }
@@ -204,6 +207,19 @@ impl View<'_> {
             (false, true) => !held,
             (false, false) => true,
         }
+    }
+
+    /// The operations of the same board after this one.
+    fn later(&self, index: u64) -> std::ops::Range<u64> {
+        let rank = self.rank_of(index);
+        index + 1..self.board(rank, 0) + self.board(rank, 2)
+    }
+
+    /// Takes a slot that no later wait of its script names (document 02, K7).
+    fn forgotten(&self, index: u64) -> bool {
+        let slot = self.field(index, 14);
+        let frees = |after: u64| self.kind(after) == 6 && self.field(after, 14) == slot;
+        self.takes(index) && !self.later(index).any(frees)
     }
 
     fn area(&self, index: u64) -> std::ops::Range<u64> {

@@ -1,8 +1,8 @@
 //! What a changed case has to have: a feature is a test of a case's bytes,
-//! written from the documents and without a judge, but for cut-reported, which
-//! asks the library. It is a necessary condition: a case without the feature
-//! cannot have changed by the rule that speaks of it. A request that changes a
-//! rule takes one from this list or adds one to it.
+//! written from the documents and without a judge, but for cut-reported and
+//! forgotten-refused, which ask the library. It is a necessary condition: a case
+//! without the feature cannot have changed by the rule that speaks of it. A
+//! request that changes a rule takes one from this list or adds one to it.
 
 use super::ask::{Asker, LIBRARY};
 use super::cases::Case;
@@ -17,7 +17,7 @@ pub struct Feature {
     pub in_case: fn(&Case) -> bool,
 }
 
-pub const FEATURES: [Feature; 11] = [
+pub const FEATURES: [Feature; 12] = [
     Feature {
         name: "buffered-send",
         says: "a buffered send (K2)",
@@ -46,6 +46,14 @@ pub const FEATURES: [Feature; 11] = [
         name: "held-slot-at-end",
         says: "a slot that is taken and has no wait after it (K7)",
         in_case: |case| scripts(&case.sheet).iter().any(|script| ends_held(script)),
+    },
+    Feature {
+        name: "forgotten-refused",
+        says: "a slot that is taken and has no wait after it, and check's answer 7 (K7)",
+        in_case: |case| {
+            let forgotten = scripts(&case.sheet).iter().any(|script| ends_held(script));
+            forgotten && (LIBRARY.check)(&case.sheet).number == 7
+        },
     },
     Feature {
         name: "kind-7-or-8",

@@ -1,7 +1,8 @@
-//! Sheets that *check* accepts. Messages are drawn first; both ends of each
-//! are then written into the scripts in one common order, so that most jobs
-//! finish where nothing is exchanged or left out, and hang where it is. Frozen:
-//! see the module above.
+//! Sheets that *check* accepts, but for those of a manner that holds slots to
+//! the end, which document 02's request K7 refuses. Messages are drawn first;
+//! both ends of each are then written into the scripts in one common order, so
+//! that most jobs finish where nothing is exchanged or left out, and hang where
+//! it is. Frozen: see the module above.
 
 use super::manner::{Manner, TAGS};
 use super::sheet::{self, Board, Operation};

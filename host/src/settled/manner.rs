@@ -20,7 +20,7 @@ pub struct Manner {
     pub nonblocking: usize,
     /// A wait before the next operation of a board that holds a slot.
     pub waits: usize,
-    /// Slots are still held at the end.
+    /// Slots are still held at the end, which request K7 refuses.
     pub held: bool,
     pub any_source: usize,
     pub any_tag: usize,

@@ -16,7 +16,8 @@
 //! - `digest`: the hash.
 //! - `sheet`: the bytes of a sheet of edition 1, and its tables read back.
 //! - `manner`: how large the jobs are and what their boards do.
-//! - `job`: sheets that *check* accepts, and the order that they were written in.
+//! - `job`: sheets that *check* accepts, or refuses since slots are held at the
+//!   end, and the order that they were written in.
 //! - `damage`: sheets that it refuses.
 //! - `cases`: sheet, order and lengths of the lent rooms for each number.
 //! - `ask`: a case put to the library; the digests of its outcome, also with the

@@ -4,7 +4,7 @@ use super::{KINDS, ORDERS};
 use crate::command::tally;
 use crate::compare::{Call, Outcome};
 use crate::layout::word;
-use crate::{areas, buffers, lengths};
+use crate::{areas, buffers, lengths, requests_left};
 use jamturret::lent::Answer;
 use std::fmt;
 
@@ -24,6 +24,8 @@ pub struct Counts {
     areas: [u64; areas::LEFT.len()],
     /// Calls that make each case around long scripts and their rooms.
     lengths: [u64; lengths::CALLED.len()],
+    /// Calls that make each case around requests that are left.
+    requests: [u64; requests_left::CALLED.len()],
     steps: u64,
     matches: u64,
     cut: u64,
@@ -37,6 +39,8 @@ pub struct Counts {
 impl Counts {
     pub fn call(&mut self, kind: usize, sheet: &[u8], call: &Call, outcome: &Outcome) {
         tally(&mut self.lengths, lengths::called(sheet, call, outcome));
+        let requests = requests_left::called(sheet, call, outcome);
+        tally(&mut self.requests, requests);
         let Answer { number, place } = outcome.answer;
         if number == 0 {
             let report = &outcome.desk.report;
@@ -77,14 +81,15 @@ impl Counts {
     }
 
     /// The smallest count of a verdict, a refusal, a place of 8, an order that
-    /// 9 refuses and a case around a buffer or a capacity: 0 if something was
-    /// not reached.
+    /// 9 refuses and a case around a buffer, a capacity or a request: 0 if
+    /// something was not reached.
     pub fn least(&self) -> u64 {
         let columns = (0..COLUMNS).map(|column| self.column(column));
         let refused = self.orders.iter().map(|row| row[1] + row[2]);
         let wrong = refused.skip(3).take(3);
         let others = self.short.into_iter().chain(self.exchanged);
         let others = others.chain(self.buffers).chain(self.areas);
+        let others = others.chain(self.requests);
         columns.chain(wrong).chain(others).min().unwrap_or(0)
     }
 
@@ -125,13 +130,19 @@ impl fmt::Display for Counts {
         let buffers = buffers::LEFT.iter().zip(self.buffers);
         let areas = areas::LEFT.iter().zip(self.areas);
         let lengths = lengths::CALLED.iter().zip(self.lengths);
-        for (name, count) in buffers.chain(areas).chain(lengths) {
+        let requests = requests_left::CALLED.iter().zip(self.requests);
+        for (name, count) in buffers.chain(areas).chain(lengths).chain(requests) {
             writeln!(out, "{name:<40}{count:>8}")?;
         }
         writeln!(
             out,
             "{} steps, {} matches, {} of them cut; {} pending messages and {} pending receives left",
             self.steps, self.matches, self.cut, self.pending_messages, self.pending_receives
+        )?;
+        writeln!(
+            out,
+            "No-request-left holds of {} reports of finished jobs",
+            self.column(1)
         )?;
         writeln!(
             out,

@@ -1,7 +1,7 @@
 //! Where the sheets of the trials come from.
 
 use crate::bench_jobs;
-use crate::generate::{self, jobs};
+use crate::generate::{self, forgotten, jobs};
 use crate::layout::MOST_OPERATIONS;
 use crate::random::Random;
 use crate::traffic;
@@ -9,17 +9,28 @@ use crate::traffic;
 type Generator = fn(&mut Random) -> Vec<u8>;
 
 /// Name, how many of a hundred cases, generator.
-pub const KINDS: [(&str, usize, Generator); 9] = [
-    ("calm, small", 22, |random| jobs::small(random, true)),
-    ("calm, medium", 4, |random| jobs::medium(random, true)),
-    ("calm, large", 1, |random| jobs::large(random, true)),
-    ("wild, small", 32, |random| jobs::small(random, false)),
-    ("wild, medium", 6, |random| jobs::medium(random, false)),
-    ("wild, large", 1, |random| jobs::large(random, false)),
+pub const KINDS: [(&str, usize, Generator); 10] = [
+    ("calm, small", 22, |random| {
+        jobs::small(random, true).bytes()
+    }),
+    ("calm, medium", 4, |random| {
+        jobs::medium(random, true).bytes()
+    }),
+    ("calm, large", 1, |random| jobs::large(random, true).bytes()),
+    ("wild, small", 31, |random| {
+        jobs::small(random, false).bytes()
+    }),
+    ("wild, medium", 6, |random| {
+        jobs::medium(random, false).bytes()
+    }),
+    ("wild, large", 1, |random| {
+        jobs::large(random, false).bytes()
+    }),
+    ("forgotten requests", 2, forgotten::job),
     ("traffic", 1, any_traffic),
     ("bench job", 7, bench_job),
     // Right ones of every size, damaged ones and garbage.
-    ("as for check", 26, as_for_check),
+    ("as for check", 25, as_for_check),
 ];
 
 /// The kind (an index into `KINDS`) and sheet of a case.

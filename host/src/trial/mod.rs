@@ -17,6 +17,8 @@ use crate::compare::{self, Call, Outcome};
 use crate::desk::Desk;
 use crate::judge::{self, Needs};
 use crate::random::Random;
+use crate::requests_left;
+use jamturret::lent::Answer;
 
 pub use counts::Counts;
 pub use kinds::{sheet, KINDS};
@@ -95,10 +97,15 @@ impl Trial<'_> {
         Ok(())
     }
 
-    /// Puts a call to all three and counts the outcome.
+    /// Puts a call to all three, asks the outcome for No-request-left and
+    /// counts it.
     fn ask(&mut self, call: &Call, before: &Desk) -> Result<Outcome, String> {
         let outcome = compare::all(self.sheet, call, before, &mut self.random)
             .map_err(|text| format!("{call}: {text}"))?;
+        if outcome.answer == Answer::SUCCESS {
+            requests_left::no_request_left(self.sheet, &outcome.desk.report)
+                .map_err(|text| format!("{call}: {text}"))?;
+        }
         self.counts.call(self.kind, self.sheet, call, &outcome);
         Ok(outcome)
     }

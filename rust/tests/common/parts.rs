@@ -1,5 +1,5 @@
-//! Random parts of small sheets that pass check: few boards, tags and
-//! communicators, so that much is matched.
+//! Random parts of small sheets that pass check, and of sheets that forget
+//! requests: few boards, tags and communicators, so that much is matched.
 
 use super::random::Random;
 use jamturret::limits::{MOST_SLOT, MOST_TAG};
@@ -27,6 +27,17 @@ type Held = Vec<(usize, Option<(usize, usize)>)>;
 
 /// A sheet that passes check.
 pub fn random_sheet(random: &mut Random) -> Result<Sheet, BuildError> {
+    sheet(random, 0)
+}
+
+/// A sheet that passes check but for requests that it may forget.
+pub fn forgetful_sheet(random: &mut Random) -> Result<Sheet, BuildError> {
+    sheet(random, 30)
+}
+
+/// A sheet that breaks no rule, save that it forgets so many in a hundred of
+/// the requests that its scripts hold at their ends.
+fn sheet(random: &mut Random, forgets: usize) -> Result<Sheet, BuildError> {
     let sizes = Sizes {
         boards: random.between(1, 4),
         communicators: random.between(1, 2),
@@ -38,7 +49,7 @@ pub fn random_sheet(random: &mut Random) -> Result<Sheet, BuildError> {
         Board {
             attached: random.below(80),
             inbox,
-            script: script(random, &Sizes { inbox, ..sizes }),
+            script: script(random, &Sizes { inbox, ..sizes }, forgets),
         }
     });
     let boards = boards.collect();
@@ -46,7 +57,7 @@ pub fn random_sheet(random: &mut Random) -> Result<Sheet, BuildError> {
     Sheet::build(sizes.communicators, boards, &payload)
 }
 
-fn script(random: &mut Random, sizes: &Sizes) -> Vec<Operation> {
+fn script(random: &mut Random, sizes: &Sizes, forgets: usize) -> Vec<Operation> {
     let mut held = Held::new();
     let length = random.below(6);
     let operations = (0..length).filter_map(|_| match random.below(5) {
@@ -54,7 +65,13 @@ fn script(random: &mut Random, sizes: &Sizes) -> Vec<Operation> {
         2 | 3 => receive(random, sizes, &mut held),
         _ => wait(random, &mut held),
     });
-    operations.collect()
+    let mut operations: Vec<Operation> = operations.collect();
+    while let Some(last) = wait(random, &mut held) {
+        if !random.chance(forgets) {
+            operations.push(last);
+        }
+    }
+    operations
 }
 
 /// A stretch of so many bytes: its start and its length.

@@ -1,18 +1,19 @@
 -- Where the bytes of an operation lie: a message inside the payload, an area inside its board's inbox (rule 6). Areas of
 -- different boards are disjoint, since inboxes lie one after another; areas of one board where they share no byte (rule 7).
 --   send-inside, receive-inside     a send or a receive is an operation of the sheet
+--   takes-inside                    so is what takes a slot
 --   send-extent, receive-extent     offset plus length stays inside payload or inbox
 --   area-inside                     an area lies inside the inbox memory
 --   areas-disjoint                  areas that share no byte, or of different boards
 -- Assumes nothing.
-use mathlib.Core.Path.{_≡_, ap, subst}
+use mathlib.Core.Path.{_≡_, refl, sym, ap, subst, _∙_}
 use mathlib.Core.Bool.{true, false}
 use Prim.Native.Nat.{ℕ, _+_, _≤_, _<_}
 use native.Mathlib.Omega.{arith}
 use native.Mathlib.Decide.{decLt, ℕ-discrete}
 use lib.ListN.{length, List·getD-eq-default}
 use borrow.Author.Tests.{lt-ltb}
-use Rattle.rules.specs.Sheet.{Sheet, Op, op, no-op, board, P-of, N-of, rank-of, inbox-start, inbox-total, is-send, is-receive}
+use Rattle.rules.specs.Sheet.{Sheet, Op, op, no-op, board, P-of, N-of, rank-of, inbox-start, inbox-total, is-send, is-receive, is-nonblocking, takes-slot}
 use Rattle.rules.specs.Refusal.{op-good, room-for, share}
 use Rattle.rules.specs.Step.{area-start}
 use Rattle.laws.specs.Tests.{and-both, cond-true, cond-false, true-not-false}
@@ -21,10 +22,14 @@ use Rattle.invariant.specs.sheet.Valid.{Valid}
 use Rattle.invariant.specs.sheet.Kinds.{send-not-receive, send-kind, receive-kind}
 use Rattle.laws.specs.SpliceOrder.{Disjoint}
 
--- INSIDE THE SHEET: past the table stands an operation of kind 0
+-- INSIDE THE SHEET: past the table stands an operation of kind 0, which is blocking
+op-past : (s : Sheet) (j : ℕ) → N-of s ≤ j → op s j ≡ no-op
+unfolding op N-of
+op-past s j l = List·getD-eq-default (s .ops) no-op l
+
 kind-past : (s : Sheet) (j : ℕ) → N-of s ≤ j → op s j .kind ≡ 0
-unfolding op N-of no-op
-kind-past s j l = ap (λ (o : Op). o .kind) (List·getD-eq-default (s .ops) no-op l)
+unfolding no-op
+kind-past s j l = ap (λ (o : Op). o .kind) (op-past s j l)
 
 pub send-inside : (s : Sheet) (m : ℕ) → is-send (op s m) ≡ true → m < N-of s
 send-inside s m h = go (decLt m (N-of s))
@@ -39,6 +44,14 @@ receive-inside s r h = go (decLt r (N-of s))
     go : Dec (r < N-of s) → r < N-of s
     go (yes l) = l
     go (no d) = absurd (omega (arith, receive-kind (op s r) h, kind-past s r (omega arith)))
+
+pub takes-inside : (s : Sheet) (i : ℕ) → takes-slot (op s i) ≡ true → i < N-of s
+unfolding takes-slot is-nonblocking no-op
+takes-inside s i h = go (decLt i (N-of s))
+  where
+    go : Dec (i < N-of s) → i < N-of s
+    go (yes l) = l
+    go (no d) = true-not-false (sym (ap (λ (o : Op). takes-slot o) (op-past s i (omega arith))) ∙ h) refl
 
 -- INSIDE ITS ROOM
 op-extent : (s : Sheet) → Valid s → (i : ℕ) → i < N-of s → op s i .offset + op s i .long ≤ room-for s i

@@ -14,7 +14,7 @@ use borrow.Author.Tests.{leb-true, eqb-true, not-false}
 use Rattle.rules.specs.Limits.{most-boards, most-comms, most-ops, most-payload, most-inbox, header-size}
 use Rattle.rules.specs.Sheet.{Sheet, board, P-of, N-of, rank-of, inbox-start, inbox-total, P-in, C-in, N-in, L-in, sheet-in}
 use Rattle.rules.specs.Refusal.{Refusal, refusal, or-else, first-broken, sizes-good, layout-good, crc-good, board-good, boards-refusal, op-good}
-use Rattle.rules.specs.Refusal.{ops-refusal, request-good, requests-refusal, tables-refusal, sheet-refusal}
+use Rattle.rules.specs.Refusal.{ops-refusal, request-good, slot-freed, requests-refusal, tables-refusal, sheet-refusal}
 use Rattle.rules.specs.Claims.{passes}
 use Rattle.laws.specs.Tests.{and-left, and-right}
 use Rattle.laws.specs.Broken.{broken-passed}
@@ -103,11 +103,25 @@ module _ (s : Sheet) (h : tables-refusal s .number ≡ 0) where
       broken-passed 6 (op-good s) (N-of s) 0 (λ z. absurd (omega arith))
       (or-else-first (ops-refusal s) (requests-refusal s) rest-accepted) i (omega arith) (omega arith)
 
-  table-requests : (i : ℕ) → i < N-of s → request-good s i ≡ true
+  abbrev broken-requests : Refusal
+  broken-requests = first-broken 7 (request-good s) (N-of s) 0
+
+  abbrev forgotten-requests : Refusal
+  forgotten-requests = first-broken 7 (slot-freed s) (N-of s) 0
+
+  requests-accepted : or-else broken-requests forgotten-requests .number ≡ 0
   unfolding requests-refusal
+  requests-accepted = or-else-second (ops-refusal s) (requests-refusal s) rest-accepted
+
+  table-requests : (i : ℕ) → i < N-of s → request-good s i ≡ true
   table-requests i l =
       broken-passed 7 (request-good s) (N-of s) 0 (λ z. absurd (omega arith))
-      (or-else-second (ops-refusal s) (requests-refusal s) rest-accepted) i (omega arith) (omega arith)
+      (or-else-first broken-requests forgotten-requests requests-accepted) i (omega arith) (omega arith)
+
+  table-freed : (i : ℕ) → i < N-of s → slot-freed s i ≡ true
+  table-freed i l =
+      broken-passed 7 (slot-freed s) (N-of s) 0 (λ z. absurd (omega arith))
+      (or-else-second broken-requests forgotten-requests requests-accepted) i (omega arith) (omega arith)
 
   table-lies : (i : ℕ) → i < N-of s →
       (rank-of s i < P-of s) × (board s (rank-of s i) .first ≤ i)
@@ -150,6 +164,7 @@ valid-from-accepted bs A =
       counts-total = table s (A .tables) .total;
       ops-good = table-ops s (A .tables);
       requests-good = table-requests s (A .tables);
+      slots-freed = table-freed s (A .tables);
       rank-small = λ i l. table-lies s (A .tables) i l .0;
       rank-low = λ i l. table-lies s (A .tables) i l .1;
       rank-high = λ i l. table-lies s (A .tables) i l .2;

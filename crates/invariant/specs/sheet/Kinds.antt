@@ -2,7 +2,8 @@
 -- proofs about jobs ask for roles, and cite these laws where one role tells another.
 --   send-not-receive ..                    kinds: an operation has one
 --   send-not-only-half, receive-not-..     roles that sends and receives don't have
---   receive-no-half-takes                  a receive without a waiting half takes a slot
+--   receive-no-half-takes, send-..         a receive or a send without a waiting half takes a slot
+--   frees-only-half                        what frees a slot is only a waiting half
 --   kind-send                              what has an initiating step and is no receive is a send
 --   frees-not-no-half, takes-not-names     roles that exclude each other, in a valid sheet
 --   fit-board, fit-source, fit-one-board   what a fit says
@@ -83,10 +84,23 @@ pub receive-not-frees : (o : Op) → is-receive o ≡ true → frees-slot o ≡ 
 unfolding frees-slot
 receive-not-frees o e = receive-not-wait o e
 
--- a receive that has no waiting half is nonblocking, and takes a slot
+pub send-not-frees : (o : Op) → is-send o ≡ true → frees-slot o ≡ false
+unfolding frees-slot
+send-not-frees o e = send-not-wait o e
+
+-- a receive or a send that has no waiting half is nonblocking, and takes a slot
 pub receive-no-half-takes : (o : Op) → is-receive o ≡ true → no-half o ≡ true → takes-slot o ≡ true
 unfolding no-half takes-slot
 receive-no-half-takes o e h = h
+
+pub send-no-half-takes : (o : Op) → is-send o ≡ true → no-half o ≡ true → takes-slot o ≡ true
+unfolding no-half takes-slot
+send-no-half-takes o e h = h
+
+-- what frees a slot does it in the one half that it has
+pub frees-only-half : (o : Op) → frees-slot o ≡ true → only-half o ≡ true
+unfolding frees-slot only-half
+frees-only-half o h = h
 
 -- what names a slot that is held has no initiating step
 not-only-half-names : (o : Op) → only-half o ≡ false → names-slot o ≡ false

@@ -11,7 +11,7 @@ use lib.ListN.{length}
 use borrow.Author.Tests.{eqb-true}
 use Rattle.rules.specs.Limits.{most-boards, most-comms, most-ops, most-payload, most-attached, most-inbox}
 use Rattle.rules.specs.Sheet.{Sheet, board, P-of, N-of, rank-of, counts-before, inbox-start, inbox-total}
-use Rattle.rules.specs.Refusal.{board-good, op-good, request-good}
+use Rattle.rules.specs.Refusal.{board-good, op-good, request-good, slot-freed}
 use Rattle.laws.specs.Tests.{and-left}
 
 -- a valid sheet: each part of the refusal table, settled
@@ -30,6 +30,8 @@ pub record Valid (s : Sheet) : Type 0 where
   pub ops-good : (i : ℕ) → i < N-of s → op-good s i ≡ true
   -- every operation keeps the slot and area rules (number 7)
   pub requests-good : (i : ℕ) → i < N-of s → request-good s i ≡ true
+  -- and each slot that is taken is freed later in its script (number 7)
+  pub slots-freed : (i : ℕ) → i < N-of s → slot-freed s i ≡ true
   -- an operation is in the script of the board that rank-of names
   pub rank-small : (i : ℕ) → i < N-of s → rank-of s i < P-of s
   pub rank-low : (i : ℕ) → i < N-of s → board s (rank-of s i) .first ≤ i

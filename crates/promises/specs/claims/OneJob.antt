@@ -1,7 +1,7 @@
 -- What every order keeps, said of a sheet's bytes and the lent inboxes: bytes that pass give a valid sheet, an order keeps
 -- the invariant, and so the statements about one job hold of whatever an order leaves.
 --   lent-valid, lent-reached     a valid sheet; the invariant of the job that an order leaves
---   deliveries, verdicts, in-use, peaks, buffers-hold, counts, steps
+--   deliveries, verdicts, no-request-left, in-use, peaks, buffers-hold, counts, steps
 -- Assumes nothing.
 use mathlib.Core.Path.{_≡_, refl, _∙_}
 use mathlib.Core.List.{List}
@@ -12,7 +12,7 @@ use Rattle.rules.specs.Job.{job, started}
 use Rattle.rules.specs.Order.{follow}
 use Rattle.rules.specs.Report.{pending-messages, pending-receives, cut-messages, is-pending-message, is-pending-receive}
 use Rattle.rules.specs.Claims.{accepts, left-by}
-use Rattle.promises.specs.Statements.{Lent, told-by, Deliveries, Exact, Verdicts, Charged, In-use, Peaks, Within-attached, Buffers-hold, Counts, Steps}
+use Rattle.promises.specs.Statements.{Lent, told-by, Deliveries, Exact, Verdicts, Finished-leaves-none, No-request-left, Charged, In-use, Peaks, Within-attached, Buffers-hold, Counts, Steps}
 use Rattle.invariant.specs.sheet.Valid.{Valid}
 use Rattle.invariant.specs.sheet.FromBytes.{valid-from-bytes}
 use Rattle.invariant.specs.Invariant.{Reached}
@@ -20,6 +20,7 @@ use Rattle.invariant.specs.deliveries.Commute.{delivery-laws}
 use Rattle.invariant.specs.preserve.Orders.{start-peak, start-reached, left-reached}
 use Rattle.promises.specs.claims.Deliveries.{deliveries-reached}
 use Rattle.promises.specs.claims.Verdicts.{verdict-reached}
+use Rattle.promises.specs.claims.RequestsLeft.{none-left}
 use Rattle.promises.specs.claims.Figures.{in-use-reached, follow-peak, follow-steps}
 
 pub lent-valid : {bs i : List ℕ} → Lent bs i → Valid (sheet-in bs)
@@ -35,6 +36,11 @@ deliveries bs i rs h = deliveries-reached (sheet-in bs) (lent-valid h) i (left-b
 pub verdicts : Verdicts
 unfolding Verdicts Exact told-by
 verdicts bs i rs h = verdict-reached (sheet-in bs) (lent-valid h) (left-by (sheet-in bs) rs i) (lent-reached h rs .stop-at)
+
+pub no-request-left : No-request-left
+unfolding No-request-left Finished-leaves-none Verdicts Exact told-by
+no-request-left bs i rs h e =
+    none-left (lent-valid h) (lent-reached h rs) (verdicts bs i rs h .finished .0 e .1)
 
 pub in-use : In-use
 unfolding In-use Charged told-by

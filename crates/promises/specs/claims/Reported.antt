@@ -28,13 +28,13 @@ use Rattle.invariant.specs.deliveries.Commute.{delivery-laws}
 use Rattle.invariant.specs.step.LowestAble.{next-none}
 use Rattle.promises.specs.Statements.{Lent, Told, told-by, Earlier-first, By-arrival}
 use Rattle.promises.specs.Statements.{None-fit, No-overtaking, No-overtaking-receives, Statuses, Send-statuses}
-use Rattle.promises.specs.Statements.{Delivered, Deliveries, Exact, Verdicts, Stop-reasons, Steps}
+use Rattle.promises.specs.Statements.{Delivered, Deliveries, Exact, Verdicts, Finished-leaves-none, No-request-left, Stop-reasons, Steps}
 use Rattle.promises.specs.Statements.{Counted, Counts, In-use, Peaks, Buffers-hold, Ends, Run-ends}
 use Rattle.promises.specs.Statements.{No-pair-left, Sends-in-order, Receives-in-order, Matched-receives}
 use Rattle.promises.specs.Statements.{Matched-sends, Why-stopped, Charged, Within-attached}
 use Rattle.promises.specs.ServiceStatements.{Follow-call, Run-call, told-in, Reported}
 use Rattle.promises.specs.ServiceStatements.{Followed-steps, Ran-order, Follow-reports, Run-reports, Follow-by-arrival}
-use Rattle.promises.specs.claims.OneJob.{lent-valid, lent-reached, deliveries, verdicts, steps, counts, in-use, peaks, buffers-hold}
+use Rattle.promises.specs.claims.OneJob.{lent-valid, lent-reached, deliveries, verdicts, no-request-left, steps, counts, in-use, peaks, buffers-hold}
 use Rattle.promises.specs.claims.Matching.{none-fit, no-overtaking, no-overtaking-receives, statuses, send-statuses}
 use Rattle.promises.specs.claims.Stops.{stop-reasons}
 use Rattle.promises.specs.claims.Arrivals.{by-arrival}
@@ -64,8 +64,8 @@ module _ {bs i : List ℕ} (h : Lent bs i) (rs : List ℕ) {inbox out : List ℕ
   of-report C c = subst C (sym tells) c
 
   pub reported : Reported (sheet-in bs) i inbox out
-  unfolding None-fit No-overtaking No-overtaking-receives Statuses Send-statuses Deliveries Verdicts Stop-reasons Counts In-use
-      Buffers-hold
+  unfolding None-fit No-overtaking No-overtaking-receives Statuses Send-statuses Deliveries Verdicts No-request-left Stop-reasons
+      Counts In-use Buffers-hold
   reported =
       record {
         none-fit = of-report (No-pair-left (sheet-in bs)) (none-fit bs i rs h);
@@ -77,6 +77,7 @@ module _ {bs i : List ℕ} (h : Lent bs i) (rs : List ℕ) {inbox out : List ℕ
             of-report (λ t. Delivered (sheet-in bs) t i inbox)
             (subst (λ (z : List ℕ). Delivered (sheet-in bs) (told-by (sheet-in bs) x) i z) (sym memory) (deliveries bs i rs h));
         verdict-exact = of-report (Exact (sheet-in bs)) (verdicts bs i rs h);
+        none-left = of-report (Finished-leaves-none (sheet-in bs)) (no-request-left bs i rs h);
         why-stopped = of-report (Why-stopped (sheet-in bs)) (stop-reasons bs i rs h);
         counted = of-report (Counted (sheet-in bs)) (counts bs i rs h);
         charged = of-report (Charged (sheet-in bs)) (in-use bs i rs h);

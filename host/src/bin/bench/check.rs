@@ -41,38 +41,50 @@ fn table(service: &str, library: Service, ours: Service, rounds: usize) {
     }
 }
 
-/// Operations of a script by index: for all boards the same.
-type Script = fn(usize) -> Operation;
+/// Operations of a script by index and the script's length: for all boards the
+/// same.
+type Script = fn(usize, usize) -> Operation;
 
-const SCRIPTS: [(&str, Script); 3] = [
-    ("blocking", blocking),
-    ("32 receives, 32 waits, in turn", received_and_waited),
-    ("32 held a board, then blocking", held_then_blocking),
+/// Name, boards, script. The last has fewer boards, so that half or more of its
+/// operations are blocking receives beside 32 held ones.
+const SCRIPTS: [(&str, usize, Script); 3] = [
+    ("blocking", MOST_BOARDS, blocking),
+    (
+        "32 receives, 32 waits, in turn",
+        MOST_BOARDS,
+        received_and_waited,
+    ),
+    (
+        "32 held, blocking, 32 waits",
+        MOST_BOARDS / 2,
+        held_and_freed,
+    ),
 ];
 
 /// Name, calls a measurement, sheet: the most operations beside half of them,
 /// and a small job.
 fn sheets() -> Vec<(&'static str, usize, Sheet)> {
     let mut sheets = Vec::new();
-    for (name, script) in SCRIPTS {
+    for (name, boards, script) in SCRIPTS {
         for operations in [MOST_OPERATIONS / 2, MOST_OPERATIONS] {
-            sheets.push((name, 1, full(operations, script)));
+            sheets.push((name, 1, full(operations, boards, script)));
         }
     }
     sheets.push(("case 1", 500, bench_jobs::case_1()));
     sheets
 }
 
-/// Sixteen boards with the same script and the largest payload.
-fn full(operations: usize, script: Script) -> Sheet {
+/// Boards with the same script and the largest payload.
+fn full(operations: usize, boards: usize, script: Script) -> Sheet {
+    let length = operations / boards;
     let board = Board {
         attached: 0,
         inbox: AREA * AREAS as u16,
-        script: (0..operations / MOST_BOARDS).map(script).collect(),
+        script: (0..length).map(|index| script(index, length)).collect(),
     };
     Sheet {
         communicators: 8,
-        boards: vec![board; MOST_BOARDS],
+        boards: vec![board; boards],
         payload: (0..MOST_PAYLOAD)
             .map(|at| (at * 7 + at / 256) as u8)
             .collect(),
@@ -85,14 +97,14 @@ fn area(index: usize) -> Operation {
     Operation::receive(3, index, index * AREA, AREA)
 }
 
-fn blocking(index: usize) -> Operation {
+fn blocking(index: usize, _: usize) -> Operation {
     match index % 2 {
         0 => Operation::send(STANDARD, 5, index as u16, 256 * (index as u16 / 2), 256),
         _ => area(index % AREAS),
     }
 }
 
-fn received_and_waited(index: usize) -> Operation {
+fn received_and_waited(index: usize, _: usize) -> Operation {
     let slot = index % SLOTS;
     match index / SLOTS % 2 {
         0 => area(slot).nonblocking(slot as u16),
@@ -101,9 +113,13 @@ fn received_and_waited(index: usize) -> Operation {
 }
 
 /// The areas behind the slots' share no byte with those that are held.
-fn held_then_blocking(index: usize) -> Operation {
-    match index < SLOTS {
-        true => area(index).nonblocking(index as u16),
-        false => area(SLOTS + index % SLOTS),
+fn held_and_freed(index: usize, length: usize) -> Operation {
+    let slot = (index % SLOTS) as u16;
+    if index < SLOTS {
+        area(index).nonblocking(slot)
+    } else if index < length - SLOTS {
+        area(SLOTS + index % SLOTS)
+    } else {
+        Operation::wait(slot)
     }
 }
