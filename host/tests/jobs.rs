@@ -392,14 +392,20 @@ fn beginnings_of_case_1() {
     outcome.inbox(&[(INBOX_1, &[1, 2, 3])]);
 }
 
+/// A receive in slot 0, which is waited for last; between, twice an empty
+/// buffered send in slot 1 and its wait.
+fn receive_beside_sends() -> [Operation; 6] {
+    let receive = Operation::receive(1, 9, 0, 4).nonblocking(0);
+    let empty = Operation::send(BUFFERED, 1, 0, 0, 0).nonblocking(1);
+    let (for_0, for_1) = (Operation::wait(0), Operation::wait(1));
+    [receive, empty, for_1, empty, for_1, for_0]
+}
+
 /// A wait asks for the operation of its own slot, and a retaken slot for the
 /// operation that took it last.
 #[test]
 fn slots_are_told_apart() {
-    let never = Operation::receive(1, 9, 0, 4).nonblocking(0);
-    let empty = Operation::send(BUFFERED, 1, 0, 0, 0).nonblocking(1);
-    let (for_0, for_1) = (Operation::wait(0), Operation::wait(1));
-    let waits_for_1 = [never, empty, for_1, empty, for_1, for_0];
+    let waits_for_1 = receive_beside_sends();
     let outcome = run(&Sheet::of_scripts(&[&waits_for_1, &[]], 16).attach(0, 64));
     outcome.ends(DEADLOCK, &[0; 5]);
     outcome.counts(2, 1, 0);
@@ -407,6 +413,7 @@ fn slots_are_told_apart() {
     let states = [0, 1, 2, 3, 4, 5].map(|index| outcome.row(index)[0]);
     assert_eq!(states, [1, 2, 5, 2, 5, 0]);
 
+    let [never, empty, for_1, _, _, for_0] = waits_for_1;
     let waits_for_0 = [empty, for_1, never, for_0];
     let outcome = run(&Sheet::of_scripts(&[&waits_for_0, &[]], 16).attach(0, 64));
     outcome.ends(DEADLOCK, &[0; 3]);
@@ -417,13 +424,9 @@ fn slots_are_told_apart() {
 /// left (document 02, K7, No-request-left).
 #[test]
 fn finished_job_has_no_request_left() {
-    let awaited = Operation::receive(1, 9, 0, 4).nonblocking(0);
-    let empty = Operation::send(BUFFERED, 1, 0, 0, 0).nonblocking(1);
-    let (for_0, for_1) = (Operation::wait(0), Operation::wait(1));
-    let waits = [awaited, empty, for_1, empty, for_1, for_0];
     let send = Operation::send(STANDARD, 0, 9, 0, 3).nonblocking(31);
     let sends = [send, Operation::wait(31)];
-    let sheet = Sheet::of_scripts(&[&waits, &sends], 16).attach(0, 64);
+    let sheet = Sheet::of_scripts(&[&receive_beside_sends(), &sends], 16).attach(0, 64);
     let outcome = run(&sheet);
     outcome.ends(FINISHED, &[0, 0, 0, 0, 0, 1, 0, 1]);
     outcome.counts(2, 0, 0);

@@ -2,17 +2,15 @@
 -- measure is i. Assumes nothing.
 use mathlib.Core.Path.{_≡_, sym, _∙_, ap₂}
 use mathlib.Core.Bool.{Bool, false, _&&_, not}
-use Prim.Native.Nat.{ℕ, suc, _-_, _<_, _≤_}
+use Prim.Native.Nat.{ℕ, _-_, _<_}
 use native.Mathlib.Omega.{arith}
 use borrow.Author.Needs.{needs}
 use lib.ListN.{getD}
 use Rattle.rules.specs.Limits.{slot-limit}
-use Rattle.rules.specs.Sheet.{Sheet, sheet-in, op, board, N-of, rank-of, takes-slot, frees-slot}
-use Rattle.laws.specs.Ranks.{rank-in-script}
-use Rattle.laws.specs.Scripts.{script-inside}
+use Rattle.rules.specs.Sheet.{Sheet, sheet-in, op, board, N-of, takes-slot, frees-slot}
 use Rattle.requests.specs.Slots.{Slotted}
 use Rattle.requests.specs.Requests.{slotted}
-use Rattle.requests.specs.Forgotten.{Walked, walked-none, walked-freed, walked-forgotten, walked-on, walked-all}
+use Rattle.requests.specs.Forgotten.{Walked, walked-none, walked-inside, walked-freed, walked-forgotten, walked-on, walked-all}
 use Rattle.requests.proofs.forgotten.script_refusal.Statement.{statement}
 use Rattle.requests.proofs.forgotten.script_refusal.Tie as tie
 
@@ -25,7 +23,8 @@ abbrev μ-loop : tie.MeasureT-loop
 loop-holds : tie.Need-loop-holds Inv-loop μ-loop
 loop-holds c =
     let z = c .before .before .before in
-    walked-none (sheet-in (z .args .s .now)) (z .args .r) _ (omega (arith, c .before .first .ensures .is, c .count .ensures .is))
+    walked-none (sheet-in (z .args .s .now)) (z .pre .1) (z .args .r) _ (z .pre .3)
+    (omega (arith, c .before .first .ensures .is, c .count .ensures .is))
 
 -- what is known of the operation before i inside the loop
 module _ (c : tie.In-loop Inv-loop μ-loop) where
@@ -38,26 +37,14 @@ module _ (c : tie.In-loop Inv-loop μ-loop) where
   abbrev j : ℕ
   j = c .before .loop .i - 1
 
-  first-is : c .before .before .before .first .result ≡ board s (z .args .r) .first
-  first-is = c .before .before .before .first .ensures .is
+  more : board s (z .args .r) .first < c .before .loop .i
+  more = omega (arith, c .before .before .before .first .ensures .is, c .loop-test .taken)
 
   inside : j < N-of s
-  inside =
-      omega (arith, first-is, c .loop-test .taken, c .before .loop .inv .upper, script-inside s (z .pre .1) (z .args .r) (z .pre .3))
-
-  ranked : rank-of s j ≡ z .args .r
-  ranked =
-      rank-in-script s (z .pre .1 .consecutive) (z .args .r) j (z .pre .3) (omega (arith, first-is, c .loop-test .taken))
-      (omega (arith, first-is, c .loop-test .taken, c .before .loop .inv .upper))
+  inside = walked-inside (c .before .loop .inv) more
 
   slotted-there : Slotted (op s j)
   slotted-there = slotted (z .args .s .now) (z .pre .0) (z .pre .1) (z .pre .2) j inside
-
-  next : c .before .loop .i ≡ suc j
-  next = omega (arith, c .loop-test .taken)
-
-  above : board s (z .args .r) .first ≤ j
-  above = omega (arith, first-is, c .loop-test .taken)
 
 slot-requires : tie.Need-slot-requires Inv-loop μ-loop
 slot-requires c κs = (z c .pre .0, inside c)
@@ -86,8 +73,7 @@ loop-again : tie.Need-loop-again Inv-loop μ-loop
 loop-again c =
     let d = c .before .before .before in
     rw (slot-is (c .before .before))
-    (walked-freed (d .before .loop .inv) (j d) (next d) (above d) (ranked d) (slotted-there d)
-    (sym (c .before .frees-slot .ensures) ∙ c .if1 .taken))
+    (walked-freed (d .before .loop .inv) (more d) (slotted-there d) (sym (c .before .frees-slot .ensures) ∙ c .if1 .taken))
 
 -- an operation that frees no slot: whether it is forgotten, as the code asks
 module _ (c : tie.After-takes-slot Inv-loop μ-loop) where
@@ -107,13 +93,13 @@ loop-again-2 : tie.Need-loop-again-2 Inv-loop μ-loop
 loop-again-2 c =
     let e = c .before in
     let d = turn e in
-    walked-forgotten (d .before .loop .inv) (j d) (next d) (above d) (ranked d) (slotted-there d) (kept e) (asked e ∙ c .if2 .taken)
+    walked-forgotten (d .before .loop .inv) (more d) (slotted-there d) (kept e) (asked e ∙ c .if2 .taken)
 
 loop-again-3 : tie.Need-loop-again-3 Inv-loop μ-loop
 loop-again-3 c =
     let e = c .before in
     let d = turn e in
-    walked-on (d .before .loop .inv) (j d) (next d) (above d) (ranked d) (slotted-there d) (kept e) (asked e ∙ c .if2 .left)
+    walked-on (d .before .loop .inv) (more d) (slotted-there d) (kept e) (asked e ∙ c .if2 .left)
 
 returns : tie.Need-returns Inv-loop μ-loop
 returns c = walked-all (c .before .loop .inv) (omega (arith, c .before .before .before .first .ensures .is, c .loop-test .left))
