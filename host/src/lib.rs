@@ -12,6 +12,7 @@
 //! - `buffers`: what buffered sends cost, and the cases around it.
 //! - `lengths`: the cases around long scripts and their rooms.
 //! - `requests_left`: the cases around requests that no wait frees.
+//! - `searched`: the cases around the search of a waiting list.
 //! - `random`: a seeded generator of numbers.
 //! - `generate`: generators of sheets for the differential tests.
 //! - `guarded`: lends buffers to the library between guard bytes.
@@ -19,7 +20,9 @@
 //! - `compare`: one call put to both judges and the library.
 //! - `trial`: a generated sheet with rooms and orders, tried on all three.
 //! - `command`: what the two differential programs share.
+//! - `searches`: the searches of waiting lists through the C boundary.
 //! - `settled`: answers to cases that never change, kept as digests.
+//! - `timing`: times of functions that are called in turn.
 //! - `traffic`: the jobs that are timed.
 
 pub mod areas;
@@ -35,7 +38,10 @@ pub mod layout;
 pub mod lengths;
 pub mod random;
 pub mod requests_left;
+pub mod searched;
+pub mod searches;
 pub mod settled;
 pub mod sheet;
+pub mod timing;
 pub mod traffic;
 pub mod trial;

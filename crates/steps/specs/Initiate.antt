@@ -25,7 +25,7 @@ use Rattle.state.specs.declared.Queue.the-variants.{Messages, Receives}
 use Rattle.state.specs.Layout.{word-at}
 use Rattle.state.specs.Queues.{base-of, count-of, list-of}
 use Rattle.state.specs.Decodes.{Decodes, list-are, few-listed, list-is, list-length}
-use Rattle.steps.specs.Search.{Listed, First, pair-fits, first-found, first-missing}
+use Rattle.search.specs.Search.{Listed, First, pair-fits, first-found, first-missing}
 use Rattle.steps.specs.Pairing.{Unentered, Pairs, searched, matched-with, message-of, receive-of}
 
 -- the job is one that an order leads to from some inboxes, and board r is able in it

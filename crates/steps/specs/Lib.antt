@@ -1,6 +1,5 @@
 -- What the parts of a step ask and do, in the words of rules.
 --   Able        whether a board is able, test by test
---   Search      the earliest that fits
 --   Parts       the ends of an initiating step and of a waiting half; a release
 --   Pairing     an operation and the one that it found in a waiting list
 --   Initiate    what the invariant gives, and rules' initiating step by what was found
@@ -8,7 +7,6 @@
 --   Pending     an operation that becomes pending, and a job that stops
 --   Turn        a whole step
 pub mod Able
-pub mod Search
 pub mod Parts
 pub mod Pairing
 pub mod Initiate

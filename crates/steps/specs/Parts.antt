@@ -22,7 +22,7 @@ use Rattle.state.specs.declared.Queue.the-variants.{Messages, Receives}
 use Rattle.state.specs.Queues.{list-of}
 use Rattle.state.specs.Changes.{Can-finish}
 use Rattle.simulation.specs.Simulates.{Holds}
-use Rattle.steps.specs.Search.{Readable}
+use Rattle.search.specs.Search.{Readable}
 
 -- what is held can be read
 pub holds-reads : {bs c : List ℕ} {t : Control} {ok : Sheet → Job → Type 0} → Holds bs c t ok → Readable bs c

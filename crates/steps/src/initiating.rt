@@ -7,7 +7,6 @@ ghost use Rattle.steps.specs.Pairing.{Unentered, searched as Pairing·se
 ghost use Rattle.steps.specs.Initiate.{Begins};
 use crate::matching;
 use crate::parts;
-use crate::search;
 use crate::sends;
 use sheet::ops;
 use state::Control;

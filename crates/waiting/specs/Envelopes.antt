@@ -9,9 +9,9 @@ use lib.Dec.{eqb, leb}
 use lib.ListN.{length, getD, take}
 use lib.Seq.{take-all}
 use borrow.Author.Count.{below-more}
-use borrow.Author.Tests.{leb-true, leb-false}
+use borrow.Author.Tests.{leb-true, leb-false, eq-eqb, ne-eqb}
 use Rattle.rules.specs.Limits.{any, most-ops}
-use Rattle.laws.specs.Tests.{cond-true, cond-false}
+use Rattle.laws.specs.Tests.{and-both, cond-true, cond-false}
 use Rattle.waiting.specs.declared.Envelope.{Envelope}
 use Rattle.waiting.specs.declared.Found.{Found}
 use Rattle.waiting.specs.declared.Found.the-variants.{Nothing, At}
@@ -26,10 +26,53 @@ envelope s c t i =
       operation = i;
     }
 
+-- what a receive asks for, a source or a tag, is what the message has, or any
+abbrev pub is-asked : (asked told : ℕ) → Bool
+is-asked asked told = eqb asked any || eqb asked told
+
+pub any-is-asked : (asked told : ℕ) → asked ≡ any → true ≡ is-asked asked told
+any-is-asked asked told e = rw (eq-eqb asked any e) refl
+
+pub named-is-asked : (asked told : ℕ) → (asked ≡ any → ⊥) → eqb asked told ≡ is-asked asked told
+named-is-asked asked told e = rw (ne-eqb asked any e) refl
+
+pub same-is-asked : (asked told : ℕ) → (asked ≡ any → ⊥) → told ≡ asked → true ≡ is-asked asked told
+same-is-asked asked told e h = sym (eq-eqb asked told (sym h)) ∙ named-is-asked asked told e
+
+pub other-is-not : (asked told : ℕ) → (asked ≡ any → ⊥) → (told ≡ asked → ⊥) → false ≡ is-asked asked told
+other-is-not asked told e h = sym (ne-eqb asked told (λ same. h (sym same))) ∙ named-is-asked asked told e
+
 -- the fit of a message that is addressed to the receiver, from the sender in the context with the mark for its tag: communicators
 -- equal; source equal or any; tag equal or any
 unfoldable pub envelope-fits : (sender context mark source communicator tag : ℕ) → Bool
 envelope-fits sender context mark s c t = eqb context c && ((eqb s any || eqb s sender) && (eqb t any || eqb t mark))
+
+-- a fit by its parts, one after the other: another source, another tag, and with both as asked the communicators decide
+module _ (sender context mark s c t : ℕ) where
+  pub other-source : is-asked s sender ≡ false → false ≡ envelope-fits sender context mark s c t
+  unfolding envelope-fits
+  other-source e = go (eqb context c) (is-asked s sender) (is-asked t mark) e
+    where
+      go : (x y z : Bool) → y ≡ false → false ≡ (x && (y && z))
+      go true y z h = sym (ap (λ (b : Bool). b && z) h)
+      go false y z h = refl
+
+  pub other-tag : is-asked t mark ≡ false → false ≡ envelope-fits sender context mark s c t
+  unfolding envelope-fits
+  other-tag e = go (eqb context c) (is-asked s sender) (is-asked t mark) e
+    where
+      go : (x y z : Bool) → z ≡ false → false ≡ (x && (y && z))
+      go true true z h = sym h
+      go true false z h = refl
+      go false y z h = refl
+
+  pub same-but-context : is-asked s sender ≡ true → is-asked t mark ≡ true → eqb context c ≡ envelope-fits sender context mark s c t
+  unfolding envelope-fits
+  same-but-context e f = go (eqb context c) (is-asked s sender) (is-asked t mark) e f
+    where
+      go : (x y z : Bool) → y ≡ true → z ≡ true → x ≡ (x && (y && z))
+      go true y z h k = sym (and-both h k)
+      go false y z h k = refl
 
 -- the same of an envelope, for a receive that asks for s, c and t
 abbrev pub fits-receive : Envelope → (source communicator tag : ℕ) → Bool

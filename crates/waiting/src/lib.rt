@@ -1,16 +1,17 @@
 // The waiting list of one receiver (document 01, "How a board steps"): the envelopes of the messages that wait for it, in order
-// of arrival, searched for the earliest that fits what a receive asks for. The fit is tested in one function over plain numbers.
+// of arrival, searched for the earliest that fits what a receive asks for. Of a message a search reads no more than decides.
 // `search` goes through plain slices, `earliest` through a lent list of envelopes; `earliest_of` lends a list of its own, for
 // callers that have envelopes in an array.
 ghost use mathlib.Core.Path.{_≡_};
-ghost use Prim.Native.Nat.{min};
-ghost use lib.ListN.{length, take};
+ghost use Prim.Native.Nat.{_<_, min};
+ghost use lib.ListN.{length, getD, take};
 ghost use Rattle.rules.specs.Limits.{most-ops};
-ghost use Rattle.waiting.specs.Envelopes.{envelope-fits, fits-receive, earliest-fit, listed};
+ghost use Rattle.waiting.specs.Envelopes.{envelope, is-asked, envelope-fits, fits-receive, earliest-fit, listed};
 use limits::ANY;
 use limits::MOST_OPS;
 
 // A message that waits: its source, communicator and tag, and the send that it is of.
+#[repr(C)]
 pub struct Envelope {
     pub source: usize,
     pub communicator: usize,
@@ -24,27 +25,47 @@ pub enum Found {
     At(usize),
 }
 
-// Fit (004) of a message that is addressed to the receiver, from `sender` in the communicator `context` with the tag `mark`:
-// communicators equal; source equal or any; tag equal or any.
-pub fn envelope_fits(
-    sender: usize,
-    context: usize,
-    mark: usize,
+// A receive asks for a source or a tag, or for any.
+pub fn asks_for(asked: usize, told: usize) -> bool
+    ensures { λ b. ⌜ b ≡ is-asked asked told ⌝ }
+{
+    (asked == ANY) | (asked == told)
+}
+
+// The same of the number at place i of a slice, which is read only where the receive names one.
+fn asks_for_at(asked: usize, told: &[usize], i: usize) -> bool
+    requires { ⌜ i < length (now told) ⌝ }
+    ensures { λ b. ⌜ b ≡ is-asked asked (getD (now (told .entry)) i 0) ⌝ }
+{
+    if asked == ANY {
+        return true;
+    }
+    asked == told[i]
+}
+
+// Fit (004) of the message at place i of three slices, which is addressed to the receiver: communicators equal; source equal or
+// any; tag equal or any. Of its numbers those are read that decide: most messages are another sender's or have another tag, few
+// are of another communicator.
+fn fits_at(
+    sources: &[usize],
+    communicators: &[usize],
+    tags: &[usize],
+    i: usize,
     source: usize,
     communicator: usize,
     tag: usize,
 ) -> bool
-    ensures { λ b. ⌜ b ≡ envelope-fits sender context mark source communicator tag ⌝ }
+    requires { ⌜ (i < length (now sources)) × (i < length (now communicators)) × (i < length (now tags)) ⌝ }
+    ensures { λ b. ⌜ b ≡ envelope-fits (getD (now (sources .entry)) i 0) (getD (now (communicators .entry)) i 0) (getD (now (tags .entry)) i 0)
+        source communicator tag ⌝ }
 {
-    (context == communicator)
-        & (((source == ANY) | (source == sender)) & ((tag == ANY) | (tag == mark)))
-}
-
-// The same of an envelope.
-pub fn fits(e: Envelope, source: usize, communicator: usize, tag: usize) -> bool
-    ensures { λ b. ⌜ b ≡ fits-receive e source communicator tag ⌝ }
-{
-    envelope_fits(e.source, e.communicator, e.tag, source, communicator, tag)
+    if !asks_for_at(source, sources, i) {
+        return false;
+    }
+    if !asks_for_at(tag, tags, i) {
+        return false;
+    }
+    communicators[i] == communicator
 }
 
 // The earliest of the messages whose sources, communicators and tags stand in three slices.
@@ -61,19 +82,30 @@ pub fn search(
 {
     let mut i = 0;
     while i < sources.len() {
-        if envelope_fits(
-            sources[i],
-            communicators[i],
-            tags[i],
-            source,
-            communicator,
-            tag,
-        ) {
+        if fits_at(sources, communicators, tags, i, source, communicator, tag) {
             return Found::At(i);
         }
         i += 1;
     }
     Found::Nothing
+}
+
+// The fit of the message at place k of a lent list. Of its envelope those fields are read that decide, as in `fits_at`.
+fn fits_in(list: &[Envelope], k: usize, source: usize, communicator: usize, tag: usize) -> bool
+    requires { ⌜ k < length (now list) ⌝ }
+    ensures { λ b. ⌜ b ≡ fits-receive (getD (now (list .entry)) k (envelope 0 0 0 0)) source communicator tag ⌝ }
+{
+    if source != ANY {
+        if list[k].source != source {
+            return false;
+        }
+    }
+    if tag != ANY {
+        if list[k].tag != tag {
+            return false;
+        }
+    }
+    list[k].communicator == communicator
 }
 
 // The earliest of a lent list of envelopes.
@@ -82,7 +114,7 @@ pub fn earliest(list: &[Envelope], source: usize, communicator: usize, tag: usiz
 {
     let mut k = 0;
     while k < list.len() {
-        if fits(list[k], source, communicator, tag) {
+        if fits_in(list, k, source, communicator, tag) {
             return Found::At(k);
         }
         k += 1;

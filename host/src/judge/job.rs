@@ -93,6 +93,19 @@ impl<'a> Job<'a> {
         self.boards[rank].in_waiting_half.then_some(index)
     }
 
+    /// The operation that the rank's next step initiates, and the list that it
+    /// searches; none if a waiting half comes next.
+    pub fn searches(&self, rank: usize) -> Option<(usize, &[usize])> {
+        if self.waits_for(rank).is_some() {
+            return None;
+        }
+        let index = self.current(rank);
+        match self.script.is_receive(index) {
+            true => Some((index, &self.messages)),
+            false => Some((index, &self.receives)),
+        }
+    }
+
     fn complete(&self, index: usize) -> bool {
         matches!(self.states[index], State::Matched { .. } | State::Buffered)
     }

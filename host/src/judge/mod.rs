@@ -36,7 +36,7 @@ mod script;
 mod services;
 
 pub use check::check;
-pub use orders::{able_after, order_by};
+pub use orders::{able_after, each_search, order_by, Search};
 pub use premise::premise;
 pub use rooms::{Needs, Rooms, SCRATCH_ROOM};
 pub use services::{follow, needs, run};

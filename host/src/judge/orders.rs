@@ -33,6 +33,39 @@ pub fn able_after(sheet: &[u8], order: &[u8]) -> Vec<u8> {
     able(&job)
 }
 
+/// A search of a waiting list by an initiating step.
+pub struct Search {
+    /// How many steps were taken before.
+    pub steps: usize,
+    /// The operation that searches, and whether it is a receive.
+    pub operation: usize,
+    pub receives: bool,
+    /// The parts of the fit, of each that waits.
+    pub candidates: Vec<[bool; 4]>,
+}
+
+/// Shows the searches of an order that follow accepts, one after the other.
+pub fn each_search(sheet: &[u8], order: &[u8], mut show: impl FnMut(Search)) {
+    let script = Script::read(sheet);
+    let mut job = Job::new(&script, &vec![0; script.inbox_total()]);
+    for (steps, &rank) in order.iter().enumerate() {
+        if let Some((operation, list)) = job.searches(usize::from(rank)) {
+            let receives = script.is_receive(operation);
+            let parts = |&other: &usize| match receives {
+                true => script.parts_of_fit(other, operation),
+                false => script.parts_of_fit(operation, other),
+            };
+            show(Search {
+                steps,
+                operation,
+                receives,
+                candidates: list.iter().map(parts).collect(),
+            });
+        }
+        job.step(usize::from(rank));
+    }
+}
+
 fn able(job: &Job) -> Vec<u8> {
     let ranks = 0..job.boards.len();
     ranks

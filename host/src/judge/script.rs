@@ -43,12 +43,19 @@ impl<'a> Script<'a> {
     /// Document 01, How a board steps: addressed to the receiver,
     /// communicators equal, source equal or any, tag equal or any.
     pub fn fits(&self, message: usize, receive: usize) -> bool {
+        self.parts_of_fit(message, receive) == [true; 4]
+    }
+
+    /// The parts of a fit, in that order.
+    pub fn parts_of_fit(&self, message: usize, receive: usize) -> [bool; 4] {
         let (sent, asked) = (&self.operations[message], &self.operations[receive]);
         let source = self.rank_of[message];
-        usize::from(sent.peer) == self.rank_of[receive]
-            && sent.communicator == asked.communicator
-            && (asked.peer == ANY || usize::from(asked.peer) == source)
-            && (asked.tag == ANY || asked.tag == sent.tag)
+        [
+            usize::from(sent.peer) == self.rank_of[receive],
+            sent.communicator == asked.communicator,
+            asked.peer == ANY || usize::from(asked.peer) == source,
+            asked.tag == ANY || asked.tag == sent.tag,
+        ]
     }
 
     /// The inboxes lie one after another in rank order.

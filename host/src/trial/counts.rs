@@ -4,7 +4,7 @@ use super::{KINDS, ORDERS};
 use crate::command::tally;
 use crate::compare::{Call, Outcome};
 use crate::layout::word;
-use crate::{areas, buffers, lengths, requests_left};
+use crate::{areas, buffers, lengths, requests_left, searched};
 use jamturret::lent::Answer;
 use std::fmt;
 
@@ -26,6 +26,8 @@ pub struct Counts {
     lengths: [u64; lengths::CALLED.len()],
     /// Calls that make each case around requests that are left.
     requests: [u64; requests_left::CALLED.len()],
+    /// Calls that make each case around the search of a waiting list.
+    searched: [u64; searched::CALLED.len()],
     steps: u64,
     matches: u64,
     cut: u64,
@@ -47,6 +49,7 @@ impl Counts {
             self.success(kind, report);
             tally(&mut self.buffers, buffers::left(sheet, report));
             tally(&mut self.areas, areas::left(sheet, report));
+            tally(&mut self.searched, searched::called(sheet, call, outcome));
             self.matches += outcome.desk.matched_rows() as u64 / 2;
             return;
         }
@@ -81,15 +84,15 @@ impl Counts {
     }
 
     /// The smallest count of a verdict, a refusal, a place of 8, an order that
-    /// 9 refuses and a case around a buffer, a capacity or a request: 0 if
-    /// something was not reached.
+    /// 9 refuses and a case around a buffer, a capacity, a request or a search:
+    /// 0 if something was not reached.
     pub fn least(&self) -> u64 {
         let columns = (0..COLUMNS).map(|column| self.column(column));
         let refused = self.orders.iter().map(|row| row[1] + row[2]);
         let wrong = refused.skip(3).take(3);
         let others = self.short.into_iter().chain(self.exchanged);
         let others = others.chain(self.buffers).chain(self.areas);
-        let others = others.chain(self.requests);
+        let others = others.chain(self.requests).chain(self.searched);
         columns.chain(wrong).chain(others).min().unwrap_or(0)
     }
 
@@ -131,7 +134,9 @@ impl fmt::Display for Counts {
         let areas = areas::LEFT.iter().zip(self.areas);
         let lengths = lengths::CALLED.iter().zip(self.lengths);
         let requests = requests_left::CALLED.iter().zip(self.requests);
-        for (name, count) in buffers.chain(areas).chain(lengths).chain(requests) {
+        let searched = searched::CALLED.iter().zip(self.searched);
+        let cases = buffers.chain(areas).chain(lengths).chain(requests);
+        for (name, count) in cases.chain(searched) {
             writeln!(out, "{name:<40}{count:>8}")?;
         }
         writeln!(

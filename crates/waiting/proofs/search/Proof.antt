@@ -17,27 +17,24 @@ abbrev μ-loop : tie.MeasureT-loop
 loop-holds : tie.Need-loop-holds Inv-loop μ-loop
 loop-holds c = (omega arith, λ j l. absurd (omega arith))
 
-shared-slice-read-envelope-fits-2 : tie.Need-shared-slice-read-envelope-fits-2 Inv-loop μ-loop
-shared-slice-read-envelope-fits-2 c = omega (arith, c .before .before .before .before .before .before .before .pre .0)
-
-shared-slice-read-envelope-fits-3 : tie.Need-shared-slice-read-envelope-fits-3 Inv-loop μ-loop
-shared-slice-read-envelope-fits-3 c = omega (arith, c .before .before .before .before .before .before .before .before .pre .1)
+fits-at-requires : tie.Need-fits-at-requires Inv-loop μ-loop
+fits-at-requires c κs = let p = c .before .before .before .before .before .pre in (c .loop-test .taken, omega (arith, c .loop-test .taken, p .0), omega (arith, c .loop-test .taken, p .1))
 
 returns : tie.Need-returns Inv-loop μ-loop
 returns c =
-    let a = c .before .before .before .before .before .before .before .before .before .before .args in
-    let p = c .before .before .before .before .before .before .before .before .before .before .pre in
-    let l = c .before .before .before .before .before .before .loop in
+    let a = c .before .before .before .before .before .before .before .args in
+    let p = c .before .before .before .before .before .before .before .pre in
+    let l = c .before .before .before .loop in
     searched-here (a .sources .now) (a .communicators .now) (a .tags .now) (p .0) (p .1) (a .source) (a .communicator) (a .tag) (l .i)
-    (c .before .before .before .before .before .loop-test .taken) (l .inv .1) (c .before .envelope-fits .ensures) (c .if1 .taken)
+    (c .before .before .loop-test .taken) (l .inv .1) (c .before .fits-at .ensures) (c .if1 .taken)
 
 loop-again : tie.Need-loop-again Inv-loop μ-loop
 loop-again c =
-    let a = c .before .before .before .before .before .before .before .before .before .before .args in
-    let p = c .before .before .before .before .before .before .before .before .before .before .pre in
-    let l = c .before .before .before .before .before .before .loop in
+    let a = c .before .before .before .before .before .before .before .args in
+    let p = c .before .before .before .before .before .before .before .pre in
+    let l = c .before .before .before .loop in
     let on = searched-on (a .sources .now) (a .communicators .now) (a .tags .now) (p .0) (p .1) (a .source) (a .communicator) (a .tag) (l .i)
-    (c .before .before .before .before .before .loop-test .taken) (l .inv .1) (c .before .envelope-fits .ensures) (c .if1 .left) in
+    (c .before .before .loop-test .taken) (l .inv .1) (c .before .fits-at .ensures) (c .if1 .left) in
     (omega arith, on)
 
 returns-2 : tie.Need-returns-2 Inv-loop μ-loop
@@ -52,6 +49,4 @@ pub search-spec : {M : Type 1} → statement M
 search-spec =
     tie.close
     (tie.spec
-    Inv-loop μ-loop loop-holds (λ c. search needs) (λ c. search needs) (λ c. search needs)
-    shared-slice-read-envelope-fits-2 (λ c. search needs) shared-slice-read-envelope-fits-3 (λ c κs. search needs)
-    returns (λ c. search needs) (λ c. omega arith) loop-again returns-2)
+    Inv-loop μ-loop loop-holds fits-at-requires returns (λ c. search needs) (λ c. omega arith) loop-again returns-2)

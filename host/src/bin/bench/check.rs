@@ -1,10 +1,11 @@
 //! *Check* and *premise* on the largest sheets and on a small one.
 
-use crate::timing::{heading, line, medians};
+use crate::lines::{heading, line};
 use jamturret::lent::{self, Answer};
 use jamturret_host::layout::kind::STANDARD;
 use jamturret_host::layout::{MOST_BOARDS, MOST_OPERATIONS, MOST_PAYLOAD, SLOTS};
 use jamturret_host::sheet::{Board, Operation, Sheet};
+use jamturret_host::timing::{in_turn, median};
 use jamturret_host::{bench_jobs, judge};
 use std::hint::black_box;
 
@@ -27,17 +28,19 @@ fn table(service: &str, library: Service, ours: Service, rounds: usize) {
         let sheet = sheet.bytes();
         assert_eq!(library(&sheet), Answer::SUCCESS, "library");
         assert_eq!(ours(&sheet), Answer::SUCCESS, "judge");
-        let times = medians(
+        let times = in_turn(
             rounds,
             calls,
-            || {
-                black_box(library(black_box(&sheet)));
-            },
-            || {
-                black_box(ours(black_box(&sheet)));
-            },
+            [
+                &mut || {
+                    black_box(library(black_box(&sheet)));
+                },
+                &mut || {
+                    black_box(ours(black_box(&sheet)));
+                },
+            ],
         );
-        line(name, &sheet, times);
+        line(name, &sheet, times.map(median));
     }
 }
 

@@ -1,12 +1,13 @@
 //! *Run* and *follow* on large jobs and on a small one, beside the efficient
 //! judge, which keeps its entries the same way; and how the times grow.
 
-use crate::timing::{heading, line, medians};
+use crate::lines::{heading, line};
 use jamturret::lent::{self, Answer};
 use jamturret_host::desk::Desk;
 use jamturret_host::judge::engine;
 use jamturret_host::layout::MOST_OPERATIONS;
 use jamturret_host::sheet::Sheet;
+use jamturret_host::timing::{in_turn, median};
 use jamturret_host::{bench_jobs, traffic};
 use std::hint::black_box;
 
@@ -38,15 +39,19 @@ impl Timed {
         (rounds, calls): (usize, usize),
         library: impl Fn(&mut Desk),
         judge: impl Fn(&mut Desk),
-    ) -> (f64, f64) {
+    ) -> [f64; 2] {
         let mut theirs = self.desk.clone();
         let mut ours = self.desk.clone();
-        let times = medians(rounds, calls, || library(&mut theirs), || judge(&mut ours));
+        let times = in_turn(
+            rounds,
+            calls,
+            [&mut || library(&mut theirs), &mut || judge(&mut ours)],
+        );
         assert_eq!(theirs, ours);
-        times
+        times.map(median)
     }
 
-    fn run(&self, rounds: usize, calls: usize) -> (f64, f64) {
+    fn run(&self, rounds: usize, calls: usize) -> [f64; 2] {
         self.beside(
             (rounds, calls),
             |desk| {
@@ -65,7 +70,7 @@ impl Timed {
         )
     }
 
-    fn follow(&self, rounds: usize, calls: usize) -> (f64, f64) {
+    fn follow(&self, rounds: usize, calls: usize) -> [f64; 2] {
         self.beside(
             (rounds, calls),
             |desk| {

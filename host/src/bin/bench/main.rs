@@ -7,7 +7,7 @@
 
 mod check;
 mod jobs;
-mod timing;
+mod lines;
 
 use std::{env, process};
 

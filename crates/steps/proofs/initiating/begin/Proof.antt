@@ -13,7 +13,7 @@ use Rattle.state.specs.declared.Queue.{Queue}
 use Rattle.state.specs.Layout.{word-at}
 use Rattle.state.specs.Queues.{base-of, count-of, list-of}
 use Rattle.state.specs.Decodes.{Decodes, list-length}
-use Rattle.steps.specs.Search.{Listed, First, pair-fits}
+use Rattle.search.specs.Search.{Listed, First, pair-fits}
 use Rattle.steps.specs.Parts.{holds-reads}
 use Rattle.steps.specs.Pairing.{searched, matched-with}
 use Rattle.steps.specs.Initiate.{Begins, begins-unentered, begins-pairs, listed-in, found-is, missing-is, initiating-found, initiating-posted, initiating-left}
@@ -27,7 +27,7 @@ use Rattle.state.proofs.controls.count.Reads as count-reads
 use Rattle.steps.proofs.initiating.post.Reads as post-reads
 use Rattle.steps.proofs.initiating.searched.Reads as searched-reads
 use Rattle.steps.proofs.matching.pair.Reads as pair-reads
-use Rattle.steps.proofs.search.find.Reads as find-reads
+use Rattle.search.proofs.find.Reads as find-reads
 use Rattle.steps.proofs.sends.leave.Reads as leave-reads
 
 is-receive-requires : tie.Need-is-receive-requires
