@@ -56,7 +56,7 @@ extern "C" {
 
 /*
  * Stack to have free at a call, in bytes. Measured on sheets of 2,048
- * operations (stack_test.c): 1,151, with the call's arguments and the red
+ * operations (stack_test.c): 1,183, with the call's arguments and the red
  * zone. The rest is margin for another build of the library. A signal handler
  * is not in it, nor is what a dynamic linker takes at the first call of
  * memmove or memset, nor a memmove or memset that takes much itself (a
@@ -96,9 +96,10 @@ typedef struct jamturret_answer {
  * numbers of boards, communicators, operations and payload bytes.
  *
  * Number 7 has two rounds (document 02, K7): a slot that is taken twice, a
- * wait for one that is not held, an area that is shared; and, where the whole
- * sheet has none of these, a forgotten request: a nonblocking operation whose
- * slot its board's script never frees (in MPI, a request leak).
+ * wait for one that is not held or a status query of it, an area that is
+ * shared; and, where the whole sheet has none of these, a forgotten request: a
+ * nonblocking operation whose slot its board's script never frees (in MPI, a
+ * request leak). A status query frees nothing.
  */
 enum jamturret_number {
     JAMTURRET_SUCCESS = 0,
@@ -112,9 +113,10 @@ enum jamturret_number {
     JAMTURRET_ROOM = 8,         /* first short room: an enum jamturret_room */
     JAMTURRET_ORDER = 9,        /* first index whose rank is above P-1 or not able */
     /* Premise only: why the order may matter. */
-    JAMTURRET_ANY_SOURCE = 20, /* first receive from any source */
-    JAMTURRET_READY = 21,      /* first ready send */
-    JAMTURRET_UNCOVERED = 22,  /* first rank whose buffer is short of its buffered sends */
+    JAMTURRET_ANY_SOURCE = 20,   /* first receive or probe from any source */
+    JAMTURRET_READY = 21,        /* first ready send */
+    JAMTURRET_UNCOVERED = 22,    /* first rank whose buffer is short of its buffered sends */
+    JAMTURRET_STATUS_QUERY = 23, /* first status query */
     /* jamturret_build only (jamturret_sheet.h): why nothing was written. */
     JAMTURRET_WIDE_HEADER = 30,    /* a number of the header does not fit its field; place 0 */
     JAMTURRET_WIDE_BOARD = 31,     /* first board with a number that does not fit its field */
@@ -144,31 +146,40 @@ jamturret_answer jamturret_check(const uint8_t *sheet, size_t sheet_len);
 
 /*
  * Says whether the order of steps can matter for a sheet. Refusals 1 to 7 as
- * check gives them; then 20, 21 and 22, the lowest first, each at its first
- * place (an operation, an operation, a rank). Success means: from the same
- * inbox bytes, any two orders that follow accepts and after which no board is
- * able leave the same inboxes and the same report, peaks aside, and so does
- * run. The verdict of one run is then that of every such order. A buffer
- * covers the buffered sends of its board where their charges, as if none were
- * matched, add up to at most its size; a charge is the length of a message and
- * JAMTURRET_BSEND_OVERHEAD.
+ * check gives them; then 20 to 23, the lowest first, each at its first place
+ * (an operation, but for 22 a rank). Success means: from the same inbox bytes,
+ * any two orders that follow accepts and after which no board is able leave
+ * the same inboxes and the same report, peaks aside, and so does run. The
+ * verdict of one run is then that of every such order. A buffer covers the
+ * buffered sends of its board where their charges, as if none were matched,
+ * add up to at most its size; a charge is the length of a message and
+ * JAMTURRET_BSEND_OVERHEAD. What a status query tells is a matter of the
+ * order, and so is what a probe from any source tells; a probe of one source
+ * is not (document 02, K9).
  */
 jamturret_answer jamturret_premise(const uint8_t *sheet, size_t sheet_len);
 
 /*
  * STEPS (document 01, How a board steps)
  *
- * A board takes its script's operations in turn. Each but a wait has an
- * initiating step, in which it is matched with what fits or becomes pending. A
- * blocking one then has a waiting half, a second step that can be taken once
+ * A board takes its script's operations in turn. Sends and receives have an
+ * initiating step, in which they are matched with what fits or become pending.
+ * A blocking one then has a waiting half, a second step that can be taken once
  * it is complete; a wait is only a waiting half, of the operation that holds
  * its slot. Send and receive are both complete at their match, whatever else
  * their boards do; a buffered send is complete, too, once it is in the buffer.
  *
+ * Probe and status query have one step each, which changes nothing but their
+ * own row (document 02, K9). A probe tells the earliest arrived pending message
+ * that fits it, and takes nothing: a receive of the told source and tag that
+ * stands next in the script gets the told message, whatever other boards do in
+ * between. A status query tells whether the operation that holds its slot is
+ * complete, and leaves it the slot.
+ *
  * A board is able when the job is not stopped, the board is not finished, and
- * its next step is an initiating one or a waiting half whose operation is
- * complete. A step that overflows a buffer, and a ready send without a posted
- * receive, stop the job.
+ * its next step is an initiating one, a waiting half whose operation is
+ * complete, a probe that a pending message fits, or a status query. A step that
+ * overflows a buffer, and a ready send without a posted receive, stop the job.
  *
  * A message up to the receive's capacity is copied to the start of its area.
  * A longer one is cut: its first bytes fill the area, and the report tells its

@@ -49,15 +49,17 @@ extern "C" {
  * Where an operation row's fields stand. Operation i's row is at
  * 16 + 8 P + 12 i. Source, tag and length tell what message a matched receive
  * got, as an MPI status does. Of a cut message the length is the full one, and
- * as many bytes as the receive's capacity were copied. In all other rows they
- * are none, none and 0.
+ * as many bytes as the receive's capacity were copied. In the row of a finished
+ * probe they tell the message that it found, with its full length, and in that
+ * of a finished status query the length is 1 where the operation was complete
+ * (document 02, K9). In all other rows they are none, none and 0.
  */
 #define JAMTURRET_OPERATION_ROW_STATE_AT 0   /* 1 byte: an enum jamturret_operation_state */
 #define JAMTURRET_OPERATION_ROW_CUT_AT 1     /* 1 byte: 1 in a receive whose message was cut */
 #define JAMTURRET_OPERATION_ROW_PARTNER_AT 2 /* 2 bytes: the operation matched with, or none */
 #define JAMTURRET_OPERATION_ROW_SOURCE_AT 4  /* 2 bytes: the sender's rank */
 #define JAMTURRET_OPERATION_ROW_TAG_AT 6     /* 2 bytes: the message's tag */
-#define JAMTURRET_OPERATION_ROW_LENGTH_AT 8  /* 2 bytes: the message's full length */
+#define JAMTURRET_OPERATION_ROW_LENGTH_AT 8  /* 2 bytes: the message's full length, or complete */
 #define JAMTURRET_OPERATION_ROW_ZERO_AT 10   /* 2 bytes: 0 */
 #define JAMTURRET_OPERATION_ROW_BYTES 12
 
@@ -70,7 +72,7 @@ enum jamturret_verdict {
 };
 
 enum jamturret_board_state {
-    JAMTURRET_BOARD_NEITHER = 0, /* waiting for what is not complete, or the job is stopped */
+    JAMTURRET_BOARD_NEITHER = 0, /* waits for a completion or a message to probe, or job stopped */
     JAMTURRET_BOARD_ABLE = 1,    /* could take a step */
     JAMTURRET_BOARD_FINISHED = 2
 };
@@ -81,7 +83,8 @@ enum jamturret_operation_state {
     JAMTURRET_OPERATION_PENDING = 1,
     JAMTURRET_OPERATION_BUFFERED = 2, /* a send: complete, and no receive has taken it */
     JAMTURRET_OPERATION_MATCHED = 3,
-    JAMTURRET_OPERATION_WAIT_FINISHED = 5
+    JAMTURRET_OPERATION_ENDED = 5, /* a wait, a probe or a status query is finished */
+    JAMTURRET_OPERATION_WAIT_FINISHED = JAMTURRET_OPERATION_ENDED /* the same, of a wait */
 };
 
 /* The length of a report, and of the longest. */
@@ -95,7 +98,8 @@ enum jamturret_operation_state {
  * THE READERS
  *
  * For a report that follow or run filled. Each is named as its field above,
- * in small letters.
+ * in small letters; jamturret_operation_row_complete reads the length of a
+ * status query.
  */
 static inline unsigned jamturret_word_at(const uint8_t *bytes, size_t at)
 {
@@ -211,6 +215,15 @@ static inline unsigned jamturret_operation_row_length(const uint8_t *report, siz
 {
     return jamturret_word_at(jamturret_operation_row(report, operation),
                              JAMTURRET_OPERATION_ROW_LENGTH_AT);
+}
+
+/*
+ * Of a status query in state JAMTURRET_OPERATION_ENDED: 1 if the operation that
+ * holds its slot was complete at its step, else 0. Not for rows of other kinds.
+ */
+static inline unsigned jamturret_operation_row_complete(const uint8_t *report, size_t operation)
+{
+    return jamturret_operation_row_length(report, operation);
 }
 
 #ifdef __cplusplus

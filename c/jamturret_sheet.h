@@ -33,7 +33,7 @@ extern "C" {
  */
 #define JAMTURRET_BSEND_OVERHEAD 32
 
-/* Any source as the peer of a receive, any tag as its tag. */
+/* Any source as the peer of a receive or probe, any tag as its tag. */
 #define JAMTURRET_ANY 65535
 
 /* Where the header's fields stand. */
@@ -60,11 +60,13 @@ extern "C" {
 
 /*
  * Where an operation's fields stand. Operation i is at 16 + 8 P + 16 i, with i
- * counted over the whole sheet. In a wait all fields but kind and slot are 0.
+ * counted over the whole sheet. In a wait and in a status query all fields but
+ * kind and slot are 0, in a probe all but kind, peer, communicator and tag.
  *
  * Slots: a nonblocking operation takes a slot that its board does not hold,
- * and holds it. A wait names a held slot and frees it. No slot is held at the
- * end of a script: each nonblocking operation has its wait (document 02, K7).
+ * and holds it. A wait names a held slot and frees it; a status query names a
+ * held slot and leaves it held (document 02, K9). No slot is held at the end of
+ * a script: each nonblocking operation has its wait (document 02, K7).
  *
  * Areas: offset and length of a send lie inside the payload, which sends may
  * share; those of a receive inside its board's own inbox. A receive's area
@@ -73,20 +75,21 @@ extern "C" {
  */
 #define JAMTURRET_OPERATION_KIND_AT 0         /* 1 byte: an enum jamturret_kind */
 #define JAMTURRET_OPERATION_FLAG_AT 1         /* 1 byte: an enum jamturret_flag */
-#define JAMTURRET_OPERATION_PEER_AT 2         /* 2 bytes: rank; receive also JAMTURRET_ANY */
+#define JAMTURRET_OPERATION_PEER_AT 2         /* 2 bytes: rank; receive, probe also any */
 #define JAMTURRET_OPERATION_COMMUNICATOR_AT 4 /* 2 bytes: 0 to C-1 */
 #define JAMTURRET_OPERATION_ZERO_AT 6         /* 2 bytes: 0 */
-#define JAMTURRET_OPERATION_TAG_AT 8          /* 2 bytes: 0 to 32,767; receive also JAMTURRET_ANY */
+#define JAMTURRET_OPERATION_TAG_AT 8          /* 2 bytes: 0 to 32,767; receive, probe also any */
 #define JAMTURRET_OPERATION_OFFSET_AT 10      /* 2 bytes: in the payload, or in the own inbox */
 #define JAMTURRET_OPERATION_LENGTH_AT 12      /* 2 bytes: length or capacity, 0 to 4,096 */
 #define JAMTURRET_OPERATION_SLOT_AT 14        /* 2 bytes: 0 to 31; of a blocking one 0 */
 #define JAMTURRET_OPERATION_BYTES 16
 
 /*
- * Kinds. A message fits a receive where it is addressed to the receiver, the
- * communicators are equal, and source and tag are equal or any. A send takes
- * the earliest posted receive that fits; the comment says what becomes of it
- * where there is none (document 01, How a board steps).
+ * Kinds. A message fits a receive or a probe where it is addressed to its
+ * board, the communicators are equal, and source and tag are equal or any. A
+ * send takes the earliest posted receive that fits; the comment says what
+ * becomes of it where there is none (document 01, How a board steps). Probe and
+ * status query (document 02, K9) are MPI_PROBE and MPI_REQUEST_GET_STATUS.
  */
 enum jamturret_kind {
     JAMTURRET_KIND_STANDARD = 1,    /* send: pending, not complete; never buffered here */
@@ -94,11 +97,13 @@ enum jamturret_kind {
     JAMTURRET_KIND_SYNCHRONOUS = 3, /* send: pending, not complete */
     JAMTURRET_KIND_READY = 4,       /* send: the job stops, not ready */
     JAMTURRET_KIND_RECEIVE = 5,     /* takes the earliest arrived message, or is pending */
-    JAMTURRET_KIND_WAIT = 6         /* until the operation that holds its slot is complete */
+    JAMTURRET_KIND_WAIT = 6,        /* until the operation that holds its slot is complete */
+    JAMTURRET_KIND_PROBE = 7,       /* until a message fits; tells of it and takes nothing */
+    JAMTURRET_KIND_STATUS_QUERY = 8 /* tells whether what holds its slot is complete */
 };
 
 enum jamturret_flag {
-    JAMTURRET_FLAG_BLOCKING = 0,   /* also of a wait */
+    JAMTURRET_FLAG_BLOCKING = 0,   /* also of a wait, a probe and a status query */
     JAMTURRET_FLAG_NONBLOCKING = 1 /* its board waits for it later on */
 };
 
@@ -173,6 +178,25 @@ static inline jamturret_operation jamturret_wait(uint32_t slot)
 }
 
 /*
+ * A probe for a message to its own board, on communicator 0. Source and tag
+ * may be JAMTURRET_ANY. It is always blocking.
+ */
+static inline jamturret_operation jamturret_probe(uint32_t from, uint32_t tag)
+{
+    const jamturret_operation made
+        = {JAMTURRET_KIND_PROBE, JAMTURRET_FLAG_BLOCKING, from, 0, tag, 0, 0, 0};
+    return made;
+}
+
+/* A query whether the operation that holds a slot is complete. It waits for nothing. */
+static inline jamturret_operation jamturret_status_query(uint32_t slot)
+{
+    const jamturret_operation made
+        = {JAMTURRET_KIND_STATUS_QUERY, JAMTURRET_FLAG_BLOCKING, 0, 0, 0, 0, 0, slot};
+    return made;
+}
+
+/*
  * The same send or receive, nonblocking, with a slot. Its script has to wait
  * for it later on, or the sheet is refused.
  */
@@ -183,7 +207,7 @@ static inline jamturret_operation jamturret_nonblocking(jamturret_operation made
     return made;
 }
 
-/* The same send or receive on another communicator. */
+/* The same send, receive or probe on another communicator. */
 static inline jamturret_operation jamturret_on(jamturret_operation made, uint32_t communicator)
 {
     made.communicator = communicator;

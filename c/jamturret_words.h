@@ -39,11 +39,13 @@ static inline const char *jamturret_refusal_words(uint32_t number)
     case JAMTURRET_ORDER:
         return "the order names a rank that is not able, or no rank of the sheet";
     case JAMTURRET_ANY_SOURCE:
-        return "a receive names any source";
+        return "a receive or a probe names any source";
     case JAMTURRET_READY:
         return "a send is ready";
     case JAMTURRET_UNCOVERED:
         return "an attached buffer does not cover all buffered sends of its board";
+    case JAMTURRET_STATUS_QUERY:
+        return "an operation is a status query";
     case JAMTURRET_WIDE_HEADER:
         return "a number of the header does not fit its field";
     case JAMTURRET_WIDE_BOARD:
@@ -69,6 +71,7 @@ static inline const char *jamturret_place_words(uint32_t number)
     case JAMTURRET_SLOT_OR_AREA:
     case JAMTURRET_ANY_SOURCE:
     case JAMTURRET_READY:
+    case JAMTURRET_STATUS_QUERY:
     case JAMTURRET_WIDE_OPERATION:
         return "operation";
     case JAMTURRET_ROOM:
@@ -142,10 +145,23 @@ static inline const char *jamturret_operation_state_words(unsigned state)
         return "buffered";
     case JAMTURRET_OPERATION_MATCHED:
         return "matched";
-    case JAMTURRET_OPERATION_WAIT_FINISHED:
-        return "wait finished";
+    case JAMTURRET_OPERATION_ENDED:
+        return "wait, probe or query finished";
     default:
         return "unknown state";
+    }
+}
+
+/* What a status query told of its operation: jamturret_operation_row_complete. */
+static inline const char *jamturret_complete_words(unsigned complete)
+{
+    switch (complete) {
+    case 0:
+        return "not complete";
+    case 1:
+        return "complete";
+    default:
+        return "unknown answer";
     }
 }
 

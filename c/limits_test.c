@@ -123,6 +123,11 @@ static void kinds(void)
     expect_answer("receive of no tag", built(&job), JAMTURRET_OPERATION, 0);
     operations[0] = jamturret_wait(0);
     expect_answer("wait for nothing", built(&job), JAMTURRET_SLOT_OR_AREA, 0);
+    operations[0] = jamturret_probe(0, JAMTURRET_ANY);
+    expect_answer("probe", built(&job), JAMTURRET_SUCCESS, 0);
+    expect_answer("probe", jamturret_premise(sheet, sheet_len), JAMTURRET_SUCCESS, 0);
+    operations[0] = jamturret_status_query(0);
+    expect_answer("query of nothing", built(&job), JAMTURRET_SLOT_OR_AREA, 0);
     operations[0] = jamturret_on(jamturret_send(JAMTURRET_KIND_STANDARD, 0, 0, 0, 0), 1);
     expect_answer("communicator 1 of 1", built(&job), JAMTURRET_OPERATION, 0);
 }

@@ -231,7 +231,7 @@ static void nonblocking_send(void)
            jamturret_wait(9)};
     const uint8_t *report = followed(script, 2, 0, 4);
     expect_header("cut", report, cut);
-    expect_unmatched("wait", report, 1, JAMTURRET_OPERATION_WAIT_FINISHED);
+    expect_unmatched("wait", report, 1, JAMTURRET_OPERATION_ENDED);
     expect_operation("cut", report, 2, receive);
     expect("the front of a cut message, and nothing behind it",
            memcmp(inbox, front, sizeof front) == 0, 1);
@@ -283,17 +283,21 @@ static void expect_words(const char *what, const char *(*words)(uint32_t), const
 static void words(void)
 {
     static const uint32_t refusals[]
-        = {0, 1, 2, 3, 4, 5, 6, 7, 8, 9, 20, 21, 22, 30, 31, 32, 33};
+        = {0, 1, 2, 3, 4, 5, 6, 7, 8, 9, 20, 21, 22, 23, 30, 31, 32, 33};
     static const uint32_t rooms[] = {1, 2, 3, 4};
     static const uint32_t verdicts[] = {0, 1, 2, 3, 4};
     static const uint32_t board_states[] = {0, 1, 2};
     static const uint32_t operation_states[] = {0, 1, 2, 3, 5};
+    static const uint32_t completeness[] = {0, 1};
     uint32_t number;
-    expect_words("words of refusals", jamturret_refusal_words, refusals, 17);
+    expect_words("words of refusals", jamturret_refusal_words, refusals, 18);
     expect_words("words of rooms", room_words, rooms, 4);
     expect_words("words of verdicts", jamturret_verdict_words, verdicts, 5);
     expect_words("words of board states", jamturret_board_state_words, board_states, 3);
     expect_words("words of operation states", jamturret_operation_state_words, operation_states, 5);
+    expect_words("words of queries", jamturret_complete_words, completeness, 2);
+    expect("place of a status query",
+           strcmp(jamturret_place_words(JAMTURRET_STATUS_QUERY), "operation") == 0, 1);
     for (number = 0; number < 1000; number++) {
         expect("words of places", strlen(jamturret_place_words(number)) > 0, 1);
     }

@@ -4,24 +4,10 @@
  * answers the same, before it looks at rooms and order, and leaves every room
  * as it was. Then what is pending where a job finishes.
  */
-#include "test_expect.h"
-
-#include <string.h>
+#include "test_services.h"
 
 /* The scripts are those of the first rank and of the last. */
-enum {
-    LAST = JAMTURRET_MOST_BOARDS - 1,
-    INBOX = 8,
-    OPERATIONS = 2 * JAMTURRET_SLOTS,
-    FILL = 0xA5
-};
-
-static uint8_t sheet[JAMTURRET_SHEET(JAMTURRET_MOST_BOARDS, OPERATIONS, 1)];
-static size_t sheet_len;
-static uint8_t inbox[2 * INBOX];
-static uint8_t report[JAMTURRET_REPORT(JAMTURRET_MOST_BOARDS, OPERATIONS)];
-static uint8_t order[JAMTURRET_ORDER_OUT(OPERATIONS)];
-static uint8_t scratch[JAMTURRET_SCRATCH];
+enum { LAST = JAMTURRET_MOST_BOARDS - 1, INBOX = TEST_INBOXES / 2 };
 
 /* A job of these scripts, one after the other in the array. */
 static void build(const jamturret_operation *operations, uint32_t first, uint32_t last)
@@ -35,56 +21,7 @@ static void build(const jamturret_operation *operations, uint32_t first, uint32_
     boards[0].inbox = INBOX;
     boards[LAST].count = last;
     boards[LAST].inbox = INBOX;
-    expect_answer("build", jamturret_build(&job, sheet, sizeof sheet), JAMTURRET_SUCCESS, 0);
-    sheet_len = JAMTURRET_SHEET(JAMTURRET_MOST_BOARDS, first + last, 1);
-}
-
-static void fill_rooms(void)
-{
-    memset(inbox, FILL, sizeof inbox);
-    memset(report, FILL, sizeof report);
-    memset(order, FILL, sizeof order);
-    memset(scratch, FILL, sizeof scratch);
-}
-
-static jamturret_answer run(void)
-{
-    return jamturret_run(sheet, sheet_len, inbox, sizeof inbox, report, sizeof report, order,
-                         sizeof order, scratch, sizeof scratch);
-}
-
-static jamturret_answer follow(const uint8_t *steps, size_t count)
-{
-    return jamturret_follow(sheet, sheet_len, steps, count, inbox, sizeof inbox, report,
-                            sizeof report, scratch, sizeof scratch);
-}
-
-/* Of the sheet that was built. If it is refused, neither short rooms nor a false step is told. */
-static void expect_services(const char *what, uint32_t number, uint64_t place)
-{
-    static const uint8_t no_rank[] = {255};
-    expect_answer(what, jamturret_check(sheet, sheet_len), number, place);
-    expect_answer(what, jamturret_premise(sheet, sheet_len), number, place);
-    fill_rooms();
-    expect_answer(what, run(), number, place);
-    if (number != JAMTURRET_SUCCESS) {
-        expect_answer(what, follow(no_rank, 0), number, place);
-        expect_answer(what, follow(no_rank, 1), number, place);
-        expect_answer(what,
-                      jamturret_run(sheet, sheet_len, inbox, 0, report, 0, order, 0, scratch, 0),
-                      number, place);
-        expect_answer(what,
-                      jamturret_follow(sheet, sheet_len, no_rank, 1, inbox, 0, report, 0, scratch,
-                                       0),
-                      number, place);
-        expect_filled("inbox after a refusal", inbox, FILL, sizeof inbox);
-        expect_filled("report after a refusal", report, FILL, sizeof report);
-        expect_filled("order after a refusal", order, FILL, sizeof order);
-        expect_filled("scratch after a refusal", scratch, FILL, sizeof scratch);
-    } else {
-        expect_answer(what, follow(no_rank, 0), JAMTURRET_SUCCESS, 0);
-        expect_answer(what, follow(no_rank, 1), JAMTURRET_ORDER, 0);
-    }
+    lay_out(&job);
 }
 
 /* A nonblocking send of one byte, a nonblocking receive into four. */
@@ -111,7 +48,7 @@ static void expect_all_refused(const scripts *refused, size_t count)
     size_t i;
     for (i = 0; i < count; i++) {
         build(refused[i].operations, refused[i].first, refused[i].last);
-        expect_services(refused[i].name, JAMTURRET_SLOT_OR_AREA, refused[i].place);
+        expect_refused(refused[i].name, JAMTURRET_SLOT_OR_AREA, refused[i].place);
     }
 }
 
@@ -161,7 +98,7 @@ static void other_rules_first(void)
     wrong[0] = isend(LAST, 0);
     wrong[1] = jamturret_send(JAMTURRET_KIND_STANDARD, 0, JAMTURRET_MOST_TAG + 1, 0, 1);
     build(wrong, 1, 1);
-    expect_services("wrong field on a later rank", JAMTURRET_OPERATION, 1);
+    expect_refused("wrong field on a later rank", JAMTURRET_OPERATION, 1);
 }
 
 /* The wait is the last operation of a script, and of the whole table. */
@@ -173,15 +110,15 @@ static void waited_for(void)
         = {isend(LAST, 7),       jamturret_wait(7), isend(LAST, 7),
            ireceive(LAST, 0, 6), jamturret_wait(6), jamturret_wait(7)};
     build(last, 2, 2);
-    expect_services("waits at the end", JAMTURRET_SUCCESS, 0);
+    expect_accepted("waits at the end", JAMTURRET_SUCCESS, 0);
     build(again, 6, 0);
-    expect_services("slot taken again and waited for", JAMTURRET_SUCCESS, 0);
+    expect_accepted("slot taken again and waited for", JAMTURRET_SUCCESS, 0);
 }
 
 /* A rank holds all its slots at once and waits for all of them; then for all but one. */
 static void every_slot(void)
 {
-    jamturret_operation operations[OPERATIONS];
+    jamturret_operation operations[TEST_OPERATIONS];
     uint32_t left_out;
     for (left_out = 0; left_out <= JAMTURRET_SLOTS; left_out++) {
         uint32_t count = 0;
@@ -196,9 +133,9 @@ static void every_slot(void)
         }
         build(operations, 0, count);
         if (left_out < JAMTURRET_SLOTS) {
-            expect_services("all slots but one", JAMTURRET_SLOT_OR_AREA, left_out);
+            expect_refused("all slots but one", JAMTURRET_SLOT_OR_AREA, left_out);
         } else {
-            expect_services("all slots", JAMTURRET_SUCCESS, 0);
+            expect_accepted("all slots", JAMTURRET_SUCCESS, 0);
         }
     }
 }
@@ -233,16 +170,14 @@ static void unanswered(void)
         jamturret_operation operations[] = {isend(1, 0), jamturret_wait(0)};
         const jamturret_job job = {1, boards, 2, operations, 2, payload, sizeof payload};
         operations[0].kind = ends[i].kind;
-        expect_answer("build", jamturret_build(&job, sheet, sizeof sheet), JAMTURRET_SUCCESS, 0);
-        sheet_len = JAMTURRET_SHEET(2, 2, sizeof payload);
-        memset(report, 0, sizeof report); /* so that it can be read whatever run answers */
-        expect_answer(ends[i].name, run(), JAMTURRET_SUCCESS, 0);
+        lay_out(&job);
+        expect_run(ends[i].name);
         expect(ends[i].name, jamturret_report_verdict(report), ends[i].verdict);
         expect(ends[i].name, jamturret_operation_row_state(report, 0), ends[i].state);
         expect(ends[i].name, jamturret_report_pending_messages(report), ends[i].messages);
         expect(ends[i].name, jamturret_report_pending_receives(report), ends[i].receives);
         build(operations, 1, 0);
-        expect_services(ends[i].name, JAMTURRET_SLOT_OR_AREA, 0);
+        expect_refused(ends[i].name, JAMTURRET_SLOT_OR_AREA, 0);
     }
 }
 

@@ -105,6 +105,48 @@ static void nonblocking_sample(void)
     expect_sample("sheets/nonblocking.sheet", &job, JAMTURRET_SUCCESS, 0);
 }
 
+/* sheets/README.md, Probes and status queries. */
+static void probe_samples(void)
+{
+    const jamturret_board sized[] = {{2, 5 + 32, 0}, {4, 0, 8}};
+    const jamturret_operation sizes[] = {
+        jamturret_send(JAMTURRET_KIND_BUFFERED, 1, 2, 0, 5),
+        jamturret_send(JAMTURRET_KIND_SYNCHRONOUS, 1, 1, 5, 3),
+        jamturret_probe(0, JAMTURRET_ANY),
+        jamturret_receive(0, 2, 0, 5),
+        jamturret_probe(0, JAMTURRET_ANY),
+        jamturret_receive(0, 1, 5, 3),
+    };
+    const jamturret_board hanging[] = {{1, 0, 0}, {4, 0, 6}};
+    const jamturret_operation hangs[] = {
+        jamturret_send(JAMTURRET_KIND_SYNCHRONOUS, 1, 1, 0, 3),
+        jamturret_probe(0, JAMTURRET_ANY),
+        jamturret_receive(0, 1, 0, 3),
+        jamturret_probe(0, JAMTURRET_ANY),
+        jamturret_receive(0, 1, 3, 3),
+    };
+    const jamturret_job sizes_job = {1, sized, 2, sizes, 6, payload, 8};
+    const jamturret_job hangs_job = {1, hanging, 2, hangs, 5, payload, 3};
+    expect_sample("sheets/probe-sizes-receive.sheet", &sizes_job, JAMTURRET_SUCCESS, 0);
+    expect_sample("sheets/hangs-on-probe.sheet", &hangs_job, JAMTURRET_SUCCESS, 0);
+}
+
+static void query_sample(void)
+{
+    const jamturret_board boards[] = {{5, 0, 3}, {2, 0, 0}};
+    const jamturret_operation operations[] = {
+        jamturret_nonblocking(jamturret_receive(1, 0, 0, 2), 4),
+        jamturret_status_query(4),
+        jamturret_receive(1, 1, 2, 1),
+        jamturret_status_query(4),
+        jamturret_wait(4),
+        jamturret_send(JAMTURRET_KIND_STANDARD, 0, 0, 0, 2),
+        jamturret_send(JAMTURRET_KIND_STANDARD, 0, 1, 2, 1),
+    };
+    const jamturret_job job = {1, boards, 2, operations, 7, payload, 3};
+    expect_sample("sheets/query-before-and-after.sheet", &job, JAMTURRET_SUCCESS, 0);
+}
+
 /*
  * Each number differs from all others, so that no two fields can be exchanged
  * unseen. Check would refuse it.
@@ -227,6 +269,8 @@ int main(void)
     handshake_samples();
     nonblocking_sample();
     taken_slot_sample();
+    probe_samples();
+    query_sample();
     every_field();
     widths();
     wide_sum();

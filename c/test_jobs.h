@@ -1,7 +1,8 @@
 /*
  * Jobs for the tests, drawn from a seed: sheets that pass check, of a given
  * number of operations, whose boards exchange messages in every mode, blocking
- * and with waits. The same seed gives the same sheet.
+ * and with waits, some with probes and status queries. The same seed gives the
+ * same sheet.
  */
 #ifndef TEST_JOBS_H
 #define TEST_JOBS_H
@@ -19,6 +20,7 @@ typedef struct style {
     int receives_last; /* all sends of a board before its receives, buffered lest they wait */
     int any_source;    /* some receives name any source */
     int may_stop;      /* ready sends, and buffers that may overflow */
+    int asks;          /* half of the messages with probes or status queries */
 } style;
 
 /* An operation, and the part of the table that it goes to: each board has two parts. */
@@ -78,11 +80,22 @@ static inline jamturret_operation draw_receive(drawn_job *job, uint32_t from,
                         send.communicator);
 }
 
+/* A probe for any tag of a receive's source, and one for what the receive asks for. */
+static inline void add_probes(drawn_job *job, uint32_t part, jamturret_operation receive)
+{
+    const jamturret_operation any_tag = jamturret_probe(receive.peer, JAMTURRET_ANY);
+    const jamturret_operation same_tag = jamturret_probe(receive.peer, receive.tag);
+    add(job, part, jamturret_on(any_tag, receive.communicator));
+    add(job, part, jamturret_on(same_tag, receive.communicator));
+}
+
 /*
  * Messages from one board to another: a single one is blocking and takes two
- * operations, several are nonblocking and take four each, with their waits.
+ * operations, several are nonblocking and take four each, with their waits. Two
+ * more each where they are asked for: probes before the receive of a single one,
+ * else a status query of both requests.
  */
-static inline void add_messages(drawn_job *job, uint32_t messages)
+static inline void add_messages(drawn_job *job, uint32_t messages, int asks)
 {
     const uint32_t boards = job->chosen.boards;
     const uint32_t from = draw(job, boards);
@@ -98,10 +111,17 @@ static inline void add_messages(drawn_job *job, uint32_t messages)
                            draw(job, 2));
         const jamturret_operation receive
             = draw_receive(job, from, send, messages == 1 ? STRETCH * BATCH : STRETCH * slot);
+        if (asks && messages == 1) {
+            add_probes(job, receives, receive);
+        }
         add(job, sends, messages == 1 ? send : jamturret_nonblocking(send, slot));
         add(job, receives, messages == 1 ? receive : jamturret_nonblocking(receive, slot));
     }
     for (slot = 0; messages > 1 && slot < messages; slot++) {
+        if (asks) {
+            add(job, sends, jamturret_status_query(slot));
+            add(job, receives, jamturret_status_query(slot));
+        }
         add(job, sends, jamturret_wait(slot));
         add(job, receives, jamturret_wait(slot));
     }
@@ -125,7 +145,7 @@ static inline void sort_operations(drawn_job *job)
 
 /*
  * Draws a job of an even number of operations and lays it out in a room of
- * JAMTURRET_MOST_SHEET bytes. The three lowest bits of the seed decide the
+ * JAMTURRET_MOST_SHEET bytes. The four lowest bits of the seed decide the
  * style. The sheet's length, or 0 if the builder refused.
  */
 static inline size_t draw_sheet(drawn_job *job, uint32_t seed, size_t operations, uint8_t *sheet)
@@ -140,8 +160,11 @@ static inline size_t draw_sheet(drawn_job *job, uint32_t seed, size_t operations
     job->chosen.receives_last = (seed & 1) != 0;
     job->chosen.any_source = (seed & 2) != 0;
     job->chosen.may_stop = (seed & 4) != 0;
+    job->chosen.asks = (seed & 8) != 0;
     while (job->count < operations) {
-        add_messages(job, operations - job->count >= 4 * BATCH && draw(job, 2) == 0 ? BATCH : 1);
+        const size_t left = operations - job->count;
+        const uint32_t messages = left >= 6 * BATCH && draw(job, 2) == 0 ? BATCH : 1;
+        add_messages(job, messages, job->chosen.asks && left >= 4 && draw(job, 2) == 0);
     }
     sort_operations(job);
     for (rank = 0; rank < job->chosen.boards; rank++) {

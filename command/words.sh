@@ -22,12 +22,14 @@ words_of_refusal() { # NUMBER PLACE
 }
 
 # Document 01, "The report"; premise's numbers are ours. Where all boards finished, every request was waited for (document 02, K7):
-# no receive is pending, and what is not delivered stands in buffers.
+# no receive is pending, and what is not delivered stands in buffers. In a deadlock a board hangs on what is pending, its own send or
+# receive, or on a probe (document 02, K9): where nothing is pending, each unfinished one is at a probe.
 words_of_report() { # VERDICT STOP-RANK STOP-OPERATION STEPS BOARDS OPERATIONS MESSAGES RECEIVES CUT PREMISE PLACE
     [ "$quiet" -eq 0 ] || return 0
-    case $1:$7 in
-    1:0) verdict='verdict 1, finished' ;;
+    case $1:$7:$8 in
+    1:0:*) verdict='verdict 1, finished' ;;
     1:*) verdict='verdict 1, finished, but not all is delivered' ;;
+    2:0:0) verdict='verdict 2, deadlock: no board is able, and each unfinished one probes for a message that has not come' ;;
     2:*) verdict='verdict 2, deadlock: no board is able' ;;
     3:*) verdict="verdict 3, overflow: the buffer of rank $2 has no room for operation $3" ;;
     4:*) verdict="verdict 4, not ready: operation $3 of rank $2 is a ready send, and no receive that fits is posted" ;;
@@ -44,9 +46,10 @@ words_of_report() { # VERDICT STOP-RANK STOP-OPERATION STEPS BOARDS OPERATIONS M
     shift 9
     case $1 in
     0) order='holds for every order' ;;
-    20) order="another order may end otherwise: operation $2 receives from any source" ;;
+    20) order="another order may end otherwise: operation $2 receives or probes from any source" ;;
     21) order="another order may end otherwise: operation $2 is a ready send" ;;
     22) order="another order may end otherwise: the buffer of rank $2 does not cover all its buffered sends" ;;
+    23) order="another order may end otherwise: operation $2 is a status query" ;;
     *) order="another order may end otherwise: $1 at place $2" ;;
     esac
     say "$verdict; $steps; $pending$cut; $order"

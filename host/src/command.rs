@@ -24,6 +24,14 @@ pub fn tally<const N: usize>(counts: &mut [u64; N], found: [bool; N]) {
     }
 }
 
+/// The names of the cases that were found.
+pub fn found<const N: usize>(names: [&'static str; N], found: [bool; N]) -> Vec<&'static str> {
+    let both = names.into_iter().zip(found);
+    both.filter(|(_, found)| *found)
+        .map(|(name, _)| name)
+        .collect()
+}
+
 /// Says what is needed to see a difference again and ends the program.
 pub fn difference(
     seed: u64,

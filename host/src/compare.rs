@@ -14,6 +14,17 @@ pub enum Call {
     Run,
 }
 
+impl Call {
+    /// The order whose steps were taken, of a call that was answered with
+    /// success.
+    pub fn order<'a>(&'a self, outcome: &'a Outcome) -> &'a [u8] {
+        match self {
+            Call::Follow(order) => order,
+            Call::Run => outcome.desk.order(),
+        }
+    }
+}
+
 impl fmt::Display for Call {
     fn fmt(&self, out: &mut fmt::Formatter) -> fmt::Result {
         match self {
@@ -86,6 +97,12 @@ pub fn all(
         .same(&theirs)
         .map_err(|text| format!("judge and library: {text}"))?;
     Ok(theirs)
+}
+
+/// The same for tests: it panics where one differs.
+pub fn agreed(sheet: &[u8], call: &Call, before: &Desk) -> Outcome {
+    let outcome = all(sheet, call, before, &mut Random::new(sheet.len() as u64));
+    outcome.unwrap_or_else(|text| panic!("{call}: {text}"))
 }
 
 impl Outcome {

@@ -7,6 +7,12 @@ use jamturret::lent::Answer;
 /// What every byte of a lent room holds before the call.
 pub const FILL: u8 = 0xEE;
 
+/// The row of an operation in a report.
+pub fn row(report: &[u8], operation: usize) -> &[u8] {
+    let rows = 16 + 8 * usize::from(word(report, 6));
+    &report[rows + 12 * operation..][..12]
+}
+
 /// The rooms before or after a call.
 #[derive(Clone, Debug, PartialEq, Eq)]
 pub struct Desk {
@@ -74,12 +80,15 @@ impl Desk {
         usize::from(word(&self.report, 14))
     }
 
+    /// The row of an operation in the report.
+    pub fn row(&self, operation: usize) -> &[u8] {
+        row(&self.report, operation)
+    }
+
     /// How many operation rows say matched.
     pub fn matched_rows(&self) -> usize {
-        let rows = 16 + 8 * usize::from(word(&self.report, 6));
-        let end = rows + 12 * usize::from(word(&self.report, 8));
-        let states = self.report[rows..end].iter().step_by(12);
-        states.filter(|&&state| state == 3).count()
+        let operations = 0..usize::from(word(&self.report, 8));
+        operations.filter(|&index| self.row(index)[0] == 3).count()
     }
 
     /// The order that run wrote down.

@@ -1,6 +1,6 @@
 //! Where the fields of a sheet stand and their limits (document 01, The
-//! sheet, byte by byte; the most operations: document 02, K11), and what a
-//! buffered message costs (document 02, K2).
+//! sheet, byte by byte; the most operations: document 02, K11; probes and
+//! queries: K9), and what a buffered message costs (K2).
 //! All numbers are little-endian.
 
 pub const HEADER_BYTES: usize = 16;
@@ -18,7 +18,7 @@ pub const MOST_TAG: u16 = 32_767;
 pub const SLOTS: usize = 32;
 /// A buffered message is charged its length and this.
 pub const BSEND_OVERHEAD: usize = 32;
-/// Any source in a receive's peer, any tag in its tag.
+/// Any source in the peer of a receive or a probe, any tag in its tag.
 pub const ANY: u16 = 65_535;
 
 /// Places in the header.
@@ -62,6 +62,8 @@ pub mod kind {
     pub const READY: u8 = 4;
     pub const RECEIVE: u8 = 5;
     pub const WAIT: u8 = 6;
+    pub const PROBE: u8 = 7;
+    pub const QUERY: u8 = 8;
 }
 
 /// The 16-bit number at `at`.

@@ -4,7 +4,8 @@
 
 use crate::compare::{Call, Outcome};
 use crate::judge::SCRATCH_ROOM;
-use crate::layout::{header, word, HEADER_BYTES, MOST_OPERATIONS};
+use crate::layout::{header, kind, word, HEADER_BYTES, MOST_OPERATIONS};
+use crate::sheet::kind_of;
 use jamturret::lent::Answer;
 
 /// Document 01's numbers.
@@ -17,7 +18,7 @@ fn operations(sheet: &[u8]) -> Option<usize> {
 }
 
 /// What `asked` finds.
-pub const ASKED: [&str; 7] = [
+pub const ASKED: [&str; 9] = [
     "check, N 1,025 to 2,047",
     "check, N 2,048",
     "check, N 2,049, refused 2",
@@ -25,6 +26,8 @@ pub const ASKED: [&str; 7] = [
     "check, refused 7 from operation 1,024 on",
     "premise, 20 from operation 1,024 on",
     "premise, 21 from operation 1,024 on",
+    "premise, 23 from operation 1,024 on",
+    "premise, 20 there, of a probe",
 ];
 
 /// Which cases the answers of check and premise make.
@@ -41,6 +44,8 @@ pub fn asked(sheet: &[u8], check: Answer, premise: Answer) -> [bool; ASKED.len()
         late(check, 7),
         late(premise, 20),
         late(premise, 21),
+        late(premise, 23),
+        late(premise, 20) && kind_of(sheet, premise.place as usize) == kind::PROBE,
     ]
 }
 

@@ -12,6 +12,7 @@
 //! - `buffers`: what buffered sends cost, and the cases around it.
 //! - `lengths`: the cases around long scripts and their rooms.
 //! - `requests_left`: the cases around requests that no wait frees.
+//! - `probes`: the cases around probes and status queries.
 //! - `searched`: the cases around the search of a waiting list.
 //! - `random`: a seeded generator of numbers.
 //! - `generate`: generators of sheets for the differential tests.
@@ -36,6 +37,7 @@ pub mod guarded;
 pub mod judge;
 pub mod layout;
 pub mod lengths;
+pub mod probes;
 pub mod random;
 pub mod requests_left;
 pub mod searched;

@@ -30,12 +30,8 @@ const OF_LIST: usize = 8;
 
 /// Which cases the searches of a call make that was answered with success.
 pub fn called(sheet: &[u8], call: &Call, outcome: &Outcome) -> [bool; CALLED.len()] {
-    let order = match call {
-        Call::Run => outcome.desk.order(),
-        Call::Follow(order) => order,
-    };
     let mut found = [false; CALLED.len()];
-    judge::each_search(sheet, order, |search| {
+    judge::each_search(sheet, call.order(outcome), |search| {
         let from = if search.receives { 0 } else { OF_LIST };
         for (found, made) in found[from..].iter_mut().zip(cases(&search.candidates)) {
             *found |= made;

@@ -39,11 +39,25 @@ impl Operation {
     }
 
     pub fn wait(slot: u16) -> Operation {
+        Operation::of_slot(kind::WAIT, slot)
+    }
+
+    /// A status query (document 02, K9).
+    pub fn query(slot: u16) -> Operation {
+        Operation::of_slot(kind::QUERY, slot)
+    }
+
+    fn of_slot(kind: u8, slot: u16) -> Operation {
         Operation {
-            kind: kind::WAIT,
+            kind,
             slot,
             ..Operation::default()
         }
+    }
+
+    /// A probe on communicator 0 (document 02, K9).
+    pub fn probe(peer: u16, tag: u16) -> Operation {
+        Operation::send(kind::PROBE, peer, tag, 0, 0)
     }
 
     pub fn nonblocking(self, slot: u16) -> Operation {
@@ -63,7 +77,7 @@ impl Operation {
 
     /// Takes a slot and holds it after its initiating step.
     pub fn takes_slot(&self) -> bool {
-        self.kind != kind::WAIT && self.flag == 1
+        (kind::STANDARD..=kind::RECEIVE).contains(&self.kind) && self.flag == 1
     }
 
     fn write(&self, out: &mut Vec<u8>) {

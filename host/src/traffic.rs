@@ -1,18 +1,20 @@
 //! The jobs that are timed, and that the tests use as large jobs: ring and
 //! all-to-one traffic of empty blocking buffered sends and their receives on
-//! sixteen boards, and messages of 4,096 bytes. Each is made of a number of
-//! operations, a multiple of 32.
+//! sixteen boards, both also with probes (document 02, K9), and messages of
+//! 4,096 bytes. Each is made of a number of operations, a multiple of 32.
 
 use crate::layout::kind::{BUFFERED, STANDARD};
 use crate::layout::{BSEND_OVERHEAD, MOST_BOARDS, MOST_LENGTH, MOST_PAYLOAD};
 use crate::sheet::{Board, Operation, Sheet};
 
-/// All of them. Nothing waits long in the first and the last two; in the
-/// others half of the operations are pending at once.
-pub const SHAPES: [(&str, fn(usize) -> Sheet); 5] = [
+/// All of them. Nothing waits long in the rings but the second, and in the last
+/// two; in the others half of the operations are pending at once.
+pub const SHAPES: [(&str, fn(usize) -> Sheet); 7] = [
     ("ring", ring),
     ("ring, sends first", ring_sends_first),
+    ("ring, probes before receives", ring_probed),
     ("all to one", all_to_one),
+    ("all to one beside a probe", all_to_one_beside_probe),
     ("messages of 4,096 bytes", heavy),
     ("the same, cut to 2,048 bytes", heavy_cut),
 ];
@@ -38,28 +40,43 @@ fn of_scripts(scripts: Vec<Vec<Operation>>) -> Sheet {
 
 /// Each board sends to the next and receives from the one before, in turn.
 pub fn ring(operations: usize) -> Sheet {
-    of_scripts(ring_scripts(operations, |send, receive, rounds| {
-        [send, receive].repeat(rounds)
+    of_scripts(ring_scripts(operations, |send, receive, count| {
+        [send, receive].repeat(count / 2)
+    }))
+}
+
+/// The same with a probe before each receive, but for the last ones, which make
+/// up the number.
+pub fn ring_probed(operations: usize) -> Sheet {
+    of_scripts(ring_scripts(operations, |send, receive, count| {
+        let probe = Operation::probe(receive.peer, receive.tag);
+        // Both numbers are even.
+        let probed = count / 6 * 2;
+        let rest = (count - 3 * probed) / 2;
+        let first = [send, probe, receive].repeat(probed);
+        [first, [send, receive].repeat(rest)].concat()
     }))
 }
 
 /// The same with all sends of a board before its receives, so that half of
 /// the operations are pending at once.
 pub fn ring_sends_first(operations: usize) -> Sheet {
-    of_scripts(ring_scripts(operations, |send, receive, rounds| {
-        [vec![send; rounds], vec![receive; rounds]].concat()
+    of_scripts(ring_scripts(operations, |send, receive, count| {
+        [vec![send; count / 2], vec![receive; count / 2]].concat()
     }))
 }
 
+/// The script of each board: of its send, its receive and how many operations
+/// it has.
 fn ring_scripts(
     operations: usize,
     script: impl Fn(Operation, Operation, usize) -> Vec<Operation>,
 ) -> Vec<Vec<Operation>> {
-    let rounds = operations / (2 * MOST_BOARDS);
+    let count = operations / MOST_BOARDS;
     let board = |rank: usize| {
         let next = (rank + 1) % MOST_BOARDS;
         let before = (rank + MOST_BOARDS - 1) % MOST_BOARDS;
-        script(empty_send(next), empty_receive(before), rounds)
+        script(empty_send(next), empty_receive(before), count)
     };
     (0..MOST_BOARDS).map(board).collect()
 }
@@ -67,17 +84,38 @@ fn ring_scripts(
 /// The others send to rank 15, as evenly as it goes; it receives the highest
 /// sender's first.
 pub fn all_to_one(operations: usize) -> Sheet {
-    let senders = MOST_BOARDS - 1;
-    let messages = operations / 2;
-    let share = |rank: usize| messages / senders + usize::from(rank < messages % senders);
-    let mut scripts: Vec<Vec<Operation>> = (0..senders)
-        .map(|rank| vec![empty_send(senders); share(rank)])
+    of_scripts(all_to_one_scripts(0, operations / 2))
+}
+
+/// The same without rank 0, which all the while stands at a probe: rank 15
+/// sends to it before it receives its last message. Run asks it before each
+/// step whether it is able.
+pub fn all_to_one_beside_probe(operations: usize) -> Sheet {
+    let one = MOST_BOARDS - 1;
+    let mut scripts = all_to_one_scripts(1, (operations - 4) / 2);
+    let probe = Operation::probe(one as u16, 0);
+    scripts[0] = vec![probe, probe, empty_receive(one)];
+    let last = scripts[one].len() - 1;
+    scripts[one].insert(last, empty_send(0));
+    of_scripts(scripts)
+}
+
+/// The senders are the ranks from `first` on.
+fn all_to_one_scripts(first: usize, messages: usize) -> Vec<Vec<Operation>> {
+    let one = MOST_BOARDS - 1;
+    let senders = one - first;
+    let share = |rank: usize| match rank.checked_sub(first) {
+        Some(place) => messages / senders + usize::from(place < messages % senders),
+        None => 0,
+    };
+    let mut scripts: Vec<Vec<Operation>> = (0..one)
+        .map(|rank| vec![empty_send(one); share(rank)])
         .collect();
-    let receives = (0..senders)
+    let receives = (0..one)
         .rev()
         .flat_map(|rank| vec![empty_receive(rank); share(rank)]);
     scripts.push(receives.collect());
-    of_scripts(scripts)
+    scripts
 }
 
 /// Four boards send messages of 4,096 bytes to four others.

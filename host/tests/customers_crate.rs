@@ -16,10 +16,24 @@ use std::iter;
 const SEED: u64 = 12;
 const CASES: u64 = 6000;
 
+fn source_number(source: Source) -> usize {
+    match source {
+        Source::Rank(rank) => rank,
+        Source::Any => usize::from(ANY),
+    }
+}
+
+fn tag_number(tag: Tag) -> usize {
+    match tag {
+        Tag::Is(tag) => tag,
+        Tag::Any => usize::from(ANY),
+    }
+}
+
 /// The numbers of an operation in the order of the bytes.
 fn numbers(operation: &Operation) -> [usize; 9] {
-    let any = usize::from(ANY);
     let flag = |slot: Option<usize>| usize::from(slot.is_some());
+    let naming = |kind, slot| [usize::from(kind), 0, 0, 0, 0, 0, 0, 0, slot];
     match operation {
         Operation::Send(send) => [
             usize::from(match send.mode {
@@ -40,21 +54,27 @@ fn numbers(operation: &Operation) -> [usize; 9] {
         Operation::Receive(receive) => [
             usize::from(kind::RECEIVE),
             flag(receive.slot),
-            match receive.from {
-                Source::Rank(rank) => rank,
-                Source::Any => any,
-            },
+            source_number(receive.from),
             receive.communicator,
             0,
-            match receive.tag {
-                Tag::Is(tag) => tag,
-                Tag::Any => any,
-            },
+            tag_number(receive.tag),
             receive.offset,
             receive.capacity,
             receive.slot.unwrap_or(0),
         ],
-        Operation::Wait { slot } => [usize::from(kind::WAIT), 0, 0, 0, 0, 0, 0, 0, *slot],
+        Operation::Wait { slot } => naming(kind::WAIT, *slot),
+        Operation::Probe(probe) => [
+            usize::from(kind::PROBE),
+            0,
+            source_number(probe.from),
+            probe.communicator,
+            0,
+            tag_number(probe.tag),
+            0,
+            0,
+            0,
+        ],
+        Operation::StatusQuery { slot } => naming(kind::QUERY, *slot),
     }
 }
 
@@ -120,7 +140,7 @@ fn operation_state(state: OperationState) -> u8 {
         OperationState::Pending => 1,
         OperationState::Buffered => 2,
         OperationState::Matched => 3,
-        OperationState::WaitFinished => 5,
+        OperationState::Ended => 5,
     }
 }
 
@@ -151,7 +171,7 @@ fn report_bytes(report: &Report) -> Vec<u8> {
         let partner = row.partner.unwrap_or(65_535);
         let got = match row.status {
             Some(status) => [status.source, status.tag, status.length],
-            None => [65_535, 65_535, 0],
+            None => [65_535, 65_535, usize::from(row.complete)],
         };
         let numbers = iter::once(partner).chain(got).chain([0]);
         bytes.extend(numbers.flat_map(two));

@@ -8,7 +8,6 @@ use jamturret_host::compare::{self, Call};
 use jamturret_host::desk::{Desk, FILL};
 use jamturret_host::layout::kind::{BUFFERED, STANDARD};
 use jamturret_host::layout::word;
-use jamturret_host::random::Random;
 use jamturret_host::requests_left::no_request_left;
 use jamturret_host::sheet::{Operation, Sheet};
 
@@ -19,7 +18,6 @@ const NOT_READY: u8 = 4;
 
 struct Outcome {
     desk: Desk,
-    boards: usize,
 }
 
 fn run(sheet: &Sheet) -> Outcome {
@@ -33,15 +31,9 @@ fn follow(sheet: &Sheet, order: &[u8]) -> Outcome {
 /// The library and both judges agree; the answer is success.
 fn ask(sheet: &Sheet, call: Call) -> Outcome {
     let bytes = sheet.bytes();
-    let before = Desk::for_sheet(&bytes);
-    let mut random = Random::new(bytes.len() as u64);
-    let agreed = compare::all(&bytes, &call, &before, &mut random);
-    let agreed = agreed.unwrap_or_else(|text| panic!("{call}: {text}"));
+    let agreed = compare::agreed(&bytes, &call, &Desk::for_sheet(&bytes));
     assert_eq!(agreed.answer, Answer::SUCCESS);
-    Outcome {
-        desk: agreed.desk,
-        boards: sheet.boards.len(),
-    }
+    Outcome { desk: agreed.desk }
 }
 
 impl Outcome {
@@ -63,8 +55,7 @@ impl Outcome {
     }
 
     fn row(&self, operation: usize) -> &[u8] {
-        let at = 16 + 8 * self.boards + 12 * operation;
-        &self.desk.report[at..at + 12]
+        self.desk.row(operation)
     }
 
     fn matched(&self, send: usize, receive: usize) {

@@ -112,6 +112,7 @@ fn stops_at_the_last_operation() {
 fn premise_at_the_last_operation() {
     for (operation, number) in [
         (Operation::receive(ANY, 0, 0, 0), 20),
+        (Operation::probe(ANY, 0), 20),
         (Operation::send(READY, 0, 0, 0, 0), 21),
     ] {
         let sheet = at_last(operation).bytes();

@@ -1,4 +1,4 @@
-//! Whether the order of steps can matter for a sheet: 20 to 22, the lowest
+//! Whether the order of steps can matter for a sheet: 20 to 23, the lowest
 //! number first, each at its first place (document 01, What is pinned down).
 
 use jamturret::lent::Answer;
@@ -109,9 +109,46 @@ fn forgotten_requests_come_first() {
     }
 }
 
+/// Document 02, K9: probes from any source are 20, and queries 23, behind 22.
+#[test]
+fn probes_and_queries() {
+    let (named, any) = (Operation::probe(1, ANY), Operation::probe(ANY, 5));
+    let held = send(STANDARD, 1).nonblocking(4);
+    let (query, wait) = (Operation::query(4), Operation::wait(4));
+    expect("a named source", &sheet(&[named, named], 0), 0, 0);
+    expect("any source", &sheet(&[named, any, any], 0), 20, 1);
+    let receive = Operation::receive(ANY, 0, 0, 1);
+    expect("before a receive", &sheet(&[any, receive], 0), 20, 0);
+    expect("behind a receive", &sheet(&[named, receive, any], 0), 20, 1);
+    expect("query", &sheet(&[held, query, query, wait], 0), 23, 1);
+    expect(
+        "with a probe",
+        &sheet(&[named, held, query, wait], 0),
+        23,
+        2,
+    );
+    expect("20 behind", &sheet(&[held, query, wait, any], 0), 20, 3);
+    let ready = send(READY, 1);
+    expect("21 behind", &sheet(&[held, query, wait, ready], 0), 21, 3);
+    let buffered = send(BUFFERED, 3);
+    let behind = [held, query, wait, buffered];
+    expect("22 behind", &sheet(&behind, 34), 22, 0);
+    expect("22 covered", &sheet(&behind, 35), 23, 1);
+    let both = Sheet::of_scripts(&[&[buffered], &[held, query, wait]], 8);
+    expect(
+        "query of rank 1",
+        &both.clone().attach(0, 35).bytes(),
+        23,
+        2,
+    );
+    expect("22 of rank 0", &both.bytes(), 22, 0);
+    expect("7 first", &sheet(&[any, held, query], 0), 7, 1);
+    expect("6 first", &sheet(&[any, Operation::query(32)], 0), 6, 1);
+}
+
 #[test]
 fn judges_agree() {
-    let mut numbers = [0; 23];
+    let mut numbers = [0; 24];
     for number in 0..10_000 {
         let (_, sheet, _) = generate::case(11, number);
         if sheet.len() <= 1500 {
@@ -120,6 +157,6 @@ fn judges_agree() {
             numbers[answer.number as usize] += 1;
         }
     }
-    let reached = [0, 20, 21, 22].map(|number: usize| numbers[number]);
+    let reached = [0, 20, 21, 22, 23].map(|number: usize| numbers[number]);
     assert!(reached.iter().all(|&count| count > 20), "{reached:?}");
 }

@@ -3,11 +3,11 @@
 //! the differential tests count, each on a sheet made by hand.
 
 use jamturret::lent::Answer;
-use jamturret_host::compare::{self, Call};
+use jamturret_host::command::found as names;
+use jamturret_host::compare::{agreed, Call};
 use jamturret_host::desk::Desk;
 use jamturret_host::layout::kind::{BUFFERED, READY, STANDARD};
 use jamturret_host::layout::{word, ANY};
-use jamturret_host::random::Random;
 use jamturret_host::requests_left::{asked, called, no_request_left, ASKED, CALLED};
 use jamturret_host::sheet::{set_word, Operation, Sheet};
 use jamturret_host::{bench_jobs, judge};
@@ -31,12 +31,6 @@ fn wait(slot: u16) -> Operation {
 /// Inboxes of 16 bytes, and room for one buffered message on rank 0.
 fn sheet(scripts: &[&[Operation]]) -> Vec<u8> {
     Sheet::of_scripts(scripts, 16).attach(0, 3 + 32).bytes()
-}
-
-/// All of them agree on a call.
-fn agreed(sheet: &[u8], call: &Call, before: &Desk) -> compare::Outcome {
-    let outcome = compare::all(sheet, call, before, &mut Random::new(7));
-    outcome.unwrap_or_else(|text| panic!("{call}: {text}"))
 }
 
 fn calls() -> [Call; 4] {
@@ -119,13 +113,6 @@ fn promise_can_fail() {
     let mut counted = report.clone();
     set_word(&mut counted, 12, 1);
     assert!(no_request_left(&sheet, &counted).is_err());
-}
-
-fn names<const N: usize>(all: [&'static str; N], found: [bool; N]) -> Vec<&'static str> {
-    let both = all.into_iter().zip(found);
-    both.filter(|(_, found)| *found)
-        .map(|(name, _)| name)
-        .collect()
 }
 
 /// What is counted of our judge's answers to these scripts.

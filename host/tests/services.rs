@@ -224,8 +224,13 @@ fn bring_under_claim(sheet: &mut [u8]) {
             sheet[at] = kind::SYNCHRONOUS;
         }
         let peer = at + operation::PEER;
-        if sheet[at] == kind::RECEIVE && word(sheet, peer) == ANY {
+        if [kind::RECEIVE, kind::PROBE].contains(&sheet[at]) && word(sheet, peer) == ANY {
             set_word(sheet, peer, 0);
+        }
+        if sheet[at] == kind::QUERY {
+            // An empty message to rank 0, which is as much always able.
+            sheet[at] = kind::BUFFERED;
+            set_word(sheet, at + operation::SLOT, 0);
         }
     }
     mend_crc(sheet);

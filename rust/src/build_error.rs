@@ -32,8 +32,8 @@ pub enum BuildError {
         /// What it is.
         value: usize,
     },
-    /// A receive names the rank or the tag 65,535, which stands for any in a
-    /// sheet. [`Source::Any`](crate::Source::Any) and
+    /// A receive or a probe names the rank or the tag 65,535, which stands for
+    /// any in a sheet. [`Source::Any`](crate::Source::Any) and
     /// [`Tag::Any`](crate::Tag::Any) say that.
     MeansAny {
         /// The operation, counted from 0 over the whole sheet.
@@ -72,7 +72,8 @@ pub enum BoardField {
 /// A number of an operation.
 #[derive(Clone, Copy, Debug, PartialEq, Eq, Hash)]
 pub enum OperationField {
-    /// The rank that a send is addressed to, or the source of a receive.
+    /// The rank that a send is addressed to, or the source of a receive or
+    /// probe.
     Peer,
     /// The communicator.
     Communicator,

@@ -107,7 +107,7 @@ pub fn check(sheet: &[u8]) -> Answer {
 }
 
 /// Says whether the order of steps can matter for a sheet. Refusals 1 to 7,
-/// then 20 to 22.
+/// then 20 to 23.
 pub fn premise(sheet: &[u8]) -> Answer {
     // SAFETY: as in `check`.
     unsafe { jamturret_premise(sheet.as_ptr(), sheet.len()) }

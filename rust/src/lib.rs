@@ -1,9 +1,9 @@
 //! Jamturret judges job sheets of backup recorders: up to sixteen boards (MPI
 //! processes) pass blocks to each other under MPI's point-to-point rules. A
-//! sheet has each board's sends, receives and waits; the judge says what is
-//! matched, what arrives, what is left pending, how full the buffers get, and
-//! whether the job finishes, deadlocks, overflows a buffer or meets a ready
-//! send without a receive.
+//! sheet has each board's sends, receives, waits, probes and status queries; the
+//! judge says what is matched, what arrives, what is left pending, how full the
+//! buffers get, and whether the job finishes, deadlocks, overflows a buffer or
+//! meets a ready send without a receive.
 //!
 //! This crate is the proved library `libjamturret.a` behind safe Rust. Every
 //! answer is the library's own; the crate lays out sheets, lends the rooms and
@@ -112,7 +112,9 @@ mod tables;
 mod words;
 
 pub use build_error::{BoardField, BuildError, HeaderField, OperationField};
-pub use operation::{Mode, Operation, ReceiveOperation, SendOperation, Source, Tag};
+pub use operation::{
+    Mode, Operation, ProbeOperation, ReceiveOperation, SendOperation, Source, Tag,
+};
 pub use premise::Premise;
 pub use refusal::{Refusal, Room};
 pub use report::{Report, ReportError, Stop, Verdict};

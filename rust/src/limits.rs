@@ -29,7 +29,7 @@ pub const MOST_SLOT: usize = 31;
 /// [`run`](crate::lent::run) are lent, whatever the sheet.
 pub const SCRATCH_ROOM: usize = 65_536;
 
-/// In a receive's field: any source, any tag. In a report: none.
+/// In a field of a receive or probe: any source, any tag. In a report: none.
 pub(crate) const ANY: usize = 65_535;
 /// A report's stop rank where nothing stopped the job.
 pub(crate) const NO_RANK: u8 = 255;

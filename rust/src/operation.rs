@@ -15,16 +15,17 @@ pub enum Mode {
     Ready = 4,
 }
 
-/// From whom a receive takes a message.
+/// From whom a receive takes a message, and of whom a probe tells one.
 #[derive(Clone, Copy, Debug, PartialEq, Eq, Hash)]
 pub enum Source {
     /// From this rank alone.
     Rank(usize),
-    /// From any rank. The order of steps can then decide what is received.
+    /// From any rank. The order of steps can then decide what is received or
+    /// told.
     Any,
 }
 
-/// Which messages a receive takes.
+/// Which messages a receive takes or a probe tells.
 #[derive(Clone, Copy, Debug, PartialEq, Eq, Hash)]
 pub enum Tag {
     /// Those with this tag.
@@ -73,6 +74,42 @@ pub struct ReceiveOperation {
     pub slot: Option<usize>,
 }
 
+/// A blocking probe (`MPI_PROBE`; document 02, K9): it waits for a pending
+/// message to its board that fits it, as a message fits a receive. Its row tells
+/// source, tag and full length of the earliest arrived one
+/// ([`OperationRow::probed`](crate::OperationRow::probed)). It takes nothing: a
+/// receive of the told source and tag that stands next in the script, on the
+/// same communicator, gets the told message, whatever other boards do in
+/// between.
+///
+/// ```
+/// use jamturret::{run, Board, Mode, ProbeOperation, ReceiveOperation, SendOperation};
+/// use jamturret::{Sheet, Source, Tag};
+///
+/// // Rank 1 learns how long the message of rank 0 is, and receives as much.
+/// let sender = Board::new().then(SendOperation::new(Mode::Synchronous, 1).tag(7).bytes(0, 3));
+/// let receive = ReceiveOperation::new(Source::Rank(0)).tag(Tag::Is(7)).area(0, 3);
+/// let receiver = Board::new()
+///     .inbox(3)
+///     .then(ProbeOperation::new(Source::Rank(0)).tag(Tag::Any))
+///     .then(receive);
+/// let outcome = run(Sheet::build(1, vec![sender, receiver], b"JAM")?, None)?;
+/// let told = outcome.report.operation(1).and_then(|row| row.probed()).ok_or("not told")?;
+/// assert_eq!((told.source, told.tag, told.length), (0, 7, 3));
+/// assert_eq!(outcome.report.operation(2).and_then(|row| row.status), Some(told));
+/// assert_eq!(outcome.inboxes[1], *b"JAM");
+/// # Ok::<(), Box<dyn std::error::Error>>(())
+/// ```
+#[derive(Clone, Copy, Debug, PartialEq, Eq, Hash)]
+pub struct ProbeOperation {
+    /// Of whom.
+    pub from: Source,
+    /// The communicator.
+    pub communicator: usize,
+    /// Which messages.
+    pub tag: Tag,
+}
+
 /// One operation of a script.
 ///
 /// ```
@@ -100,6 +137,34 @@ pub enum Operation {
     /// a sheet that forgets it is refused
     /// ([`Refusal::Request`](crate::Refusal::Request); document 02, K7).
     Wait {
+        /// The request slot.
+        slot: usize,
+    },
+    /// A probe.
+    Probe(ProbeOperation),
+    /// A query whether the nonblocking operation that holds a slot is complete
+    /// (`MPI_REQUEST_GET_STATUS`; document 02, K9). It waits for nothing and
+    /// leaves the slot held. Its row tells the answer
+    /// ([`OperationRow::queried`](crate::OperationRow::queried)), which the order
+    /// of steps decides.
+    ///
+    /// ```
+    /// use jamturret::{run, Board, Mode, Operation, SendOperation, Sheet};
+    ///
+    /// // Nobody receives: only the buffered send is complete when it is asked for.
+    /// for (mode, complete) in [(Mode::Standard, false), (Mode::Buffered, true)] {
+    ///     let sender = Board::new()
+    ///         .attached(32)
+    ///         .then(SendOperation::new(mode, 1).nonblocking(5))
+    ///         .then(Operation::StatusQuery { slot: 5 })
+    ///         .then(Operation::Wait { slot: 5 });
+    ///     let outcome = run(Sheet::build(1, vec![sender, Board::new()], &[])?, None)?;
+    ///     let row = outcome.report.operation(1).ok_or("a row")?;
+    ///     assert_eq!(row.queried(), Some(complete));
+    /// }
+    /// # Ok::<(), Box<dyn std::error::Error>>(())
+    /// ```
+    StatusQuery {
         /// The request slot.
         slot: usize,
     },
@@ -196,6 +261,30 @@ impl ReceiveOperation {
     }
 }
 
+impl ProbeOperation {
+    /// A probe for messages with tag 0 on communicator 0.
+    pub fn new(from: Source) -> ProbeOperation {
+        ProbeOperation {
+            from,
+            communicator: 0,
+            tag: Tag::Is(0),
+        }
+    }
+
+    /// The same for messages with this tag.
+    pub fn tag(self, tag: Tag) -> ProbeOperation {
+        ProbeOperation { tag, ..self }
+    }
+
+    /// The same on this communicator.
+    pub fn on(self, communicator: usize) -> ProbeOperation {
+        ProbeOperation {
+            communicator,
+            ..self
+        }
+    }
+}
+
 impl From<SendOperation> for Operation {
     fn from(send: SendOperation) -> Operation {
         Operation::Send(send)
@@ -205,5 +294,11 @@ impl From<SendOperation> for Operation {
 impl From<ReceiveOperation> for Operation {
     fn from(receive: ReceiveOperation) -> Operation {
         Operation::Receive(receive)
+    }
+}
+
+impl From<ProbeOperation> for Operation {
+    fn from(probe: ProbeOperation) -> Operation {
+        Operation::Probe(probe)
     }
 }

@@ -15,7 +15,7 @@ use std::fmt;
 pub enum Premise {
     /// The outcome holds for every order.
     Holds,
-    /// 20: a receive names any source.
+    /// 20: a receive or a probe names any source.
     AnySource {
         /// The first such operation.
         operation: usize,
@@ -30,6 +30,12 @@ pub enum Premise {
         /// The first such rank.
         rank: usize,
     },
+    /// 23: an operation is a status query; the order decides what it tells
+    /// (document 02, K9).
+    StatusQuery {
+        /// The first such operation.
+        operation: usize,
+    },
 }
 
 impl Premise {
@@ -38,24 +44,26 @@ impl Premise {
         *self == Premise::Holds
     }
 
-    /// The number of [`lent::premise`](crate::lent::premise): 0, 20, 21 or 22.
+    /// The number of [`lent::premise`](crate::lent::premise): 0, or 20 to 23.
     pub fn number(&self) -> u32 {
         match self {
             Premise::Holds => 0,
             Premise::AnySource { .. } => 20,
             Premise::ReadySend { .. } => 21,
             Premise::Uncovered { .. } => 22,
+            Premise::StatusQuery { .. } => 23,
         }
     }
 
-    /// The place of [`lent::premise`](crate::lent::premise): an operation, an
-    /// operation or a rank; 0 where the premise holds.
+    /// The place of [`lent::premise`](crate::lent::premise): an operation, for
+    /// 22 a rank; 0 where the premise holds.
     pub fn place(&self) -> u64 {
         match *self {
             Premise::Holds => 0,
             Premise::AnySource { operation: place }
             | Premise::ReadySend { operation: place }
-            | Premise::Uncovered { rank: place } => place as u64,
+            | Premise::Uncovered { rank: place }
+            | Premise::StatusQuery { operation: place } => place as u64,
         }
     }
 
@@ -66,6 +74,7 @@ impl Premise {
             (20, Ok(operation)) => Ok(Premise::AnySource { operation }),
             (21, Ok(operation)) => Ok(Premise::ReadySend { operation }),
             (22, Ok(rank)) => Ok(Premise::Uncovered { rank }),
+            (23, Ok(operation)) => Ok(Premise::StatusQuery { operation }),
             _ => answer.result(sheet).map(|()| Premise::Holds),
         }
     }
@@ -76,11 +85,14 @@ impl fmt::Display for Premise {
         let why = match self {
             Premise::Holds => return write!(out, "holds for every order"),
             Premise::AnySource { operation } => {
-                format!("operation {operation} receives from any source")
+                format!("operation {operation} receives or probes from any source")
             }
             Premise::ReadySend { operation } => format!("operation {operation} is a ready send"),
             Premise::Uncovered { rank } => {
                 format!("the attached buffer of rank {rank} does not cover its buffered sends")
+            }
+            Premise::StatusQuery { operation } => {
+                format!("operation {operation} is a status query")
             }
         };
         let (number, place) = (self.number(), self.place());

@@ -3,11 +3,15 @@
 
 use crate::build_error::{fit, BuildError, OperationField};
 use crate::limits::ANY;
-use crate::operation::{Mode, Operation, ReceiveOperation, SendOperation, Source, Tag};
+use crate::operation::{
+    Mode, Operation, ProbeOperation, ReceiveOperation, SendOperation, Source, Tag,
+};
 use crate::words::{push_words, words};
 
 const RECEIVE: u8 = 5;
 const WAIT: u8 = 6;
+const PROBE: u8 = 7;
+const STATUS_QUERY: u8 = 8;
 
 /// The fields in the order of the bytes, save flag and zero.
 struct Record {
@@ -17,8 +21,13 @@ struct Record {
     tag: usize,
     offset: usize,
     length: usize,
-    /// None for blocking operations, which have flag 0 and slot 0.
+    /// None for operations without a slot, which have flag 0 and slot 0.
     slot: Option<usize>,
+}
+
+/// Whether a kind names a slot that an earlier operation holds: its flag is 0.
+fn names_held_slot(kind: u8) -> bool {
+    matches!(kind, WAIT | STATUS_QUERY)
 }
 
 impl Operation {
@@ -33,7 +42,7 @@ impl Operation {
                 value,
             })
         };
-        let nonblocking = record.slot.is_some() && record.kind != WAIT;
+        let nonblocking = record.slot.is_some() && !names_held_slot(record.kind);
         out.extend([record.kind, u8::from(nonblocking)]);
         push_words(
             out,
@@ -64,14 +73,15 @@ impl Operation {
             tag,
             offset,
             length,
-            slot: (*flag == 1 || *kind == WAIT).then_some(slot),
+            slot: (*flag == 1 || names_held_slot(*kind)).then_some(slot),
         };
         record.operation()
     }
 }
 
 impl Record {
-    /// Where a receive names the number that stands for any, the field.
+    /// Where a receive or a probe names the number that stands for any, the
+    /// field.
     fn of(operation: &Operation) -> Result<Record, OperationField> {
         Ok(match *operation {
             Operation::Send(send) => Record {
@@ -85,50 +95,57 @@ impl Record {
             },
             Operation::Receive(receive) => Record {
                 kind: RECEIVE,
-                peer: match receive.from {
-                    Source::Rank(ANY) => return Err(OperationField::Peer),
-                    Source::Rank(rank) => rank,
-                    Source::Any => ANY,
-                },
+                peer: receive.from.number()?,
                 communicator: receive.communicator,
-                tag: match receive.tag {
-                    Tag::Is(ANY) => return Err(OperationField::Tag),
-                    Tag::Is(tag) => tag,
-                    Tag::Any => ANY,
-                },
+                tag: receive.tag.number()?,
                 offset: receive.offset,
                 length: receive.capacity,
                 slot: receive.slot,
             },
-            Operation::Wait { slot } => Record {
-                kind: WAIT,
-                peer: 0,
-                communicator: 0,
-                tag: 0,
+            Operation::Wait { slot } => Record::of_held_slot(WAIT, slot),
+            Operation::Probe(probe) => Record {
+                kind: PROBE,
+                peer: probe.from.number()?,
+                communicator: probe.communicator,
+                tag: probe.tag.number()?,
                 offset: 0,
                 length: 0,
-                slot: Some(slot),
+                slot: None,
             },
+            Operation::StatusQuery { slot } => Record::of_held_slot(STATUS_QUERY, slot),
         })
+    }
+
+    /// All but kind and slot are 0.
+    fn of_held_slot(kind: u8, slot: usize) -> Record {
+        Record {
+            kind,
+            peer: 0,
+            communicator: 0,
+            tag: 0,
+            offset: 0,
+            length: 0,
+            slot: Some(slot),
+        }
     }
 
     fn operation(self) -> Option<Operation> {
         Some(match self.kind {
             RECEIVE => Operation::Receive(ReceiveOperation {
-                from: match self.peer {
-                    ANY => Source::Any,
-                    rank => Source::Rank(rank),
-                },
+                from: Source::of_number(self.peer),
                 communicator: self.communicator,
-                tag: match self.tag {
-                    ANY => Tag::Any,
-                    tag => Tag::Is(tag),
-                },
+                tag: Tag::of_number(self.tag),
                 offset: self.offset,
                 capacity: self.length,
                 slot: self.slot,
             }),
             WAIT => Operation::Wait { slot: self.slot? },
+            PROBE => Operation::Probe(ProbeOperation {
+                from: Source::of_number(self.peer),
+                communicator: self.communicator,
+                tag: Tag::of_number(self.tag),
+            }),
+            STATUS_QUERY => Operation::StatusQuery { slot: self.slot? },
             kind => Operation::Send(SendOperation {
                 mode: Mode::of_kind(kind)?,
                 to: self.peer,
@@ -139,6 +156,40 @@ impl Record {
                 slot: self.slot,
             }),
         })
+    }
+}
+
+impl Source {
+    fn number(self) -> Result<usize, OperationField> {
+        match self {
+            Source::Rank(ANY) => Err(OperationField::Peer),
+            Source::Rank(rank) => Ok(rank),
+            Source::Any => Ok(ANY),
+        }
+    }
+
+    fn of_number(peer: usize) -> Source {
+        match peer {
+            ANY => Source::Any,
+            rank => Source::Rank(rank),
+        }
+    }
+}
+
+impl Tag {
+    fn number(self) -> Result<usize, OperationField> {
+        match self {
+            Tag::Is(ANY) => Err(OperationField::Tag),
+            Tag::Is(tag) => Ok(tag),
+            Tag::Any => Ok(ANY),
+        }
+    }
+
+    fn of_number(tag: usize) -> Tag {
+        match tag {
+            ANY => Tag::Any,
+            tag => Tag::Is(tag),
+        }
     }
 }
 

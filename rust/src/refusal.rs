@@ -48,10 +48,11 @@ pub enum Refusal {
         index: usize,
     },
     /// 7: an operation takes a slot that its board holds, waits for one that
-    /// it does not hold, or receives into an area that shares a byte with that
-    /// of an earlier receive whose slot is still held. Where the whole sheet
-    /// has no such operation: one is forgotten, that is, nonblocking and never
-    /// waited for (document 02, K7; in MPI, a request leak).
+    /// it does not hold or queries it, or receives into an area that shares a
+    /// byte with that of an earlier receive whose slot is still held. Where the
+    /// whole sheet has no such operation: one is forgotten, that is, nonblocking
+    /// and never waited for (document 02, K7; in MPI, a request leak). A status
+    /// query is no wait.
     ///
     /// ```
     /// use jamturret::{check, Board, Mode, Operation, Refusal, SendOperation, Sheet};
@@ -193,7 +194,7 @@ impl fmt::Display for Refusal {
             Refusal::Operation { index } => write!(out, "a field of operation {index} is wrong"),
             Refusal::Request { index } => write!(
                 out,
-                "operation {index} takes a slot that is held, waits for one that is not, shares an area with a held one, or is never waited for"
+                "operation {index} takes a slot that is held, waits for or queries one that is not, shares an area with a held one, or is never waited for"
             ),
             Refusal::Room(room) => write!(out, "the {room} room is short"),
             Refusal::Order { index } => write!(

@@ -19,7 +19,8 @@ pub enum Verdict {
     /// K7). **Finished is not delivered**: buffered messages can be pending,
     /// and nothing else; see [`Report::pending_messages`].
     Finished = 1,
-    /// Not all boards are finished, and none is able.
+    /// Not all boards are finished, and none is able. Where nothing is pending,
+    /// each unfinished one is at a probe (document 02, K9).
     Deadlock = 2,
     /// A buffered send met no receive and did not fit the attached buffer.
     Overflow = 3,

@@ -37,8 +37,13 @@ pub struct OperationRow {
     /// The operation that it was matched with. Every matched operation has
     /// one, and no other.
     pub partner: Option<usize>,
-    /// What a matched receive got. Sends and waits have none.
+    /// What message a matched receive got, or a finished probe found. Sends,
+    /// waits and status queries have none.
     pub status: Option<Status>,
+    /// A status query found its operation complete. False in all other rows;
+    /// [`queried`](OperationRow::queried) tells a query that found it not
+    /// complete from one that is not entered.
+    pub complete: bool,
 }
 
 /// The state of an operation. The number is the one in a report.
@@ -53,11 +58,12 @@ pub enum OperationState {
     Buffered = 2,
     /// Matched.
     Matched = 3,
-    /// A wait that has ended.
-    WaitFinished = 5,
+    /// A wait, a probe or a status query that is finished.
+    Ended = 5,
 }
 
-/// What a matched receive got.
+/// What message a matched receive got, or a finished probe found: an MPI
+/// status.
 #[derive(Clone, Copy, Debug, PartialEq, Eq, Hash)]
 pub struct Status {
     /// The rank that sent the message.
@@ -66,8 +72,9 @@ pub struct Status {
     pub tag: usize,
     /// The message's full length.
     pub length: usize,
-    /// Whether the message was longer than the capacity. Its first bytes then
-    /// filled the area, and `length` is more than was copied.
+    /// Whether the message was longer than the receive's capacity. Its first
+    /// bytes then filled the area, and `length` is more than was copied. A
+    /// probe, which takes nothing, cuts nothing.
     pub cut: bool,
 }
 
@@ -95,8 +102,12 @@ impl OperationRow {
         };
         let [partner, source, tag, length, zero] = words(fields)?;
         let state = OperationState::of_byte(*state)?;
+        // Where a status query has ended, the length says that it found its
+        // operation complete.
+        let complete = (state, source, tag, length) == (OperationState::Ended, ANY, ANY, 1);
         let status = match (source, tag, length, cut) {
             (ANY, ANY, 0, 0) => None,
+            (_, _, _, 0) if complete => None,
             (_, _, _, 0 | 1) => Some(Status {
                 source,
                 tag,
@@ -105,26 +116,50 @@ impl OperationRow {
             }),
             _ => return None,
         };
-        let known = match (state, status) {
-            (OperationState::Matched, None) => partner < operations,
-            (OperationState::Matched, Some(status)) => partner < operations && status.known(boards),
-            (_, status) => partner == ANY && status.is_none(),
+        let told = status.iter().all(|status| status.known(boards));
+        let known = match state {
+            OperationState::Matched => told && partner < operations,
+            OperationState::Ended => told && partner == ANY && *cut == 0,
+            _ => status.is_none() && partner == ANY,
         };
         (known && zero == 0).then_some(OperationRow {
             state,
             partner: (partner != ANY).then_some(partner),
             status,
+            complete,
         })
+    }
+
+    /// What message a probe found: the earliest arrived one that fitted it at
+    /// its step, with its full length (document 02, K9). None in a row of
+    /// another kind, and before that step.
+    pub fn probed(&self) -> Option<Status> {
+        self.status.filter(|_| self.state == OperationState::Ended)
+    }
+
+    /// Whether a status query found its operation complete (document 02, K9).
+    /// None before its step, and in a row that no query has.
+    ///
+    /// A report does not tell kinds, and a finished wait has the row of a query
+    /// that found its operation not complete: ask this of the row of a query,
+    /// which [`Sheet::operation`](crate::Sheet::operation) tells.
+    pub fn queried(&self) -> Option<bool> {
+        let ended = self.state == OperationState::Ended && self.status.is_none();
+        ended.then_some(self.complete)
     }
 }
 
 impl OperationState {
+    /// [`Ended`](OperationState::Ended), of a wait.
+    #[allow(non_upper_case_globals)]
+    pub const WaitFinished: OperationState = OperationState::Ended;
+
     const ALL: [OperationState; 5] = [
         OperationState::NotEntered,
         OperationState::Pending,
         OperationState::Buffered,
         OperationState::Matched,
-        OperationState::WaitFinished,
+        OperationState::Ended,
     ];
 
     fn of_byte(byte: u8) -> Option<OperationState> {
@@ -156,7 +191,7 @@ impl fmt::Display for OperationState {
             OperationState::Pending => "pending",
             OperationState::Buffered => "buffered",
             OperationState::Matched => "matched",
-            OperationState::WaitFinished => "wait finished",
+            OperationState::Ended => "wait, probe or query finished",
         })
     }
 }

@@ -41,7 +41,8 @@ pub fn check(sheet: impl AsRef<[u8]>) -> Result<(), Refusal> {
 /// assert_eq!(premise, Premise::AnySource { operation: 0 });
 /// assert_eq!(
 ///     premise.to_string(),
-///     "number 20, place 0: another order may end otherwise: operation 0 receives from any source"
+///     "number 20, place 0: another order may end otherwise: \
+///      operation 0 receives or probes from any source"
 /// );
 /// # Ok::<(), Box<dyn std::error::Error>>(())
 /// ```

@@ -8,11 +8,12 @@
 
 mod common;
 
+use common::mend_crc;
 use common::parts::{forgetful_sheet, random_sheet};
 use common::random::Random;
 use jamturret::{
-    check, follow, lent, premise, run, OperationState, Outcome, Premise, Refusal, Report,
-    ReportError, Sheet, Verdict,
+    check, follow, premise, run, Operation, OperationState, Outcome, Premise, Refusal, Report,
+    ReportError, Sheet, Source, Status, Tag, Verdict,
 };
 use std::collections::BTreeMap;
 
@@ -41,14 +42,6 @@ impl Counts {
         names.sort();
         let came_up: Vec<&String> = self.0.keys().collect();
         assert_eq!(came_up, names.iter().collect::<Vec<_>>());
-    }
-}
-
-/// Writes the right CRC, if there is room for one.
-fn mend_crc(bytes: &mut [u8]) {
-    let crc = lent::crc(bytes);
-    if let Some(place) = bytes.get_mut(14..16) {
-        place.copy_from_slice(&crc.to_le_bytes());
     }
 }
 
@@ -156,25 +149,71 @@ fn look(outcome: &Outcome, bytes: &[u8], counts: &mut Counts) {
     if report.verdict() == Verdict::Finished {
         look_finished(report, counts);
     }
+    look_told(report, &sheet, counts);
+}
+
+/// Rows tell a message or a completion only where probes and queries are, and
+/// the receive behind a probe gets the told message where it asks for it
+/// (document 02, K9).
+fn look_told(report: &Report, sheet: &Sheet, counts: &mut Counts) {
+    let mut index = 0;
+    for board in sheet.boards() {
+        for place in 0..board.script.len() {
+            let row = report.operation(index).expect("each has a row");
+            match board.script[place] {
+                Operation::Probe(_) => {
+                    let ended = row.state == OperationState::Ended;
+                    assert_eq!(row.probed().is_some(), ended);
+                    look_behind_probe(report, &board.script[place..], index, counts);
+                }
+                Operation::StatusQuery { .. } => {
+                    if let Some(complete) = row.queried() {
+                        counts.add(format!("query told {complete}"));
+                    }
+                    assert_eq!(row.probed(), None);
+                }
+                _ => assert_eq!((row.probed(), row.complete), (None, false)),
+            }
+            index += 1;
+        }
+    }
+}
+
+/// The script from a probe on, which is this operation of the sheet.
+fn look_behind_probe(report: &Report, script: &[Operation], index: usize, counts: &mut Counts) {
+    let told = report.operation(index).and_then(|row| row.probed());
+    let (Some(told), [Operation::Probe(probe), Operation::Receive(receive), ..]) = (told, script)
+    else {
+        return;
+    };
+    let asked = (receive.communicator, receive.from, receive.tag);
+    let answer = (
+        probe.communicator,
+        Source::Rank(told.source),
+        Tag::Is(told.tag),
+    );
+    let row = report.operation(index + 1).expect("each has a row");
+    if asked == answer && row.state != OperationState::NotEntered {
+        assert_eq!(row.state, OperationState::Matched);
+        let cut = receive.capacity < told.length;
+        assert_eq!(row.status, Some(Status { cut, ..told }));
+        counts.add("probed and received".into());
+    }
 }
 
 /// Every request was waited for (document 02, K7): nothing is pending but
 /// messages in buffers.
 fn look_finished(report: &Report, counts: &mut Counts) {
     let states = report.operations().map(|row| row.state);
-    let (done, pending): (Vec<_>, Vec<_>) = states.partition(|state| {
-        matches!(
-            state,
-            OperationState::Matched | OperationState::WaitFinished
-        )
-    });
+    let (done, pending): (Vec<_>, Vec<_>) =
+        states.partition(|state| matches!(state, OperationState::Matched | OperationState::Ended));
     assert!(pending
         .iter()
         .all(|&state| state == OperationState::Buffered));
     assert_eq!(report.pending_messages(), pending.len());
     assert_eq!(report.pending_receives(), 0);
-    if done.contains(&OperationState::WaitFinished) && !pending.is_empty() {
-        counts.add("finished after a wait, not delivered".into());
+    if done.contains(&OperationState::Ended) && !pending.is_empty() {
+        counts.add("finished past a state 5, not delivered".into());
     }
 }
 
@@ -244,7 +283,7 @@ fn nothing_panics() {
         "Room",
         "Order",
     ];
-    let premises = [0, 20, 21, 22].map(|number| format!("premise {number}"));
+    let premises = [0, 20, 21, 22, 23].map(|number| format!("premise {number}"));
     let verdicts = [
         "still able",
         "finished",
@@ -260,8 +299,13 @@ fn nothing_panics() {
         "report board",
         "report operation",
     ];
-    let finished = ["finished after a wait, not delivered"];
-    let plain = refusals.into_iter().chain(reports).chain(finished);
+    let told = [
+        "finished past a state 5, not delivered",
+        "probed and received",
+        "query told false",
+        "query told true",
+    ];
+    let plain = refusals.into_iter().chain(reports).chain(told);
     let plain = plain.map(String::from);
     counts.have(plain.chain(premises).chain(verdicts));
 }

@@ -2,8 +2,8 @@
 //! and never taken for any.
 
 use jamturret::{
-    Board, BoardField, BuildError, HeaderField, Mode, Operation, OperationField, ReceiveOperation,
-    SendOperation, Sheet, Source, Tag,
+    Board, BoardField, BuildError, HeaderField, Mode, Operation, OperationField, ProbeOperation,
+    ReceiveOperation, SendOperation, Sheet, Source, Tag,
 };
 
 const FITS: usize = 65_535;
@@ -180,11 +180,23 @@ const RECEIVES: [(OperationField, Numbered, &str); 4] = [
     ),
 ];
 
-const WAIT: (OperationField, Numbered, &str) = (
-    OperationField::Slot,
-    |slot| Operation::Wait { slot },
-    "request slot",
-);
+const OTHERS: [(OperationField, Numbered, &str); 3] = [
+    (
+        OperationField::Slot,
+        |slot| Operation::Wait { slot },
+        "request slot",
+    ),
+    (
+        OperationField::Communicator,
+        |communicator| ProbeOperation::new(Source::Any).on(communicator).into(),
+        "communicator",
+    ),
+    (
+        OperationField::Slot,
+        |slot| Operation::StatusQuery { slot },
+        "request slot",
+    ),
+];
 
 /// The second operation of a board, after one that fits.
 fn second(operation: Operation) -> Board {
@@ -206,7 +218,7 @@ fn does_not_fit(field: OperationField, name: &str, value: usize) -> (BuildError,
 
 #[test]
 fn operations() {
-    for (field, operation, name) in SENDS.into_iter().chain(RECEIVES).chain([WAIT]) {
+    for (field, operation, name) in SENDS.into_iter().chain(RECEIVES).chain(OTHERS) {
         assert!(built(second(operation(FITS))).is_ok(), "{name}");
         for value in [FITS + 1, usize::MAX] {
             let error = does_not_fit(field, name, value);
@@ -215,14 +227,19 @@ fn operations() {
     }
 }
 
-/// The source and the tag of a receive: 65,535 fits, but says any.
+/// The source and the tag of a receive and of a probe: 65,535 fits, but says
+/// any.
 #[test]
 fn any_has_to_be_said() {
     let from: Numbered = |rank| ReceiveOperation::new(Source::Rank(rank)).into();
     let tagged: Numbered = |tag| ReceiveOperation::new(Source::Any).tag(Tag::Is(tag)).into();
+    let probed: Numbered = |rank| ProbeOperation::new(Source::Rank(rank)).into();
+    let probed_tag: Numbered = |tag| ProbeOperation::new(Source::Any).tag(Tag::Is(tag)).into();
     let cases = [
         (OperationField::Peer, from, "peer"),
         (OperationField::Tag, tagged, "tag"),
+        (OperationField::Peer, probed, "peer"),
+        (OperationField::Tag, probed_tag, "tag"),
     ];
     for (field, operation, name) in cases {
         assert!(built(second(operation(FITS - 1))).is_ok());

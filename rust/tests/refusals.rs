@@ -3,12 +3,12 @@
 
 mod common;
 
-use common::sample;
+use common::{mend_crc, sample};
 use jamturret::lent::{self, Answer};
 use jamturret::limits::{order_room, report_room, BSEND_OVERHEAD, SCRATCH_ROOM};
 use jamturret::{
-    check, follow, premise, run, Board, Mode, Operation, Premise, ReceiveOperation, Refusal, Room,
-    SendOperation, Sheet, Source,
+    check, follow, premise, run, Board, Mode, Operation, Premise, ProbeOperation, ReceiveOperation,
+    Refusal, Room, SendOperation, Sheet, Source,
 };
 
 /// A refusal with its number, its place and its words.
@@ -77,8 +77,7 @@ fn of_boards() {
         .bytes()
         .to_vec();
     sheet[26] = 0;
-    let crc = lent::crc(&sheet);
-    sheet[14..16].copy_from_slice(&crc.to_le_bytes());
+    mend_crc(&mut sheet);
     is(
         refused(sheet),
         Refusal::Counts { boards: 2 },
@@ -101,15 +100,20 @@ fn of_operations() {
         2,
         "a field of operation 2 is wrong",
     );
-    let waits = Board::new().then(send(0)).then(Operation::Wait { slot: 3 });
-    is(
-        refused(built(vec![waits])),
-        Refusal::Request { index: 1 },
-        7,
-        1,
-        "operation 1 takes a slot that is held, waits for one that is not, \
-         shares an area with a held one, or is never waited for",
-    );
+    for not_held in [
+        Operation::Wait { slot: 3 },
+        Operation::StatusQuery { slot: 3 },
+    ] {
+        let board = Board::new().then(send(0)).then(not_held);
+        is(
+            refused(built(vec![board])),
+            Refusal::Request { index: 1 },
+            7,
+            1,
+            "operation 1 takes a slot that is held, waits for or queries one that is not, \
+             shares an area with a held one, or is never waited for",
+        );
+    }
 }
 
 /// Case 1 has two boards, two operations and an inbox of four bytes. Each room
@@ -211,12 +215,26 @@ fn says(board: Board, premised: Premise, number: u32, place: u64, words: &str) {
 #[test]
 fn premises() {
     says(Board::new(), Premise::Holds, 0, 0, "holds for every order");
+    let any_source = [
+        Operation::from(ReceiveOperation::new(Source::Any)),
+        ProbeOperation::new(Source::Any).into(),
+    ];
+    for operation in any_source {
+        says(
+            Board::new().then(operation),
+            Premise::AnySource { operation: 1 },
+            20,
+            1,
+            "number 20, place 1: another order may end otherwise: \
+             operation 1 receives or probes from any source",
+        );
+    }
     says(
-        Board::new().then(ReceiveOperation::new(Source::Any)),
-        Premise::AnySource { operation: 1 },
-        20,
-        1,
-        "number 20, place 1: another order may end otherwise: operation 1 receives from any source",
+        Board::new().then(ProbeOperation::new(Source::Rank(0))),
+        Premise::Holds,
+        0,
+        0,
+        "holds for every order",
     );
     says(
         Board::new()
@@ -226,6 +244,16 @@ fn premises() {
         21,
         2,
         "number 21, place 2: another order may end otherwise: operation 2 is a ready send",
+    );
+    says(
+        Board::new()
+            .then(send(0).nonblocking(4))
+            .then(Operation::StatusQuery { slot: 4 })
+            .then(Operation::Wait { slot: 4 }),
+        Premise::StatusQuery { operation: 2 },
+        23,
+        2,
+        "number 23, place 2: another order may end otherwise: operation 2 is a status query",
     );
 }
 

@@ -41,6 +41,7 @@ fn case_1() {
         state: OperationState::Matched,
         partner: Some(1),
         status: None,
+        complete: false,
     };
     let receive = OperationRow {
         state: OperationState::Matched,
@@ -51,6 +52,7 @@ fn case_1() {
             length: 3,
             cut: false,
         }),
+        complete: false,
     };
     assert_eq!(report.operations().collect::<Vec<_>>(), [send, receive]);
     assert_eq!(report.operation(1), Some(receive));
@@ -59,10 +61,11 @@ fn case_1() {
     assert_eq!(report.board(2), None);
 }
 
-/// Every figure with a number of its own, and every state.
+/// Every figure with a number of its own, and every state: the fifth one of a
+/// wait, a probe and a status query.
 #[rustfmt::skip]
-const FIGURES: [u8; 92] = [
-    3, 1, 4, 0, 0x06, 0x05, 2, 0, 5, 0, 0x08, 0x07, 0x0A, 0x09, 0x0C, 0x0B,
+const FIGURES: [u8; 116] = [
+    3, 1, 4, 0, 0x06, 0x05, 2, 0, 7, 0, 0x08, 0x07, 0x0A, 0x09, 0x0C, 0x0B,
     0x02, 0x01, 0x04, 0x03, 0x06, 0x05, 1, 0,
     0x08, 0x07, 0x0A, 0x09, 0x0C, 0x0B, 0, 0,
     0, 0, 255, 255, 255, 255, 255, 255, 0, 0, 0, 0,
@@ -70,6 +73,8 @@ const FIGURES: [u8; 92] = [
     2, 0, 255, 255, 255, 255, 255, 255, 0, 0, 0, 0,
     5, 0, 255, 255, 255, 255, 255, 255, 0, 0, 0, 0,
     3, 1, 4, 0, 1, 0, 0x0E, 0x0D, 0x00, 0x10, 0, 0,
+    5, 0, 255, 255, 1, 0, 0xFF, 0x7F, 0x00, 0x10, 0, 0,
+    5, 0, 255, 255, 255, 255, 255, 255, 1, 0, 0, 0,
 ];
 
 #[test]
@@ -111,6 +116,7 @@ fn operations_by_hand() {
         state,
         partner: None,
         status: None,
+        complete: false,
     };
     let matched = OperationRow {
         state: OperationState::Matched,
@@ -121,6 +127,21 @@ fn operations_by_hand() {
             length: 4_096,
             cut: true,
         }),
+        complete: false,
+    };
+    let found = Status {
+        source: 1,
+        tag: 32_767,
+        length: 4_096,
+        cut: false,
+    };
+    let probe = OperationRow {
+        status: Some(found),
+        ..without(OperationState::Ended)
+    };
+    let query = OperationRow {
+        complete: true,
+        ..without(OperationState::Ended)
     };
     assert_eq!(
         report.operations().collect::<Vec<_>>(),
@@ -128,10 +149,18 @@ fn operations_by_hand() {
             without(OperationState::NotEntered),
             without(OperationState::Pending),
             without(OperationState::Buffered),
-            without(OperationState::WaitFinished),
-            matched
+            without(OperationState::Ended),
+            matched,
+            probe,
+            query
         ]
     );
+    let probed: Vec<_> = report.operations().map(|row| row.probed()).collect();
+    assert_eq!(probed, [None, None, None, None, None, Some(found), None]);
+    let queried: Vec<_> = report.operations().map(|row| row.queried()).collect();
+    let (unfinished, ended) = (None, Some(false));
+    assert_eq!(queried[..3], [unfinished; 3]);
+    assert_eq!(queried[3..], [ended, None, None, Some(true)]);
 }
 
 /// What sheets/README.md says of these reports.
@@ -171,7 +200,7 @@ fn verdicts() {
     assert_eq!(early.report.pending_receives(), 1);
     assert_eq!(
         ran("nonblocking").operation(7).map(|row| row.state),
-        Some(OperationState::WaitFinished)
+        Some(OperationState::Ended)
     );
 
     let cut = run(sample("cut"), Some(&[9; 6])).expect("it passes");
@@ -232,7 +261,7 @@ fn words() {
         OperationState::Pending,
         OperationState::Buffered,
         OperationState::Matched,
-        OperationState::WaitFinished,
+        OperationState::Ended,
     ];
     let operations = operations.map(|state| state.to_string());
     let expected = [
@@ -240,7 +269,7 @@ fn words() {
         "pending",
         "buffered",
         "matched",
-        "wait finished",
+        "wait, probe or query finished",
     ];
     assert_eq!(operations, expected);
 }
@@ -274,10 +303,42 @@ fn foreign_bytes() {
         ("source 2 of 2", 48, 2, operation(1)),
         ("tag 32,775", 51, 0x80, operation(1)),
         ("length 4,099", 53, 0x10, operation(1)),
+        ("finished with a partner", 44, 5, operation(1)),
     ];
     for (name, at, value, error) in changes {
         let mut bytes = CASE_1;
         bytes[at] = value;
+        assert_eq!(Report::parse(&bytes), Err(error), "{name}");
+    }
+}
+
+/// Rows that no probe and no status query has: those of the figures with one
+/// byte changed.
+#[test]
+fn foreign_answers() {
+    const PROBE: usize = 5;
+    const QUERY: usize = 6;
+    let changes = [
+        ("a probe that cuts", PROBE, 1, 1),
+        ("a probe with partner 255", PROBE, 3, 0),
+        ("a probe of rank 2 of 2", PROBE, 4, 2),
+        ("a probe of tag 65,535", PROBE, 7, 0xFF),
+        ("a probe of length 4,097", PROBE, 8, 1),
+        ("a probe that is pending", PROBE, 0, 1),
+        ("not zero after a probe", PROBE, 10, 1),
+        ("a query that cuts", QUERY, 1, 1),
+        ("a query with partner 255", QUERY, 3, 0),
+        ("a query with a source", QUERY, 5, 0),
+        ("a query with a tag", QUERY, 7, 0),
+        ("a query that told 2", QUERY, 8, 2),
+        ("a query that told 257", QUERY, 9, 1),
+        ("a query that is not entered", QUERY, 0, 0),
+        ("a query that is buffered", QUERY, 0, 2),
+    ];
+    for (name, index, at, value) in changes {
+        let mut bytes = FIGURES;
+        bytes[32 + 12 * index + at] = value;
+        let error = ReportError::Operation { index };
         assert_eq!(Report::parse(&bytes), Err(error), "{name}");
     }
 }

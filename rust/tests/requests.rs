@@ -18,6 +18,10 @@ fn wait(slot: usize) -> Operation {
     Operation::Wait { slot }
 }
 
+fn query(slot: usize) -> Operation {
+    Operation::StatusQuery { slot }
+}
+
 /// A blocking send.
 fn send(to: usize) -> Operation {
     SendOperation::new(Mode::Standard, to).into()
@@ -123,6 +127,38 @@ fn other_rules_first() {
     all_refuse(&no_rank, Refusal::Operation { index: 1 });
 }
 
+/// A status query names a slot that its board holds there, and frees nothing:
+/// the slot cannot be taken again, and wants its wait (document 02, K9).
+#[test]
+fn queries() {
+    let cases: [(&[Operation], &[Operation], usize); 9] = [
+        // Never taken, not yet, no more, another, another board's.
+        (&[query(3)], &[], 0),
+        (&[query(3), isend(3), wait(3)], &[], 0),
+        (&[isend(3), wait(3), query(3)], &[], 2),
+        (&[isend(3), query(4), wait(3)], &[], 1),
+        (&[isend(3), wait(3)], &[query(3)], 2),
+        (&[query(3)], &[isend(3), wait(3)], 0),
+        // Held behind the query.
+        (&[ireceive(0, 3), query(3), isend(3), wait(3)], &[], 2),
+        (&[isend(3), query(3)], &[], 0),
+        // A forgotten request comes last.
+        (&[isend(3), query(3)], &[query(3)], 2),
+    ];
+    for (first, last, index) in cases {
+        all_refuse(&scripts(first, last), Refusal::Request { index });
+    }
+    for (first, index) in [
+        (&[isend(3), query(3), query(3), wait(3)][..], 1),
+        (&[isend(3), wait(3), ireceive(0, 3), query(3), wait(3)], 3),
+    ] {
+        let sheet = scripts(first, &[]);
+        assert_eq!(Sheet::parse(sheet.bytes()), Ok(sheet.clone()));
+        let premised = Premise::StatusQuery { operation: index };
+        assert_eq!(premise(&sheet), Ok(premised));
+    }
+}
+
 /// The wait may be the last operation of its script, and of the whole sheet.
 #[test]
 fn waited_for() {
@@ -185,7 +221,8 @@ fn forgotten(sheet: &Sheet) -> Option<usize> {
             let slot = match operation {
                 Operation::Send(send) => send.slot,
                 Operation::Receive(receive) => receive.slot,
-                Operation::Wait { .. } => None,
+                Operation::Wait { .. } | Operation::StatusQuery { .. } => None,
+                Operation::Probe(_) => None,
             };
             let later = &board.script[place + 1..];
             slot.is_some_and(|slot| !later.contains(&wait(slot)))

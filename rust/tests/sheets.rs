@@ -11,7 +11,8 @@ use jamturret::limits::{
     MOST_PAYLOAD, MOST_SLOT, MOST_TAG,
 };
 use jamturret::{
-    check, Board, Mode, Operation, ReceiveOperation, Refusal, SendOperation, Sheet, Source, Tag,
+    check, Board, Mode, Operation, ProbeOperation, ReceiveOperation, Refusal, SendOperation, Sheet,
+    Source, Tag,
 };
 
 fn send(mode: Mode, to: usize) -> SendOperation {
@@ -85,6 +86,48 @@ fn nonblocking_and_waits() {
     is_sample("nonblocking", vec![sender, receiver], 4);
 }
 
+#[test]
+fn probes() {
+    let sender = Board::new()
+        .attached(5 + 32)
+        .then(send(Mode::Buffered, 1).tag(2).bytes(0, 5))
+        .then(send(Mode::Synchronous, 1).tag(1).bytes(5, 3));
+    let probe = ProbeOperation::new(Source::Rank(0)).tag(Tag::Any);
+    let receiver = Board::new()
+        .inbox(8)
+        .then(probe)
+        .then(receive(0).tag(Tag::Is(2)).area(0, 5))
+        .then(probe)
+        .then(receive(0).tag(Tag::Is(1)).area(5, 3));
+    is_sample("probe-sizes-receive", vec![sender, receiver], 8);
+
+    let sender = Board::new().then(send(Mode::Synchronous, 1).tag(1).bytes(0, 3));
+    let receives = |offset| receive(0).tag(Tag::Is(1)).area(offset, 3);
+    let receiver = Board::new()
+        .inbox(6)
+        .then(probe)
+        .then(receives(0))
+        .then(probe)
+        .then(receives(3));
+    is_sample("hangs-on-probe", vec![sender, receiver], 3);
+}
+
+#[test]
+fn status_queries() {
+    let query = Operation::StatusQuery { slot: 4 };
+    let receiver = Board::new()
+        .inbox(3)
+        .then(receive(1).area(0, 2).nonblocking(4))
+        .then(query)
+        .then(receive(1).tag(Tag::Is(1)).area(2, 1))
+        .then(query)
+        .then(Operation::Wait { slot: 4 });
+    let sender = Board::new()
+        .then(send(Mode::Standard, 0).bytes(0, 2))
+        .then(send(Mode::Standard, 0).tag(1).bytes(2, 1));
+    is_sample("query-before-and-after", vec![receiver, sender], 3);
+}
+
 /// Every field of every kind with a number of its own, byte by byte. Bytes 14
 /// and 15 are the CRC.
 #[test]
@@ -112,18 +155,26 @@ fn bytes_by_hand() {
                     .nonblocking(0x1f),
             )
             .then(send(Mode::Ready, 1).tag(0x0e))
+            .then(Operation::StatusQuery { slot: 0x1f })
+            .then(
+                ProbeOperation::new(Source::Rank(1))
+                    .tag(Tag::Is(0x0f10))
+                    .on(2),
+            )
             .then(Operation::Wait { slot: 0x1f }),
     ];
     let sheet = Sheet::build(3, boards, &[0xAA, 0xBB, 0xCC]).expect("every number fits");
     #[rustfmt::skip]
     let expected = [
-        2, 0,  3, 0,  5, 0,  16, 0,  32, 0,  112, 0,  3, 0,  0, 0,
+        2, 0,  3, 0,  7, 0,  16, 0,  32, 0,  144, 0,  3, 0,  0, 0,
         0, 0,  2, 0,  0x02, 0x01,  0x04, 0x03,
-        2, 0,  3, 0,  0x0a, 0,  0x0b, 0,
+        2, 0,  5, 0,  0x0a, 0,  0x0b, 0,
         5, 1,  1, 0,  2, 0,  0, 0,  0x06, 0x05,  0x01, 0x02,  7, 0,  9, 0,
         6, 0,  0, 0,  0, 0,  0, 0,  0, 0,  0, 0,  0, 0,  9, 0,
         2, 1,  0, 0,  1, 0,  0, 0,  0x0d, 0x0c,  1, 0,  2, 0,  0x1f, 0,
         4, 0,  1, 0,  0, 0,  0, 0,  0x0e, 0,  0, 0,  0, 0,  0, 0,
+        8, 0,  0, 0,  0, 0,  0, 0,  0, 0,  0, 0,  0, 0,  0x1f, 0,
+        7, 0,  1, 0,  2, 0,  0, 0,  0x10, 0x0f,  0, 0,  0, 0,  0, 0,
         6, 0,  0, 0,  0, 0,  0, 0,  0, 0,  0, 0,  0, 0,  0x1f, 0,
         0xAA, 0xBB, 0xCC,
     ];
@@ -133,8 +184,10 @@ fn bytes_by_hand() {
     assert_eq!(check(&sheet), Ok(()));
     assert_eq!(Sheet::parse(sheet.bytes()), Ok(sheet.clone()));
     assert_eq!(sheet.operation(1), Some(&Operation::Wait { slot: 9 }));
-    assert_eq!(sheet.operation(4), Some(&Operation::Wait { slot: 0x1f }));
-    assert_eq!(sheet.operation(5), None);
+    let query = Operation::StatusQuery { slot: 0x1f };
+    assert_eq!(sheet.operation(4), Some(&query));
+    assert_eq!(sheet.operation(6), Some(&Operation::Wait { slot: 0x1f }));
+    assert_eq!(sheet.operation(7), None);
 }
 
 #[test]
@@ -224,6 +277,13 @@ fn limits_of_operations() {
     is_limit(MOST_TAG, refusal, |most| with(0, send.tag(most), 0));
     is_limit(MOST_TAG, refusal, |most| {
         with(0, receive(1).tag(Tag::Is(most)), 0)
+    });
+    is_limit(MOST_TAG, refusal, |most| {
+        with(
+            0,
+            ProbeOperation::new(Source::Rank(1)).tag(Tag::Is(most)),
+            0,
+        )
     });
     is_limit(MOST_SLOT, refusal, |most| {
         let started = Board::new().then(send.nonblocking(most));

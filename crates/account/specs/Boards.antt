@@ -16,11 +16,11 @@ use lib.ListN.{length, List·getD-eq-default}
 use lib.Seq.{getD-set-same, getD-set-other, set-out}
 use borrow.Author.Tests.{eqb-true, eqb-false, ne-eqb}
 use Rattle.rules.specs.Sheet.{Sheet, Op, board, op, rank-of, is-receive, is-ready, is-buffered, only-half, no-half}
-use Rattle.rules.specs.Job.{Job, Place, place, job, place-at, entry-at, with-entries, with-places, with-messages, with-receives}
+use Rattle.rules.specs.Job.{Job, Entry, Place, place, job, place-at, entry-at, with-entries, with-places, with-messages, with-receives}
 use Rattle.rules.specs.Job.{with-memory, with-stop, with-steps}
 use Rattle.rules.specs.Step.{next-op, in-waiting-half, first-message, first-receive, charge-of, charged, released, with-place}
-use Rattle.rules.specs.Step.{charge, release, matched-rows, matched, with-state, pend-message, pend-receive, stopped, one-finished}
-use Rattle.rules.specs.Step.{now-waiting, initiated, fits-buffer, unmatched, sent, received, initiating, ended, step}
+use Rattle.rules.specs.Step.{charge, release, matched-rows, matched, with-row, with-state, pend-message, pend-receive, stopped, one-finished}
+use Rattle.rules.specs.Step.{now-waiting, initiated, fits-buffer, unmatched, sent, received, initiating, half-row, ended, step}
 use Rattle.laws.specs.Tests.{decided, true-not-false}
 use Rattle.laws.specs.Fields.{ready-not-buffered}
 use Rattle.account.specs.declared.Account.{Account}
@@ -100,9 +100,9 @@ unfolding account-of one-finished now-waiting place
 settled size q true = refl
 settled size q false = refl
 
-entered-stays : (s : Sheet) (x : Job) (b i v : ℕ) → board-account s (with-state i v x) b ≡ board-account s x b
-unfolding board-account with-state with-entries job place-at
-entered-stays s x b i v = refl
+row-stays : (s : Sheet) (x : Job) (b i : ℕ) (e : Entry) → board-account s (with-row i e x) b ≡ board-account s x b
+unfolding board-account with-entries job place-at
+row-stays s x b i e = refl
 
 module _ (s : Sheet) (x : Job) (b : ℕ) where
   pended-stays : (i v : ℕ) → board-account s (pend-message i v x) b ≡ board-account s x b
@@ -139,10 +139,13 @@ module _ (s : Sheet) (x : Job) (b : ℕ) where
       q : Place
       q = one-finished (place-at x r)
 
-      go : (only : Bool) → board-account s (with-place r q (cond only (with-state i 5 x) x)) b ≡ board-account s x b
+      e : Entry
+      e = half-row s x i
+
+      go : (only : Bool) → board-account s (with-place r q (cond only (with-row i e x) x)) b ≡ board-account s x b
       go true =
-          same-figures s (with-state i 5 x) r b q (settled (board s r .attached) (place-at x r) true ∙ sym (entered-stays s x r i 5))
-          ∙ entered-stays s x b i 5
+          same-figures s (with-row i e x) r b q (settled (board s r .attached) (place-at x r) true ∙ sym (row-stays s x r i e))
+          ∙ row-stays s x b i e
       go false = same-figures s x r b q (settled (board s r .attached) (place-at x r) true)
 
 -- A CHARGE: the account is all that it reads of a place, and all that it changes

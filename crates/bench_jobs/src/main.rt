@@ -1,8 +1,8 @@
 // Runs outside vectors through the library and prints what it found, to be held to the file `stdout`.
 // CRC-16/IBM-3740 of the catalogue's check text, and of texts whose CRC another program has given (Python's binascii.crc_hqx);
-// then the sheets in `data/`: bench jobs 13 and 14 of document 01, large sheets, the longest ones (document 02, K11), and a sheet
-// for each refusal that check can give. What each must give was worked out by another program, which steps through document 01's
-// rules.
+// then the sheets in `data/`: bench jobs 13 and 14 of document 01, large sheets, the longest ones (document 02, K11), probes and
+// queries (K9), and a sheet for each refusal that check can give. What each must give was worked out by another program, which
+// steps through document 01's rules.
 mod jobs;
 mod lent;
 
@@ -68,6 +68,15 @@ fn longest() {
     job(b"longest-overflow.sheet");
 }
 
+// Probes and queries (document 02, K9): a ring of 2,048 operations with a probe before each receive; a small sheet for which the
+// order does not matter; probes from any source and queries; and boards that hang, at probes among others.
+fn probes() {
+    job(b"probes-ring.sheet");
+    job(b"probes-calm.sheet");
+    job(b"probes-and-queries.sheet");
+    job(b"probes-deadlock.sheet");
+}
+
 // Document 01, "When the desk says no": 1, 3, 4, 5 twice, 7 three times. Of those three, the first two forget a request as well,
 // but another rule goes before it; the last forgets two, and nothing else is wrong (document 02, K7).
 fn refused() {
@@ -87,5 +96,6 @@ fn main() {
     fourteen();
     large();
     longest();
+    probes();
     refused();
 }

@@ -2,25 +2,25 @@
 --   finished-few, steps-few, peak-few, in-use-few, row-fits
 -- Assumes nothing.
 use mathlib.Core.Path.{_≡_, refl, sym, ap, subst, _∙_}
+use mathlib.Core.Logic.{_⊎_, inl, inr}
 use mathlib.Core.Bool.{Bool, true, false, _&&_, cond}
 use mathlib.Core.List.{List}
 use Prim.Native.Nat.{ℕ, suc, _*_, _≤_, _<_}
 use native.Mathlib.Omega.{arith}
-use native.Mathlib.Decide.{ℕ-discrete}
+use native.Mathlib.Decide.{ℕ-discrete, decLe}
 use lib.Dec.{eqb, leb}
 use borrow.Author.Tests.{leb-true}
-use Rattle.rules.specs.Limits.{most-ops, most-attached, most-inbox, any, absent}
-use Rattle.rules.specs.Sheet.{Sheet, op, board, P-of, N-of, rank-of, counts-before, inbox-start, is-send, is-receive, only-half}
-use Rattle.rules.specs.Refusal.{board-good, room-for, op-good}
+use Rattle.rules.specs.Limits.{most-ops, most-attached, most-inbox, absent}
+use Rattle.rules.specs.Sheet.{Sheet, op, board, P-of, N-of, rank-of, counts-before, inbox-start, is-send, is-receive, only-half, tells-message, tells-completion, tells}
+use Rattle.rules.specs.Refusal.{board-good}
 use Rattle.rules.specs.Job.{Job, entry, bare-entry, entry-at, place-at}
-use Rattle.rules.specs.Step.{is-cut}
-use Rattle.laws.specs.Tests.{and-left, and-right, not-so}
-use Rattle.laws.specs.Fields.{fields-tag}
+use Rattle.rules.specs.Step.{is-cut, probe-row, query-row}
+use Rattle.laws.specs.Tests.{and-left, and-right, or-cases, not-so}
 use Rattle.laws.specs.ReportRows.{Fits-row}
 use Rattle.invariant.specs.sheet.Valid.{Valid}
-use Rattle.invariant.specs.Invariant.{state-at, partner-at, row-of, Reached}
+use Rattle.invariant.specs.Invariant.{Entered, state-at, partner-at, row-of, Reached}
 use Rattle.invariant.specs.sheet.Kinds.{kind-send}
-use Rattle.invariant.specs.sheet.Extents.{send-inside, receive-inside, send-extent}
+use Rattle.invariant.specs.sheet.Extents.{send-inside, receive-inside, send-extent, send-tag}
 use Rattle.invariant.specs.preserve.Rows.{row-bare, row-message, row-receive}
 use Rattle.invariant.specs.preserve.StepCount.{steps-bound}
 
@@ -48,10 +48,6 @@ module _ {s : Sheet} (g : Valid s) {lent : List ℕ} {x : Job} (R : Reached s le
   in-use-few r l = omega (arith, R .in-use-peak r, peak-few r l)
 
   -- a row: partner, source, tag and length are those of an operation of the sheet, or absent
-  send-tag : (m : ℕ) → m < N-of s → op s m .tag ≤ any
-  unfolding op-good
-  send-tag m l = fields-tag (P-of s) (s .comms) (room-for s m) (op s m) (g .ops-good m l)
-
   bare-fits : (v : ℕ) → Fits-row (bare-entry v)
   unfolding bare-entry entry
   bare-fits v =
@@ -79,14 +75,46 @@ module _ {s : Sheet} (g : Valid s) {lent : List ℕ} {x : Job} (R : Reached s le
       record {
         partner-fits = omega (arith, g .ops-few, l);
         source-fits = omega (arith, g .rank-small m l, g .boards-few);
-        tag-fits = omega (arith, send-tag m l);
+        tag-fits = omega (arith, send-tag s g m sends);
         long-fits = omega (arith, send-extent s g m sends, g .payload-small);
       }
 
+  -- the row of an operation that tells
+  told-fits : (j : ℕ) → tells (op s j) ≡ true → Entered x j → Fits-row (entry-at x j)
+  unfolding tells probe-row query-row entry
+  told-fits j t there = go (or-cases (tells-message (op s j)) (tells-completion (op s j)) t)
+    where
+      few : (b : Bool) → cond b 1 0 < 2
+      few true = omega arith
+      few false = omega arith
+
+      answered : (b : Bool) → Fits-row (query-row b)
+      answered b =
+          record {
+            partner-fits = omega arith;
+            source-fits = omega arith;
+            tag-fits = omega arith;
+            long-fits = omega (arith, few b);
+          }
+
+      go : (tells-message (op s j) ≡ true) ⊎ (tells-completion (op s j) ≡ true) → Fits-row (entry-at x j)
+      go (inl e) =
+          let h = R .told .probes j e there in
+          let m = h .0 in
+          let l = send-inside s m (h .1 .sends) in
+          subst Fits-row (sym (h .1 .row))
+          (record {
+            partner-fits = omega arith;
+            source-fits = omega (arith, g .rank-small m l, g .boards-few);
+            tag-fits = omega (arith, send-tag s g m (h .1 .sends));
+            long-fits = omega (arith, send-extent s g m (h .1 .sends), g .payload-small);
+          })
+      go (inr e) =
+          let h = R .told .queries j e there in
+          subst Fits-row (sym (h .1 .row)) (answered (h .0))
+
   pub row-fits : (j : ℕ) → Fits-row (entry-at x j)
-  row-fits j =
-      subst Fits-row (sym (R .shaped .row j))
-      (go (ℕ-discrete (state-at x j) 3) (is-receive (op s j)) refl)
+  row-fits j = by-role (tells (op s j)) refl (decLe 1 (state-at x j))
     where
       go : Dec (state-at x j ≡ 3) → (b : Bool) → is-receive (op s j) ≡ b → Fits-row (row-of s j (state-at x j) (partner-at x j))
       go (no d) b e = subst Fits-row (sym (row-bare s j (state-at x j) (partner-at x j) d)) (bare-fits (state-at x j))
@@ -100,3 +128,8 @@ module _ {s : Sheet} (g : Valid s) {lent : List ℕ} {x : Job} (R : Reached s le
           let half = not-so (only-half (op s j)) (λ o. R .shaped .only-half-unmatched j o t) in
           let pair = R .stable .message-pair j (kind-send s g j inside half e) t in
           subst Fits-row (sym (ap (λ (v : ℕ). row-of s j v q) t ∙ row-message s j q e)) (message-fits q (receive-inside s q (pair .receives)))
+
+      by-role : (b : Bool) → tells (op s j) ≡ b → Dec (1 ≤ state-at x j) → Fits-row (entry-at x j)
+      by-role true t (yes there) = told-fits j t there
+      by-role true t (no out) = subst Fits-row (sym (R .shaped .row-new j (omega arith))) (bare-fits 0)
+      by-role false t d = subst Fits-row (sym (R .shaped .row j t)) (go (ℕ-discrete (state-at x j) 3) (is-receive (op s j)) refl)

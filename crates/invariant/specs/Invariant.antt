@@ -6,13 +6,15 @@
 --   Stable          the matching is stable
 --   Arrived         in which order the entered sends came
 --   Placed          which operations are entered and complete, by where the boards stand
---   Shaped          a row is determined by its state and partner
+--   Shaped          a row is determined by its state and partner, but for operations that tell
+--   Told            what the rows of operations that tell say
 --   Reached         all of it, and the waiting lists, charges, memory and steps
+--   Telling         what a step does to what is told
 --   Extended        the invariant after a step, and what the step did to the order of arrival
 -- Assumes nothing: these are definitions.
 use mathlib.Core.Path.{_≡_}
 use mathlib.Core.Logic.{_⊎_, _≢_}
-use mathlib.Core.Bool.{true, false, _&&_, _||_, cond}
+use mathlib.Core.Bool.{Bool, true, false, _&&_, _||_, cond}
 use mathlib.Core.List.{List}
 use mathlib.Core.Option.{some}
 use Prim.Native.Nat.{ℕ, zero, suc, _+_, _≤_, _<_}
@@ -20,8 +22,9 @@ use lib.Dec.{eqb, ltb}
 use lib.ListN.{length}
 use Rattle.rules.specs.Limits.{absent}
 use Rattle.rules.specs.Sheet.{Sheet, Op, op, board, P-of, N-of, rank-of, is-send, is-receive, only-half, is-buffered, no-half}
+use Rattle.rules.specs.Sheet.{tells-message, tells-completion, tells}
 use Rattle.rules.specs.Job.{Job, Entry, Stop, entry, bare-entry, entry-at, place-at}
-use Rattle.rules.specs.Step.{next-op, half-complete, fits-with, is-cut, charge-of, delivered, is-none}
+use Rattle.rules.specs.Step.{next-op, half-complete, complete-if, waited, fits-with, first-message, is-cut, charge-of, delivered, is-none, probe-row, query-row, half-row}
 use Rattle.laws.specs.Sums.{sum-below}
 use Rattle.laws.specs.WaitingLists.{Holds}
 
@@ -55,6 +58,12 @@ pub record Matched-pair (s : Sheet) (x : Job) (m q : ℕ) : Type 0 where
   pub receive-matched : state-at x q ≡ 3
   pub to-receive : partner-at x m ≡ q
   pub to-message : partner-at x q ≡ m
+
+-- messages that came before m and fit q were taken by receives before q
+abbrev pub First-sent : Sheet → (arrival : ℕ → ℕ) → Job → (m q : ℕ) → Type 0
+First-sent s arrival x m q =
+    (k : ℕ) → is-send (op s k) ≡ true → Entered x k → arrival k < arrival m → fits-with s k q ≡ true →
+    (state-at x k ≡ 3) × (partner-at x k < q)
 
 -- STABLE, where `arrival` gives the order in which the sends were entered
 pub record Stable (s : Sheet) (arrival : ℕ → ℕ) (x : Job) : Type 0 where
@@ -95,9 +104,10 @@ pub record Placed (s : Sheet) (x : Job) : Type 0 where
   -- an operation is entered exactly when it lies before its board's reach (determinacy)
   pub entered-if : (j : ℕ) → j < N-of s → j < reach s x (rank-of s j) → Entered x j
   pub entered-only : (j : ℕ) → Entered x j → (j < N-of s) × (j < reach s x (rank-of s j))
-  -- a finished operation with a waiting half had what it waited for complete (disjoint areas)
+  -- a finished operation with a waiting half had what it waited for complete (disjoint areas). One that tells waits for nothing
+  -- that would stay so
   pub passed-complete : (j : ℕ) → j < N-of s → j < next-op s x (rank-of s j) → no-half (op s j) ≡ false →
-      half-complete s x j ≡ true
+      tells (op s j) ≡ false → half-complete s x j ≡ true
 
 -- SHAPED: a row by its state and partner
 unfoldable pub row-of : Sheet → (j state partner : ℕ) → Entry
@@ -114,10 +124,31 @@ unmatched-state o = cond (only-half o) 5 (cond (is-buffered o) 2 1)
 -- what the rows of a job can be
 pub record Shaped (s : Sheet) (x : Job) : Type 0 where
   -- (the report's rows; whole or cut)
-  pub row : (j : ℕ) → entry-at x j ≡ row-of s j (state-at x j) (partner-at x j)
+  pub row : (j : ℕ) → tells (op s j) ≡ false → entry-at x j ≡ row-of s j (state-at x j) (partner-at x j)
+  pub row-new : (j : ℕ) → state-at x j ≡ 0 → entry-at x j ≡ bare-entry 0
   -- (determinacy, still-able)
   pub unmatched : (j : ℕ) → Entered x j → state-at x j ≢ 3 → state-at x j ≡ unmatched-state (op s j)
   pub only-half-unmatched : (j : ℕ) → only-half (op s j) ≡ true → state-at x j ≢ 3
+
+-- TOLD (document 02, K9): message m is the one that probe p told. It had not been taken when p looked, so no receive before p ever
+-- takes it; and those that came before m and fit p had been taken
+pub record Probe-told (s : Sheet) (arrival : ℕ → ℕ) (x : Job) (p m : ℕ) : Type 0 where
+  pub row : entry-at x p ≡ probe-row s (some m)
+  pub sends : is-send (op s m) ≡ true
+  pub fit : fits-with s m p ≡ true
+  pub entered : Entered x m
+  pub not-taken : state-at x m ≡ 3 → p < partner-at x m
+  pub first-sent : First-sent s arrival x m p
+
+-- query p told whether the operation that holds its slot was complete: what is complete stays so
+pub record Query-told (s : Sheet) (x : Job) (p : ℕ) (answer : Bool) : Type 0 where
+  pub row : entry-at x p ≡ query-row answer
+  pub complete : answer ≡ true → complete-if x (waited s p) ≡ true
+
+-- what the rows of operations that tell say (what is told does not depend on the order; Probe-then-receive; the report's rows)
+pub record Told (s : Sheet) (arrival : ℕ → ℕ) (x : Job) : Type 0 where
+  pub probes : (p : ℕ) → tells-message (op s p) ≡ true → Entered x p → (m : ℕ) × Probe-told s arrival x p m
+  pub queries : (p : ℕ) → tells-completion (op s p) ≡ true → Entered x p → (answer : Bool) × Query-told s x p answer
 
 -- CHARGED: what operation j has in the attached buffer of board r
 unfoldable pub charge-in : Sheet → Job → (r j : ℕ) → ℕ
@@ -162,6 +193,7 @@ pub record Reached (s : Sheet) (i : List ℕ) (x : Job) : Type 0 where
   pub arrived : Arrived s arrival x
   pub placed : Placed s x
   pub shaped : Shaped s x
+  pub told : Told s arrival x
   -- the waiting lists hold exactly what is pending: messages by arrival, each board's receives in script order (steps)
   pub messages-held : Holds (Arrived-before arrival) (Pending-message s x) (x .messages)
   pub receives-held : Holds (Posted-before s) (Pending-receive s x) (x .receives)
@@ -179,6 +211,15 @@ pub record Reached (s : Sheet) (i : List ℕ) (x : Job) : Type 0 where
   pub stop-at : (t : Stop) → x .stop ≡ some t → Stopped s x t
 
 -- A STEP
+-- rows of operations that tell stay, and one that a step enters is what the rule gives; what probes told stays told, and the
+-- probe that a step enters tells the message that it finds
+pub record Telling (s : Sheet) (arrival : ℕ → ℕ) (x : Job) (now : ℕ → ℕ) (y : Job) (i : ℕ) : Type 0 where
+  pub kept : (j : ℕ) → tells (op s j) ≡ true → Entered x j → entry-at y j ≡ entry-at x j
+  pub row : tells (op s i) ≡ true → Entered y i → (Entered x i → ⊥) → entry-at y i ≡ half-row s x i
+  pub on : (p m : ℕ) → tells-message (op s p) ≡ true → Entered x p → Probe-told s arrival x p m → Probe-told s now y p m
+  pub new : (m : ℕ) → tells-message (op s i) ≡ true → Entered y i → (Entered x i → ⊥) → first-message s i (x .messages) ≡ some m →
+      Probe-told s now y i m
+
 -- the invariant of a job after a step of operation i, and what the step did to the order of arrival: what was entered came when
 -- it came, and i came last where it entered
 pub record Extended {s : Sheet} {lent : List ℕ} {x : Job} (R : Reached s lent x) (y : Job) (i : ℕ) : Type 0 where
@@ -187,3 +228,4 @@ pub record Extended {s : Sheet} {lent : List ℕ} {x : Job} (R : Reached s lent 
   pub back : (j : ℕ) → j ≢ i → Entered y j → Entered x j
   pub old : (j : ℕ) → Entered x j → reached .arrival j ≡ R .arrival j
   pub new : Entered y i → (Entered x i → ⊥) → (j : ℕ) → Entered x j → reached .arrival j < reached .arrival i
+  pub telling : Telling s (R .arrival) x (reached .arrival) y i

@@ -7,6 +7,7 @@
 --   Charges         bytes in use
 --   Memory          the inboxes
 --   SameRows        jobs with the same rows
+--   Told            what probes and queries told
 --   OngoingSteps    the three ways to step without stopping
 --   Stop            a stopping step
 --   Step            an able step keeps the whole invariant
@@ -19,6 +20,7 @@ pub mod WaitingLists
 pub mod Charges
 pub mod Memory
 pub mod SameRows
+pub mod Told
 pub mod OngoingSteps
 pub mod Stop
 pub mod Step

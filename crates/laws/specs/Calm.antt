@@ -13,14 +13,29 @@ use lib.Dec.{leb}
 use lib.ListN.{length, getD, take, drop, length-drop}
 use lib.Seq.{take-suc, getD-drop}
 use borrow.Author.Tests.{leb-true, le-leb, not-true}
-use Rattle.rules.specs.Sheet.{Sheet, Op, Board, op, board, no-op, no-board, P-of, N-of, is-ready, is-buffered}
+use Rattle.rules.specs.Sheet.{Sheet, Op, Board, op, board, no-op, no-board, P-of, N-of, is-ready, is-buffered, tells-completion}
 use Rattle.rules.specs.Step.{charge-of}
 use Rattle.rules.specs.Claims.{calm, none-wild, is-any-source, all-charges, script, all-covered}
 use Rattle.laws.specs.Tests.{and-left, and-right, and-both}
 
--- neither a receive from any source (MPI: a wildcard) nor a ready send
+-- neither a receive or probe from any source (MPI: a wildcard), nor a ready send, nor a query
 abbrev pub Not-wild : Op → Type 0
-Not-wild o = (is-any-source o ≡ false) × (is-ready o ≡ false)
+Not-wild o = (is-any-source o ≡ false) × (is-ready o ≡ false) × (tells-completion o ≡ false)
+
+abbrev tame : Op → Bool
+tame o = not (is-any-source o) && (not (is-ready o) && not (tells-completion o))
+
+tame-not-wild : (o : Op) → tame o ≡ true → Not-wild o
+tame-not-wild o h =
+    let rest = not (is-ready o) && not (tells-completion o) in
+    let others = and-right (not (is-any-source o)) rest h in (
+      not-true (is-any-source o) (and-left (not (is-any-source o)) rest h),
+      not-true (is-ready o) (and-left (not (is-ready o)) (not (tells-completion o)) others),
+      not-true (tells-completion o) (and-right (not (is-ready o)) (not (tells-completion o)) others),
+    )
+
+not-wild-tame : (o : Op) → Not-wild o → tame o ≡ true
+not-wild-tame o h = and-both (ap not (h .0)) (and-both (ap not (h .1)) (ap not (h .2)))
 
 -- a board whose attached buffer covers the charges of all its buffered sends
 abbrev pub Covered : Board → List Op → Type 0
@@ -29,20 +44,14 @@ Covered b os = all-charges (script b os) ≤ b .attached
 wild-none : (os : List Op) → none-wild os ≡ true → (k : ℕ) → k < length os → Not-wild (getD os k no-op)
 unfolding none-wild
 wild-none [] h k l = absurd (omega arith)
-wild-none (o ∷ os) h zero l =
-    let both = and-left (not (is-any-source o) && not (is-ready o)) (none-wild os) h in (
-      not-true (is-any-source o) (and-left (not (is-any-source o)) (not (is-ready o)) both),
-      not-true (is-ready o) (and-right (not (is-any-source o)) (not (is-ready o)) both),
-    )
-wild-none (o ∷ os) h (suc k) l =
-    wild-none os (and-right (not (is-any-source o) && not (is-ready o)) (none-wild os) h) k (omega arith)
+wild-none (o ∷ os) h zero l = tame-not-wild o (and-left (tame o) (none-wild os) h)
+wild-none (o ∷ os) h (suc k) l = wild-none os (and-right (tame o) (none-wild os) h) k (omega arith)
 
 not-wild-all : (os : List Op) → ((k : ℕ) → k < length os → Not-wild (getD os k no-op)) → none-wild os ≡ true
 unfolding none-wild
 not-wild-all [] h = refl
 not-wild-all (o ∷ os) h =
-    let first : Not-wild o = h 0 (omega arith) in
-    and-both (and-both (ap not (first .0)) (ap not (first .1))) (not-wild-all os (λ k l. h (suc k) (omega arith)))
+    and-both (not-wild-tame o (h 0 (omega arith))) (not-wild-all os (λ k l. h (suc k) (omega arith)))
 
 covered-each : (bs : List Board) (os : List Op) → all-covered bs os ≡ true → (r : ℕ) → r < length bs → Covered (getD bs r no-board) os
 unfolding all-covered

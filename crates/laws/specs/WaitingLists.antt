@@ -6,18 +6,18 @@
 --   holds-more         one more at the end
 --   holds-less         the first v taken out
 --   holds-same         the same list under other words
---   first-by-none, first-by-some   what a search found
+--   first-by-none, first-by-some   what a search found; holds-found: of two lists with the same members, in both or in neither
 -- Assumes nothing.
 use mathlib.Core.Path.{_≡_, refl, sym, ap, subst, _∙_}
 use mathlib.Core.Logic.{_⊎_, inl, inr, _≢_}
 use mathlib.Core.Bool.{Bool, true, false, cond}
 use mathlib.Core.List.{List, [], _∷_, _++_}
-use mathlib.Core.Option.{none, some}
+use mathlib.Core.Option.{Option, none, some}
 use Prim.Native.Nat.{ℕ}
 use native.Mathlib.Omega.{arith}
 use lib.Dec.{eqb}
 use borrow.Author.Tests.{eqb-true, eqb-false}
-use Rattle.rules.specs.Step.{first-by, without}
+use Rattle.rules.specs.Step.{first-by, is-none, without}
 
 abbrev pub In : ℕ → List ℕ → Type 0
 In v [] = ⊥
@@ -206,3 +206,22 @@ first-by-some {R} f (x ∷ xs) s v e = go (f x) refl (first-by-some f xs (s .1) 
             absurd
             (let z : true ≡ false = sym p ∙ ap f k ∙ t in let y : _≡_ {A = ℕ} 0 1 = cc in omega arith)
         earliest-there b u (inr k) p d = b .earliest u k p d
+
+-- what passes in one of two lists with the same members passes in the other
+found-in : {R S : ℕ → ℕ → Type 0} {P Q : ℕ → Type 0} {l m : List ℕ} (f : ℕ → Bool) → Holds R P l → Holds S Q m → ((v : ℕ) → P v → Q v) →
+    (v : ℕ) → first-by f l ≡ some v → first-by f m ≡ none → ⊥
+found-in {R} {S} {P} {Q} {l} {m} f h k to v e n =
+    let F = first-by-some f l (h .sorted) v e in
+    let z : true ≡ false = sym (F .passes) ∙ first-by-none f m n v (k .whole v (to v (h .sound v (F .member)))) in
+    let y : _≡_ {A = ℕ} 0 1 = cc in omega arith
+
+pub holds-found : {R S : ℕ → ℕ → Type 0} {P Q : ℕ → Type 0} {l m : List ℕ} (f : ℕ → Bool) → Holds R P l → Holds S Q m →
+    ((v : ℕ) → P v → Q v) → ((v : ℕ) → Q v → P v) → is-none (first-by f l) ≡ is-none (first-by f m)
+unfolding is-none
+holds-found {R} {S} {P} {Q} {l} {m} f h k to from = go (first-by f l) refl (first-by f m) refl
+  where
+    go : (a : Option ℕ) → first-by f l ≡ a → (b : Option ℕ) → first-by f m ≡ b → is-none a ≡ is-none b
+    go none e none n = refl
+    go none e (some v) n = absurd (found-in f k h from v n e)
+    go (some v) e none n = absurd (found-in f h k to v e n)
+    go (some v) e (some u) n = refl

@@ -1,5 +1,5 @@
 // The premise of demand 3: whether the order of steps can matter for a sheet (document 01, "What is pinned down"). Refusals 1 to 7,
-// then numbers 20 to 22, lowest first, each over the whole sheet.
+// then numbers 20 to 23, lowest first, each over the whole sheet.
 ghost use Rattle.rules.specs.Sheet.{sheet-in};
 ghost use Rattle.rules.specs.Service.{answers};
 ghost use Rattle.rules.specs.Premise.{calm-refusal, Premise-says};
@@ -13,7 +13,7 @@ use ops::Rule;
 use refusals::check;
 use sheet::Answer;
 
-// Why a sheet that passes check is not calm: 20 to 22, or number 0 and place 0.
+// Why a sheet that passes check is not calm: 20 to 23, or number 0 and place 0.
 fn calm(s: &[u8]) -> Answer
     requires { ⌜ Laid (now s) × Tabled (sheet-in (now s)) ⌝ }
     ensures { λ a. ⌜ answers (calm-refusal (sheet-in (now (s .entry)))) (a .number) (a .place) ⌝ }
@@ -26,7 +26,11 @@ fn calm(s: &[u8]) -> Answer
     if mode.number != 0 {
         return mode;
     }
-    cover::refusal(s)
+    let cover = cover::refusal(s);
+    if cover.number != 0 {
+        return cover;
+    }
+    ops::refusal(s, Rule::Query)
 }
 
 // Any bytes at all are answered.

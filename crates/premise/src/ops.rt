@@ -1,4 +1,4 @@
-// Numbers 20 and 21: each is a rule that every operation has to keep, and the first operation that breaks it is the place.
+// Numbers 20, 21 and 23: each is a rule that every operation has to keep, and the first operation that breaks it is the place.
 ghost use mathlib.Core.Path.{_≡_};
 ghost use Prim.Native.Nat.{_<_};
 ghost use Rattle.rules.specs.Sheet.{sheet-in, N-of};
@@ -10,10 +10,11 @@ use sheet::Answer;
 use sheet::header;
 use sheet::ops;
 
-// The rules: no receive is from any source; no send is ready.
+// The rules: no receive or probe is from any source; no send is ready; nothing is queried (document 02, K9).
 pub enum Rule {
     Source,
     Mode,
+    Query,
 }
 
 // The number that a rule refuses with.
@@ -23,6 +24,7 @@ fn number(rule: Rule) -> u32
     match rule {
         Rule::Source => 20,
         Rule::Mode => 21,
+        Rule::Query => 23,
     }
 }
 
@@ -34,6 +36,7 @@ fn keeps(s: &[u8], rule: Rule, i: usize) -> bool
     match rule {
         Rule::Source => !ops::is_any_source(s, i),
         Rule::Mode => !ops::is_ready(s, i),
+        Rule::Query => !ops::tells_completion(s, i),
     }
 }
 

@@ -1,13 +1,15 @@
--- Why demand 3 asks for calm sheets and sets the peaks aside. Each of the three conditions of calm is needed: with the other
--- two alone there is a sheet with two orders that follow accepts, after which no board is able, and whose reports differ in
--- more than peaks. It does not suffice either that buffers cover the lengths of their messages without the overhead. And on a
--- calm sheet the peaks may differ. Each sheet is written as a bench job and computed.
---   calm-parts          calm is these three conditions
---   lengths-calm        the same with lengths in the place of charges
+-- Why demand 3 asks for calm sheets and sets the peaks aside. Each of the four conditions of calm is needed: with the other
+-- three alone there is a sheet with two orders that follow accepts, after which no board is able, and whose reports differ in
+-- more than peaks. It does not suffice either that every receive names its source where probes need not (document 02, K9), nor
+-- that buffers cover the lengths of their messages without the overhead. And on a calm sheet the peaks may differ. Each sheet is
+-- written as a bench job and computed.
+--   calm-parts          calm is these four conditions
+--   no-any-receive      the first of receives alone
+--   lengths-calm        calm with lengths in the place of charges
 --   Ends-alike-on       two full orders end alike, on the sheets that pass a test
 --   Pair-of-orders      a sheet, and two orders
 --   apart-refutes       a pair that ends apart refutes Ends-alike-on
---   any-source-matters, ready-matters, cover-matters, overhead-matters, peaks-matter
+--   any-source-matters, any-source-probe-matters, ready-matters, query-matters, cover-matters, overhead-matters, peaks-matter
 -- Assumes nothing.
 use mathlib.Core.Path.{_≡_, refl, ap, subst, _∙_}
 use mathlib.Core.Bool.{Bool, true, false, _&&_, not, cond}
@@ -16,13 +18,14 @@ use Prim.Native.Nat.{ℕ, _+_, _≤_}
 use lib.Dec.{leb}
 use lib.ListN.{length}
 use borrow.Author.Tests.{leb-true, not-true, eq-eqb}
-use Rattle.rules.specs.Sheet.{Sheet, Op, P-of, is-ready, is-buffered, inbox-total, sheet-in}
+use Rattle.rules.specs.Sheet.{Sheet, Op, P-of, is-receive, is-ready, is-buffered, tells-completion, inbox-total, sheet-in}
 use Rattle.rules.specs.Order.{none-able}
 use Rattle.rules.specs.Report.{report}
 use Rattle.rules.specs.Claims as claims
 use Rattle.rules.specs.Claims.{passes, is-any-source, none-wild, all-covered, calm, accepts, left-by, without-peaks, Alike}
 use Rattle.rules.specs.BenchJob.{buffered, any, send, receive, script, Draft, draft, draft-bytes, same, all}
 use Rattle.rules.specs.BenchNumbered.{ready-sheet, any-source-sheet}
+use Rattle.rules.specs.BenchProbes.{any-probe-sheet, query-sheet}
 use Rattle.rules.specs.Definitions.{definitions}
 use Rattle.laws.specs.Tests.{and-left, and-right, true-not-false}
 
@@ -33,34 +36,46 @@ no-any-source s = all (λ o. not (is-any-source o)) (s .ops)
 unfoldable pub no-ready : Sheet → Bool
 no-ready s = all (λ o. not (is-ready o)) (s .ops)
 
+unfoldable pub no-query : Sheet → Bool
+no-query s = all (λ o. not (tells-completion o)) (s .ops)
+
 unfoldable pub covered : Sheet → Bool
 covered s = all-covered (s .boards) (s .ops)
 
--- too little for the third: on each board the lengths of all its buffered sends add up to at most its attached size
+-- too little for the first: no receive is from any source, and a probe may be
+unfoldable pub no-any-receive : Sheet → Bool
+no-any-receive s = all (λ o. not (is-receive o && is-any-source o)) (s .ops)
+
+-- too little for the last: on each board the lengths of all its buffered sends add up to at most its attached size
 unfoldable pub all-lengths : List Op → ℕ
 all-lengths [] = 0
 all-lengths (o ∷ os) = cond (is-buffered o) (o .long) 0 + all-lengths os
 
 unfoldable pub lengths-calm : Sheet → Bool
 lengths-calm s =
-    (no-any-source s && no-ready s) && all (λ b. leb (all-lengths (claims.script b (s .ops))) (b .attached)) (s .boards)
+    ((no-any-source s && no-ready s) && no-query s) && all (λ b. leb (all-lengths (claims.script b (s .ops))) (b .attached)) (s .boards)
 
--- the three conditions together are calm
-wild-parts : (os : List Op) → none-wild os ≡ all (λ o. not (is-any-source o)) os && all (λ o. not (is-ready o)) os
+-- the four conditions together are calm
+wild-parts : (os : List Op) →
+    none-wild os ≡ (all (λ o. not (is-any-source o)) os && all (λ o. not (is-ready o)) os) && all (λ o. not (tells-completion o)) os
 unfolding none-wild all
 wild-parts [] = refl
 wild-parts (o ∷ os) =
-    ap (λ (b : Bool). (not (is-any-source o) && not (is-ready o)) && b) (wild-parts os)
-    ∙ go (not (is-any-source o)) (not (is-ready o)) (all (λ o. not (is-any-source o)) os) (all (λ o. not (is-ready o)) os)
+    ap (λ (b : Bool). (not (is-any-source o) && (not (is-ready o) && not (tells-completion o))) && b) (wild-parts os)
+    ∙ go (not (is-any-source o)) (not (is-ready o)) (not (tells-completion o)) (all (λ o. not (is-any-source o)) os)
+    (all (λ o. not (is-ready o)) os) (all (λ o. not (tells-completion o)) os)
   where
-    go : (a b c d : Bool) → (a && b) && (c && d) ≡ (a && c) && (b && d)
-    go true true c d = refl
-    go true false true d = refl
-    go true false false d = refl
-    go false b c d = refl
+    go : (a b c d e f : Bool) → (a && (b && c)) && ((d && e) && f) ≡ ((a && d) && (b && e)) && (c && f)
+    go true true true d e f = refl
+    go true true false true true f = refl
+    go true true false true false f = refl
+    go true true false false e f = refl
+    go true false c true e f = refl
+    go true false c false e f = refl
+    go false b c d e f = refl
 
-pub calm-parts : (s : Sheet) → calm s ≡ (no-any-source s && no-ready s) && covered s
-unfolding calm no-any-source no-ready covered
+pub calm-parts : (s : Sheet) → calm s ≡ ((no-any-source s && no-ready s) && no-query s) && covered s
+unfolding calm no-any-source no-ready no-query covered
 calm-parts s = ap (λ (b : Bool). b && all-covered (s .boards) (s .ops)) (wild-parts (s .ops))
 
 -- demand 3's claim about full orders, on the sheets that pass a test
@@ -160,6 +175,26 @@ any-source-pair =
       other = 1 ∷ 0 ∷ 2 ∷ 2 ∷ 2 ∷ 2 ∷ 0 ∷ 1 ∷ [];
     }
 
+-- bench job V: the same, received by name; an any-source probe tells the message that came first
+unfoldable pub any-probe-pair : Pair-of-orders
+any-probe-pair =
+    record {
+      sheet = any-probe-sheet;
+      inbox = 0 ∷ 0 ∷ 0 ∷ [];
+      one = 0 ∷ 1 ∷ 2 ∷ 2 ∷ 2 ∷ 2 ∷ 2 ∷ 0 ∷ 1 ∷ [];
+      other = 1 ∷ 0 ∷ 2 ∷ 2 ∷ 2 ∷ 2 ∷ 2 ∷ 0 ∷ 1 ∷ [];
+    }
+
+-- bench job DD: two queries before their send is matched, or after it
+unfoldable pub query-pair : Pair-of-orders
+query-pair =
+    record {
+      sheet = query-sheet;
+      inbox = 0 ∷ [];
+      one = 0 ∷ 0 ∷ 0 ∷ 1 ∷ 0 ∷ 1 ∷ [];
+      other = 0 ∷ 1 ∷ 0 ∷ 0 ∷ 0 ∷ 1 ∷ [];
+    }
+
 -- bench job 9: a ready send stops the job, or meets the receive that was posted before it
 unfoldable pub ready-pair : Pair-of-orders
 ready-pair =
@@ -224,33 +259,50 @@ peaks-apart p =
     && same (bare-report-of p (p .one)) (bare-report-of p (p .other)))
 
 -- THE LAWS: what calm still asks when one of its conditions is dropped, and orders that then end apart
-any-source-apart : ends-apart (λ s. no-ready s && covered s) any-source-pair ≡ true
-unfolding definitions ends-apart no-ready covered any-source-pair
+any-source-apart : ends-apart (λ s. (no-ready s && no-query s) && covered s) any-source-pair ≡ true
+unfolding definitions ends-apart no-ready no-query covered any-source-pair
 any-source-apart = refl
 
-ready-apart : ends-apart (λ s. no-any-source s && covered s) ready-pair ≡ true
-unfolding definitions ends-apart no-any-source covered ready-pair
+any-probe-apart : ends-apart (λ s. ((no-any-receive s && no-ready s) && no-query s) && covered s) any-probe-pair ≡ true
+unfolding definitions ends-apart no-any-receive no-ready no-query covered any-probe-pair
+any-probe-apart = refl
+
+ready-apart : ends-apart (λ s. (no-any-source s && no-query s) && covered s) ready-pair ≡ true
+unfolding definitions ends-apart no-any-source no-query covered ready-pair
 ready-apart = refl
 
-uncovered-apart : ends-apart (λ s. no-any-source s && no-ready s) uncovered-pair ≡ true
-unfolding definitions ends-apart no-any-source no-ready uncovered-pair two-buffered
+query-apart : ends-apart (λ s. (no-any-source s && no-ready s) && covered s) query-pair ≡ true
+unfolding definitions ends-apart no-any-source no-ready covered query-pair
+query-apart = refl
+
+uncovered-apart : ends-apart (λ s. (no-any-source s && no-ready s) && no-query s) uncovered-pair ≡ true
+unfolding definitions ends-apart no-any-source no-ready no-query uncovered-pair two-buffered
 uncovered-apart = refl
 
 lengths-apart : ends-apart lengths-calm lengths-pair ≡ true
-unfolding definitions ends-apart lengths-calm no-any-source no-ready all-lengths lengths-pair two-buffered
+unfolding definitions ends-apart lengths-calm no-any-source no-ready no-query all-lengths lengths-pair two-buffered
 lengths-apart = refl
 
 -- receives from any source cannot be allowed
-pub any-source-matters : Ends-alike-on (λ s. no-ready s && covered s) → ⊥
-any-source-matters = apart-refutes (λ s. no-ready s && covered s) any-source-pair any-source-apart
+pub any-source-matters : Ends-alike-on (λ s. (no-ready s && no-query s) && covered s) → ⊥
+any-source-matters = apart-refutes (λ s. (no-ready s && no-query s) && covered s) any-source-pair any-source-apart
+
+-- nor probes from any source, though every receive names its source
+pub any-source-probe-matters : Ends-alike-on (λ s. ((no-any-receive s && no-ready s) && no-query s) && covered s) → ⊥
+any-source-probe-matters =
+    apart-refutes (λ s. ((no-any-receive s && no-ready s) && no-query s) && covered s) any-probe-pair any-probe-apart
 
 -- nor ready sends
-pub ready-matters : Ends-alike-on (λ s. no-any-source s && covered s) → ⊥
-ready-matters = apart-refutes (λ s. no-any-source s && covered s) ready-pair ready-apart
+pub ready-matters : Ends-alike-on (λ s. (no-any-source s && no-query s) && covered s) → ⊥
+ready-matters = apart-refutes (λ s. (no-any-source s && no-query s) && covered s) ready-pair ready-apart
+
+-- nor queries
+pub query-matters : Ends-alike-on (λ s. (no-any-source s && no-ready s) && covered s) → ⊥
+query-matters = apart-refutes (λ s. (no-any-source s && no-ready s) && covered s) query-pair query-apart
 
 -- nor buffers that the charges may outgrow
-pub cover-matters : Ends-alike-on (λ s. no-any-source s && no-ready s) → ⊥
-cover-matters = apart-refutes (λ s. no-any-source s && no-ready s) uncovered-pair uncovered-apart
+pub cover-matters : Ends-alike-on (λ s. (no-any-source s && no-ready s) && no-query s) → ⊥
+cover-matters = apart-refutes (λ s. (no-any-source s && no-ready s) && no-query s) uncovered-pair uncovered-apart
 
 -- nor buffers that cover the lengths and not the charges
 pub overhead-matters : Ends-alike-on lengths-calm → ⊥

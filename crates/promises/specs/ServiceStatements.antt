@@ -17,6 +17,7 @@ use Rattle.rules.specs.Report.{entry-in}
 use Rattle.rules.specs.Claims.{passes, calm, accepts, left-by, without-peaks}
 use Rattle.rules.specs.Service.{Follow-says, Run-says}
 use Rattle.promises.specs.Statements.{Told, No-pair-left, Sends-in-order, Receives-in-order, Earlier-first, Matched-receives, Matched-sends, Delivered}
+use Rattle.promises.specs.ProbeStatements.{Probes-told, Queries-told, Receives-told}
 use Rattle.promises.specs.Statements.{Exact, Finished-leaves-none, Why-stopped, Counted, Charged, most-in-use, Within-attached}
 
 -- CALLS of follow or of run on a sheet, which answered and left what the service says, and which number 8 does not refuse.
@@ -98,6 +99,9 @@ pub record Reported (s : Sheet) (lent inbox report : List ℕ) : Type 0 where
   pub receives-in-order : Receives-in-order s (told-in s report)
   pub matched-receives : Matched-receives s (told-in s report)
   pub matched-sends : Matched-sends s (told-in s report)
+  pub probes-told : Probes-told s (told-in s report)
+  pub queries-told : Queries-told s (told-in s report)
+  pub receives-told : Receives-told s (told-in s report)
   pub delivered : Delivered s (told-in s report) lent inbox
   pub verdict-exact : Exact s (told-in s report)
   pub none-left : Finished-leaves-none s (told-in s report)

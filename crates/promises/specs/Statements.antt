@@ -1,6 +1,7 @@
 -- What is promised of job sheets, in the order of document 01: demand 2 (how boards step), run, demand 3 (orders). Each claim
--- stands in plain words and then in antt, over `rules` only. ServiceStatements has the same of the services. Theorems proves
--- each under its name in small letters. Assumes nothing: these are statements.
+-- stands in plain words and then in antt, over `rules` only. ProbeStatements has what is promised of probes and queries,
+-- ServiceStatements the same of the services. Theorems proves each under its name in small letters. Assumes nothing: these are
+-- statements.
 use mathlib.Core.Path.{_≡_}
 use mathlib.Core.Logic.{_⊎_, _≢_, _↔_}
 use mathlib.Core.Bool.{Bool, true, false, _&&_, _||_, cond}
@@ -11,9 +12,10 @@ use lib.Dec.{ltb, leb, eqb}
 use lib.ListN.{length, getD, drop}
 use Rattle.rules.specs.Limits.{absent, order-room}
 use Rattle.rules.specs.Sheet.{Sheet, op, board, sheet-in, P-of, N-of, rank-of, inbox-total, is-send, is-receive, is-buffered, is-ready}
-use Rattle.rules.specs.Sheet.{takes-slot, frees-slot}
+use Rattle.rules.specs.Sheet.{takes-slot, frees-slot, tells-completion}
 use Rattle.rules.specs.Job.{Job, Entry, Stop, entry, entry-at, place-at, started, with-stop, with-steps}
-use Rattle.rules.specs.Step.{able, step, next-op, waited, in-waiting-half, is-finished, fits-with, is-cut, copied, area-start, charge-of}
+use Rattle.rules.specs.Step.{able, step, next-op, waited, complete-if, in-waiting-half, is-finished, fits-with, is-cut, copied, area-start}
+use Rattle.rules.specs.Step.{charge-of}
 use Rattle.rules.specs.Order.{follow, run, none-able}
 use Rattle.rules.specs.Report.{verdict-of, count-from, pending-messages, pending-receives, cut-messages}
 use Rattle.rules.specs.Claims.{passes, is-any-source, accepts, left-by, Alike, Given}
@@ -324,9 +326,16 @@ Swap-same =
     (follow s (before ++ (p ∷ q ∷ after)) i .refused-at ≡ follow s (before ++ (q ∷ p ∷ after)) i .refused-at)
     × Alike s (left-by s (before ++ (p ∷ q ∷ after)) i) (left-by s (before ++ (q ∷ p ∷ after)) i)
 
--- The same on any sheet, any-source receives, ready sends and small buffers included, where the exchange is harmless: the two
--- steps stop the job in neither order, and they do not enter two messages that one any-source receive fits (as two sends to
--- one board and communicator whose script has such a receive may).
+-- A query that is p's next step tells the same before q's step and after it.
+unfoldable pub Tells-same : Sheet → Job → (p q : ℕ) → Type 0
+Tells-same s x p q =
+    tells-completion (op s (next-op s x p)) ≡ true →
+    complete-if (step s q x) (waited s (next-op s x p)) ≡ complete-if x (waited s (next-op s x p))
+
+-- Swap-same's claim on any sheet, any-source receives and probes, queries, ready sends and small buffers included, where the
+-- exchange is harmless: the two steps stop the job in neither order, they do not enter two messages that one any-source receive or
+-- probe fits (as two sends to one board and communicator whose script has such an operation may), and a query among them tells the
+-- same before the other step and after it.
 pub record Harmless (s : Sheet) (x : Job) (p q : ℕ) : Type 0 where
   pub goes-on : step s q (step s p x) .stop ≡ none
   pub goes-on-swapped : step s p (step s q x) .stop ≡ none
@@ -334,6 +343,8 @@ pub record Harmless (s : Sheet) (x : Job) (p q : ℕ) : Type 0 where
       (r : ℕ) → in-waiting-half s x p ≡ false → in-waiting-half s x q ≡ false →
       is-send (op s (next-op s x p)) ≡ true → is-send (op s (next-op s x q)) ≡ true → is-any-source (op s r) ≡ true →
       fits-with s (next-op s x p) r ≡ true → fits-with s (next-op s x q) r ≡ true → ⊥
+  pub tells-same : Tells-same s x p q
+  pub tells-same-swapped : Tells-same s x q p
 
 unfoldable pub Swap-general : Type 0
 Swap-general =

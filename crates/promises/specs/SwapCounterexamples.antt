@@ -1,10 +1,13 @@
--- Why demand 3 asks for calm sheets where two neighbouring able steps are exchanged: with two of the three conditions of calm
+-- Why demand 3 asks for calm sheets where two neighbouring able steps are exchanged: with three of the four conditions of calm
 -- alone there is a sheet, a beginning of an order and two able ranks whose exchange leaves reports that differ in more than
--- peaks; and so where buffers cover lengths and not charges. The sheets are those of Counterexamples, computed.
+-- peaks; and so where probes are from any source and receives are not (document 02, K9), and where buffers cover lengths and not
+-- charges. The sheets are those of Counterexamples, computed.
 --   Swap-same-on      an exchange leaves jobs alike, on the sheets that pass a test
 --   Exchange          a sheet, a beginning, two ranks and what follows them
+--   Apart, apart-of   what an exchange that ends apart has: able ranks, and jobs that are not alike
 --   swap-refutes      an exchange that ends apart refutes Swap-same-on
---   any-source-swap-matters, ready-swap-matters, cover-swap-matters, overhead-swap-matters
+--   any-source-swap-matters, any-source-probe-swap-matters, ready-swap-matters, query-swap-matters, cover-swap-matters,
+--   overhead-swap-matters
 -- Assumes nothing.
 use mathlib.Core.Path.{_≡_, refl, subst, _∙_}
 use mathlib.Core.Logic.{_≢_}
@@ -17,12 +20,14 @@ use borrow.Author.Tests.{leb-true, not-true, eq-eqb}
 use Rattle.rules.specs.Sheet.{Sheet, P-of, inbox-total, sheet-in}
 use Rattle.rules.specs.Step.{able}
 use Rattle.rules.specs.Report.{report}
+use Rattle.rules.specs.Job.{Job}
 use Rattle.rules.specs.Claims.{passes, accepts, left-by, without-peaks, Alike}
 use Rattle.rules.specs.BenchJob.{Draft, draft-bytes, same}
 use Rattle.rules.specs.BenchNumbered.{ready-sheet, any-source-sheet}
+use Rattle.rules.specs.BenchProbes.{any-probe-sheet, query-sheet}
 use Rattle.rules.specs.Definitions.{definitions}
 use Rattle.laws.specs.Tests.{and-left, and-right, true-not-false}
-use Rattle.promises.specs.Counterexamples.{no-any-source, no-ready, covered, lengths-calm, all-lengths}
+use Rattle.promises.specs.Counterexamples.{no-any-source, no-ready, no-query, covered, no-any-receive, lengths-calm, all-lengths}
 use Rattle.promises.specs.Counterexamples.{two-buffered, uncovered-sheet, lengths-sheet, same-refl}
 
 -- demand 3's claim about exchanged steps, on the sheets that pass a test
@@ -41,22 +46,28 @@ pub record Exchange : Type 0 where
   pub other : ℕ
   pub after : List ℕ
 
-abbrev bytes-of : Exchange → List ℕ
+abbrev pub bytes-of : Exchange → List ℕ
 bytes-of e = draft-bytes (e .sheet)
 
-abbrev sheet-of : Exchange → Sheet
+abbrev pub sheet-of : Exchange → Sheet
 sheet-of e = sheet-in (bytes-of e)
 
--- the report without peaks, after the beginning, these two ranks and the rest
+-- the job where the two ranks stand next; and the job after the beginning, these two ranks and the rest, with its report
+-- without peaks
+abbrev pub job-before : Exchange → Job
+job-before e = left-by (sheet-of e) (e .before) (e .inbox)
+
+abbrev pub job-after : Exchange → (p q : ℕ) → Job
+job-after e p q = left-by (sheet-of e) (e .before ++ (p ∷ q ∷ e .after)) (e .inbox)
+
 abbrev report-after : Exchange → (p q : ℕ) → List ℕ
-report-after e p q =
-    without-peaks (P-of (sheet-of e)) (report (sheet-of e) (left-by (sheet-of e) (e .before ++ (p ∷ q ∷ e .after)) (e .inbox)))
+report-after e p q = without-peaks (P-of (sheet-of e)) (report (sheet-of e) (job-after e p q))
 
 abbrev passing : (Sheet → Bool) → Exchange → Bool
 passing ok e = passes (bytes-of e) && (ok (sheet-of e) && leb (inbox-total (sheet-of e)) (length (e .inbox)))
 
 abbrev able-there : Exchange → (r : ℕ) → Bool
-able-there e r = able (sheet-of e) (left-by (sheet-of e) (e .before) (e .inbox)) r
+able-there e r = able (sheet-of e) (job-before e) r
 
 abbrev both-able : Exchange → Bool
 both-able e =
@@ -69,17 +80,40 @@ differ e = not (same (report-after e (e .one) (e .other)) (report-after e (e .ot
 unfoldable pub swaps-apart : (Sheet → Bool) → Exchange → Bool
 swaps-apart ok e = passing ok e && (both-able e && differ e)
 
-pub swap-refutes : (ok : Sheet → Bool) (e : Exchange) → swaps-apart ok e ≡ true → Swap-same-on ok → ⊥
-unfolding swaps-apart Swap-same-on Alike
-swap-refutes ok e h claim =
-    true-not-false (subst (λ (z : List ℕ). same (report-after e (e .one) (e .other)) z ≡ true) alike (same-refl _))
-    (not-true (same (report-after e (e .one) (e .other)) (report-after e (e .other) (e .one))) (and-right (both-able e) (differ e) later))
-  where
-    room : Bool
-    room = leb (inbox-total (sheet-of e)) (length (e .inbox))
+-- the same as facts
+pub record Apart (ok : Sheet → Bool) (e : Exchange) : Type 0 where
+  pub passing-check : passes (bytes-of e) ≡ true
+  pub passing-test : ok (sheet-of e) ≡ true
+  pub room : inbox-total (sheet-of e) ≤ length (e .inbox)
+  pub accepted : accepts (sheet-of e) (e .before) (e .inbox) ≡ true
+  pub unlike : e .one ≢ e .other
+  pub able-one : able (sheet-of e) (job-before e) (e .one) ≡ true
+  pub able-other : able (sheet-of e) (job-before e) (e .other) ≡ true
+  pub not-alike : Alike (sheet-of e) (job-after e (e .one) (e .other)) (job-after e (e .other) (e .one)) → ⊥
 
-    apart : Bool
-    apart = not (eqb (e .one) (e .other))
+pub apart-of : (ok : Sheet → Bool) (e : Exchange) → swaps-apart ok e ≡ true → Apart ok e
+unfolding swaps-apart Alike
+apart-of ok e h =
+    record {
+      passing-check = and-left (passes (bytes-of e)) (ok (sheet-of e) && enough) given;
+      passing-test = and-left (ok (sheet-of e)) enough sound;
+      room = leb-true (inbox-total (sheet-of e)) (length (e .inbox)) (and-right (ok (sheet-of e)) enough sound);
+      accepted = and-left (accepts (sheet-of e) (e .before) (e .inbox)) (others && ranks) there;
+      unlike =
+          λ z. true-not-false (eq-eqb (e .one) (e .other) z) (not-true (eqb (e .one) (e .other)) (and-left others ranks two));
+      able-one = and-left (able-there e (e .one)) (able-there e (e .other)) (and-right others ranks two);
+      able-other = and-right (able-there e (e .one)) (able-there e (e .other)) (and-right others ranks two);
+      not-alike =
+          λ a. true-not-false (subst (λ (z : List ℕ). same (report-after e (e .one) (e .other)) z ≡ true) (a .1) (same-refl _))
+          (not-true (same (report-after e (e .one) (e .other)) (report-after e (e .other) (e .one)))
+          (and-right (both-able e) (differ e) later));
+    }
+  where
+    enough : Bool
+    enough = leb (inbox-total (sheet-of e)) (length (e .inbox))
+
+    others : Bool
+    others = not (eqb (e .one) (e .other))
 
     ranks : Bool
     ranks = able-there e (e .one) && able-there e (e .other)
@@ -93,23 +127,18 @@ swap-refutes ok e h claim =
     there : both-able e ≡ true
     there = and-left (both-able e) (differ e) later
 
-    sound : ok (sheet-of e) && room ≡ true
-    sound = and-right (passes (bytes-of e)) (ok (sheet-of e) && room) given
+    sound : ok (sheet-of e) && enough ≡ true
+    sound = and-right (passes (bytes-of e)) (ok (sheet-of e) && enough) given
 
-    two : apart && ranks ≡ true
-    two = and-right (accepts (sheet-of e) (e .before) (e .inbox)) (apart && ranks) there
+    two : others && ranks ≡ true
+    two = and-right (accepts (sheet-of e) (e .before) (e .inbox)) (others && ranks) there
 
-    unlike : e .one ≢ e .other
-    unlike z = true-not-false (eq-eqb (e .one) (e .other) z) (not-true (eqb (e .one) (e .other)) (and-left apart ranks two))
-
-    alike : report-after e (e .one) (e .other) ≡ report-after e (e .other) (e .one)
-    alike =
-        claim (bytes-of e) (e .inbox) (e .before) (e .after) (e .one) (e .other)
-        (and-left (passes (bytes-of e)) (ok (sheet-of e) && room) given) (and-left (ok (sheet-of e)) room sound)
-        (leb-true (inbox-total (sheet-of e)) (length (e .inbox)) (and-right (ok (sheet-of e)) room sound))
-        (and-left (accepts (sheet-of e) (e .before) (e .inbox)) (apart && ranks) there) unlike
-        (and-left (able-there e (e .one)) (able-there e (e .other)) (and-right apart ranks two))
-        (and-right (able-there e (e .one)) (able-there e (e .other)) (and-right apart ranks two)) .1
+pub swap-refutes : (ok : Sheet → Bool) (e : Exchange) → swaps-apart ok e ≡ true → Swap-same-on ok → ⊥
+unfolding Swap-same-on
+swap-refutes ok e h claim =
+    let a = apart-of ok e h in
+    a .not-alike (claim (bytes-of e) (e .inbox) (e .before) (e .after) (e .one) (e .other) (a .passing-check) (a .passing-test)
+    (a .room) (a .accepted) (a .unlike) (a .able-one) (a .able-other))
 
 -- THE EXCHANGES
 -- bench job 12: two messages for one any-source receive come in either order
@@ -122,6 +151,30 @@ any-source-exchange =
       one = 0;
       other = 1;
       after = 2 ∷ [];
+    }
+
+-- bench job V: the same for one any-source probe; each is received by name
+unfoldable pub any-probe-exchange : Exchange
+any-probe-exchange =
+    record {
+      sheet = any-probe-sheet;
+      inbox = 0 ∷ 0 ∷ 0 ∷ [];
+      before = [];
+      one = 0;
+      other = 1;
+      after = 2 ∷ [];
+    }
+
+-- bench job DD: a query before the receive that completes its send, or after it
+unfoldable pub query-exchange : Exchange
+query-exchange =
+    record {
+      sheet = query-sheet;
+      inbox = 0 ∷ [];
+      before = 0 ∷ [];
+      one = 0;
+      other = 1;
+      after = [];
     }
 
 -- bench job 9: the ready send before its receive, or after it
@@ -160,31 +213,46 @@ lengths-exchange =
       after = [];
     }
 
-any-source-apart : swaps-apart (λ s. no-ready s && covered s) any-source-exchange ≡ true
-unfolding definitions swaps-apart no-ready covered any-source-exchange
+any-source-apart : swaps-apart (λ s. (no-ready s && no-query s) && covered s) any-source-exchange ≡ true
+unfolding definitions swaps-apart no-ready no-query covered any-source-exchange
 any-source-apart = refl
 
-ready-apart : swaps-apart (λ s. no-any-source s && covered s) ready-exchange ≡ true
-unfolding definitions swaps-apart no-any-source covered ready-exchange
+any-probe-apart : swaps-apart (λ s. ((no-any-receive s && no-ready s) && no-query s) && covered s) any-probe-exchange ≡ true
+unfolding definitions swaps-apart no-any-receive no-ready no-query covered any-probe-exchange
+any-probe-apart = refl
+
+ready-apart : swaps-apart (λ s. (no-any-source s && no-query s) && covered s) ready-exchange ≡ true
+unfolding definitions swaps-apart no-any-source no-query covered ready-exchange
 ready-apart = refl
 
-uncovered-apart : swaps-apart (λ s. no-any-source s && no-ready s) uncovered-exchange ≡ true
-unfolding definitions swaps-apart no-any-source no-ready uncovered-exchange two-buffered
+query-apart : swaps-apart (λ s. (no-any-source s && no-ready s) && covered s) query-exchange ≡ true
+unfolding definitions swaps-apart no-any-source no-ready covered query-exchange
+query-apart = refl
+
+uncovered-apart : swaps-apart (λ s. (no-any-source s && no-ready s) && no-query s) uncovered-exchange ≡ true
+unfolding definitions swaps-apart no-any-source no-ready no-query uncovered-exchange two-buffered
 uncovered-apart = refl
 
 lengths-apart : swaps-apart lengths-calm lengths-exchange ≡ true
-unfolding definitions swaps-apart lengths-calm no-any-source no-ready all-lengths lengths-exchange two-buffered
+unfolding definitions swaps-apart lengths-calm no-any-source no-ready no-query all-lengths lengths-exchange two-buffered
 lengths-apart = refl
 
 -- THE LAWS: what calm still asks when one of its conditions is dropped
-pub any-source-swap-matters : Swap-same-on (λ s. no-ready s && covered s) → ⊥
-any-source-swap-matters = swap-refutes (λ s. no-ready s && covered s) any-source-exchange any-source-apart
+pub any-source-swap-matters : Swap-same-on (λ s. (no-ready s && no-query s) && covered s) → ⊥
+any-source-swap-matters = swap-refutes (λ s. (no-ready s && no-query s) && covered s) any-source-exchange any-source-apart
 
-pub ready-swap-matters : Swap-same-on (λ s. no-any-source s && covered s) → ⊥
-ready-swap-matters = swap-refutes (λ s. no-any-source s && covered s) ready-exchange ready-apart
+pub any-source-probe-swap-matters : Swap-same-on (λ s. ((no-any-receive s && no-ready s) && no-query s) && covered s) → ⊥
+any-source-probe-swap-matters =
+    swap-refutes (λ s. ((no-any-receive s && no-ready s) && no-query s) && covered s) any-probe-exchange any-probe-apart
 
-pub cover-swap-matters : Swap-same-on (λ s. no-any-source s && no-ready s) → ⊥
-cover-swap-matters = swap-refutes (λ s. no-any-source s && no-ready s) uncovered-exchange uncovered-apart
+pub ready-swap-matters : Swap-same-on (λ s. (no-any-source s && no-query s) && covered s) → ⊥
+ready-swap-matters = swap-refutes (λ s. (no-any-source s && no-query s) && covered s) ready-exchange ready-apart
+
+pub query-swap-matters : Swap-same-on (λ s. (no-any-source s && no-ready s) && covered s) → ⊥
+query-swap-matters = swap-refutes (λ s. (no-any-source s && no-ready s) && covered s) query-exchange query-apart
+
+pub cover-swap-matters : Swap-same-on (λ s. (no-any-source s && no-ready s) && no-query s) → ⊥
+cover-swap-matters = swap-refutes (λ s. (no-any-source s && no-ready s) && no-query s) uncovered-exchange uncovered-apart
 
 pub overhead-swap-matters : Swap-same-on lengths-calm → ⊥
 overhead-swap-matters = swap-refutes lengths-calm lengths-exchange lengths-apart

@@ -1,5 +1,6 @@
--- Each claim of Statements and ServiceStatements under its name in small letters, proved.
+-- Each claim of Statements, ProbeStatements and ServiceStatements under its name in small letters, proved.
 --   demand 2             none-fit, no-overtaking, no-overtaking-receives, statuses, send-statuses (claims.Matching);
+--                        probes, queries, told-at-its-step, probe-then-receive, told-then-received (claims.Telling);
 --                        by-arrival (claims.Arrivals); stop-reasons, stopping-steps (claims.Stops);
 --                        deliveries, verdicts, no-request-left, steps, counts, in-use, peaks, buffers-hold (claims.OneJob)
 --   run, demand 3        run-ends, ends-alike (claims.EndsAlike); swap-general, swap-same (claims.SwapSame)
@@ -7,10 +8,12 @@
 --                        follows-alike, run-alike (claims.EndsAlike); follow-swaps (claims.SwapSame)
 -- Assumes nothing.
 use Rattle.promises.specs.Statements.{None-fit, No-overtaking, No-overtaking-receives, By-arrival, Statuses, Send-statuses, Deliveries}
+use Rattle.promises.specs.ProbeStatements.{Probes, Queries, Told-at-its-step, Probe-then-receive, Told-then-received}
 use Rattle.promises.specs.Statements.{Verdicts, No-request-left, Stop-reasons, Stopping-steps, Steps, Counts, In-use, Peaks, Buffers-hold, Run-ends, Ends-alike, Swap-same, Swap-general}
 use Rattle.promises.specs.ServiceStatements.{Follow-reports, Run-reports, Run-replayed, Follow-by-arrival, Follows-alike, Run-alike, Follow-swaps}
 use Rattle.promises.specs.claims.Matching
 use Rattle.promises.specs.claims.OneJob
+use Rattle.promises.specs.claims.Telling
 use Rattle.promises.specs.claims.Arrivals
 use Rattle.promises.specs.claims.Stops
 use Rattle.promises.specs.claims.EndsAlike
@@ -36,6 +39,21 @@ statuses = Matching.statuses
 
 pub send-statuses : Send-statuses
 send-statuses = Matching.send-statuses
+
+pub probes : Probes
+probes = Telling.probes
+
+pub queries : Queries
+queries = Telling.queries
+
+pub told-at-its-step : Told-at-its-step
+told-at-its-step = Telling.told-at-its-step
+
+pub probe-then-receive : Probe-then-receive
+probe-then-receive = Telling.probe-then-receive
+
+pub told-then-received : Told-then-received
+told-then-received = Telling.told-then-received
 
 pub deliveries : Deliveries
 deliveries = OneJob.deliveries

@@ -5,6 +5,7 @@
 --   Figures       buffer use, its peak, and steps
 --   OneJob        demand 2 of one job
 --   Matching      demand 2 of its matching
+--   Telling       what probes and queries told, and the receive after a probe
 --   Arrivals      arrival decides, across senders
 --   Stops         why a job stopped, and what the stopping step changed
 --   RunEnds       a run ends
@@ -21,6 +22,7 @@ pub mod RequestsLeft
 pub mod Figures
 pub mod OneJob
 pub mod Matching
+pub mod Telling
 pub mod Arrivals
 pub mod Stops
 pub mod RunEnds

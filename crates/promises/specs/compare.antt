@@ -1,5 +1,6 @@
 -- Two jobs of one sheet, compared.
 --   Behind                a job behind another can only catch up
+--   BothBehind            jobs behind each other have the same rows
 --   AfterStep             the stop and the places after a step
 --   ArrivalGrowth         the order of arrival along several steps
 --   ReportBytes           the report's length, and the report without its peaks
@@ -12,6 +13,7 @@
 --   CalmSheets            calm sheets never stop
 --   EveryEnd              every order stays behind every full one
 pub mod Behind
+pub mod BothBehind
 pub mod AfterStep
 pub mod ArrivalGrowth
 pub mod ReportBytes

@@ -3,7 +3,7 @@ ghost use mathlib.Core.Path.{_≡_};
 ghost use Prim.Native.Nat.{_<_};
 ghost use mathlib.Core.Bool.{cond};
 ghost use Rattle.rules.specs.Sheet.{sheet-in, op, P-of, N-of, is-receive};
-ghost use Rattle.rules.specs.Refusal.{envelope-good, extent-good, wait-good, fields-good, op-good};
+ghost use Rattle.rules.specs.Refusal.{envelope-good, extent-good, wait-good, probe-good, fields-good, op-good};
 ghost use Rattle.rules.specs.Service.{answers};
 ghost use Rattle.laws.specs.Laid.{Laid};
 ghost use Rattle.laws.specs.Tabled.{Tabled};
@@ -13,16 +13,16 @@ use sheet::boards;
 use sheet::header;
 use sheet::ops;
 
-// Peer, communicator and tag of a send or a receive, among p boards and so many communicators.
+// Peer, communicator and tag of a send, a receive or a probe, among p boards and so many communicators.
 fn envelope_is_good(s: &[u8], i: usize, p: usize, comms: usize) -> bool
     requires { ⌜ Laid (now s) × (i < N-of (sheet-in (now s))) ⌝ }
     ensures { λ b. ⌜ b ≡ envelope-good p comms (op (sheet-in (now (s .entry))) i) ⌝ }
 {
-    let receive = ops::is_receive(s, i);
+    let selects = ops::selects(s, i);
     let from = ops::peer(s, i);
     let label = ops::tag(s, i);
-    (((from < p) | (receive & (from == limits::ANY))) & (ops::comm(s, i) < comms))
-        & ((label < limits::TAG_LIMIT) | (receive & (label == limits::ANY)))
+    (((from < p) | (selects & (from == limits::ANY))) & (ops::comm(s, i) < comms))
+        & ((label < limits::TAG_LIMIT) | (selects & (label == limits::ANY)))
 }
 
 // Flag, zero, length, area and slot of a send or a receive. Its area lies in `room` bytes.
@@ -50,6 +50,15 @@ fn wait_is_good(s: &[u8], i: usize) -> bool
             & ((ops::long(s, i) == 0) & (ops::slot(s, i) < limits::SLOT_LIMIT)))
 }
 
+// A probe has an envelope, and nothing else (document 02, K9).
+fn probe_is_good(s: &[u8], i: usize) -> bool
+    requires { ⌜ Laid (now s) × (i < N-of (sheet-in (now s))) ⌝ }
+    ensures { λ b. ⌜ b ≡ probe-good (op (sheet-in (now (s .entry))) i) ⌝ }
+{
+    ((ops::flag(s, i) == 0) & (ops::zero_field(s, i) == 0))
+        & (((ops::offset(s, i) == 0) & (ops::long(s, i) == 0)) & (ops::slot(s, i) == 0))
+}
+
 // The fields of one operation, among p boards and so many communicators, with an area in `room` bytes.
 fn fields_are_good(s: &[u8], i: usize, p: usize, comms: usize, room: usize) -> bool
     requires { ⌜ Laid (now s) × (i < N-of (sheet-in (now s))) ⌝ }
@@ -57,6 +66,9 @@ fn fields_are_good(s: &[u8], i: usize, p: usize, comms: usize, room: usize) -> b
 {
     if ops::names_slot(s, i) {
         return wait_is_good(s, i);
+    }
+    if ops::tells_message(s, i) {
+        return envelope_is_good(s, i, p, comms) & probe_is_good(s, i);
     }
     (ops::is_send(s, i) | ops::is_receive(s, i))
         & (envelope_is_good(s, i, p, comms) & extent_is_good(s, i, room))

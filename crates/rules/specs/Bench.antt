@@ -1,8 +1,9 @@
--- The bench (document 01, "Bench jobs" and "When the desk says no"): the jobs of BenchNumbered and BenchFurther in one list, the
--- calls of BenchRefused and those of BenchRooms, each under one claim, which the checker computes. A job: its sheet passes check,
--- its order is taken, report and inboxes come out as written by hand. The edits in must-fail/ put wrong definitions in the place
--- of those tested here; a claim refuses each. A claim cites the one before it, the first that of BenchPremise: once one is refused
--- the rest is not computed.
+-- The bench (document 01, "Bench jobs" and "When the desk says no"): the jobs of BenchNumbered and BenchFurther in one list,
+-- the calls of BenchRefused, those of BenchRooms, and for document 02's K9 the jobs of BenchProbes and the calls of
+-- BenchProbesRefused, each under one claim, which the checker computes. A job: its sheet passes check, its order is taken,
+-- report and inboxes come out as written by hand. The edits in must-fail/ put wrong definitions in the place of those tested
+-- here; a claim refuses each. A claim cites the one before it, the first that of BenchPremise: once one is refused the rest
+-- is not computed.
 -- Assumes nothing.
 use mathlib.Core.Path.{_≡_, refl}
 use mathlib.Core.Bool.{Bool, true}
@@ -12,9 +13,11 @@ use lib.ListN.{length}
 use Rattle.rules.specs.BenchJob.{BenchJob, as-expected, all}
 use Rattle.rules.specs.BenchNumbered.{numbered-jobs}
 use Rattle.rules.specs.BenchFurther.{further-jobs}
+use Rattle.rules.specs.BenchProbes.{probe-jobs}
 use Rattle.rules.specs.BenchRefusal.{as-answered, scratch-asked}
 use Rattle.rules.specs.BenchRefused.{bench-calls}
 use Rattle.rules.specs.BenchRooms.{bench-rooms}
+use Rattle.rules.specs.BenchProbesRefused.{probe-calls}
 use Rattle.rules.specs.BenchPremise.{questions-answered}
 use Rattle.rules.specs.Definitions.{definitions}
 
@@ -47,3 +50,16 @@ bench-rooms-hold c d e f =
       ((rw e, rw e), rw e, rw e, rw e, rw e),
       ((rw e, rw e), rw e, rw e, rw e, rw e),
     )
+
+-- probes and queries
+pub probe-jobs-hold : all as-expected probe-jobs ≡ true
+unfolding definitions
+probe-jobs-hold =
+    let before = bench-rooms-hold in
+    refl
+
+pub probe-calls-hold : all as-answered probe-calls ≡ true
+unfolding definitions
+probe-calls-hold =
+    let before = probe-jobs-hold in
+    refl

@@ -31,13 +31,16 @@ ready = 4
 abbrev pub any : ℕ
 any = 65535
 
--- `isend` and `ireceive` are nonblocking and take a request slot; `wait` names one
+-- `isend` and `ireceive` are nonblocking and take a request slot; `wait` names one. `probe` and `query` are document 02's K9
+-- (MPI_PROBE, MPI_REQUEST_GET_STATUS); `query` names a slot too
 pub data Line : Type 0 where
   send : (mode to comm tag offset long : ℕ) → Line
   isend : (mode to comm tag offset long slot : ℕ) → Line
   receive : (source comm tag offset capacity : ℕ) → Line
   ireceive : (source comm tag offset capacity slot : ℕ) → Line
   wait : (slot : ℕ) → Line
+  probe : (source comm tag : ℕ) → Line
+  query : (slot : ℕ) → Line
 
 -- a board: its attached buffer size, its inbox size, its operations
 pub data Script : Type 0 where
@@ -72,6 +75,8 @@ line-bytes (isend m p c t o l k) = m ∷ 1 ∷ as-words (p ∷ c ∷ 0 ∷ t ∷
 line-bytes (receive p c t o l) = 5 ∷ 0 ∷ as-words (p ∷ c ∷ 0 ∷ t ∷ o ∷ l ∷ 0 ∷ [])
 line-bytes (ireceive p c t o l k) = 5 ∷ 1 ∷ as-words (p ∷ c ∷ 0 ∷ t ∷ o ∷ l ∷ k ∷ [])
 line-bytes (wait k) = 6 ∷ 0 ∷ as-words (0 ∷ 0 ∷ 0 ∷ 0 ∷ 0 ∷ 0 ∷ k ∷ [])
+line-bytes (probe p c t) = 7 ∷ 0 ∷ as-words (p ∷ c ∷ 0 ∷ t ∷ 0 ∷ 0 ∷ 0 ∷ [])
+line-bytes (query k) = 8 ∷ 0 ∷ as-words (0 ∷ 0 ∷ 0 ∷ 0 ∷ 0 ∷ 0 ∷ k ∷ [])
 
 unfoldable pub all-line-bytes : List Line → List ℕ
 all-line-bytes [] = []
@@ -108,6 +113,11 @@ infix 70 _meets_
 pub data Match : Type 0 where
   _meets_ : (send receive : ℕ) → Match
 
+-- what the row of a finished probe tells of a message, and that of a finished query of completion, 1 or 0 (document 02, K9)
+pub data Finding : Type 0 where
+  found : (probe source tag long : ℕ) → Finding
+  said : (query complete : ℕ) → Finding
+
 -- a board's row of the report
 pub data Row : Type 0 where
   row : (done in-use peak state : ℕ) → Row
@@ -128,15 +138,22 @@ infix 60 _becomes_
 pub data Inboxes : Type 0 where
   _becomes_ : (before after : List ℕ) → Inboxes
 
--- whole: the report byte by byte, where it is written down
+-- finds: what every finished probe and query tells. whole: the report byte by byte, where it is written down
 pub data BenchJob : Type 0 where
-  job : Draft → Drive → Told → Inboxes → (whole : Option (List ℕ)) → BenchJob
+  job : Draft → Drive → Told → (finds : List Finding) → Inboxes → (whole : Option (List ℕ)) → BenchJob
 
 abbrev pub bench : Draft → Drive → Told → Inboxes → BenchJob
-bench d v t i = job d v t i none
+bench d v t i = job d v t [] i none
 
 abbrev pub bench-whole : Draft → Drive → Told → Inboxes → (report : List ℕ) → BenchJob
-bench-whole d v t i w = job d v t i (some w)
+bench-whole d v t i w = job d v t [] i (some w)
+
+-- the same of a job with probes or queries
+abbrev pub bench-finds : Draft → Drive → Told → List Finding → Inboxes → BenchJob
+bench-finds d v t fs i = job d v t fs i none
+
+abbrev pub bench-finds-whole : Draft → Drive → Told → List Finding → Inboxes → (report : List ℕ) → BenchJob
+bench-finds-whole d v t fs i w = job d v t fs i (some w)
 
 -- THE TEST
 unfoldable pub same : List ℕ → List ℕ → Bool
@@ -166,25 +183,33 @@ unfoldable pub partner-by : List Match → (i : ℕ) → ℕ
 partner-by [] i = 65535
 partner-by ((m meets r) ∷ ms) i = cond (eqb i m) r (cond (eqb i r) m (partner-by ms i))
 
--- each of `left` operation rows from operation i on, which stand from `at` on: its partner is the one that the matches give,
--- and its state is 3 where they give one and nowhere else
-unfoldable pub rows-match : (report : List ℕ) → List Match → (left i at : ℕ) → Bool
-rows-match r ms zero i at = true
-rows-match r ms (suc k) i at =
-    let p = partner-by ms i in
-    (same (take 2 (drop (at + 2) r)) (as-words (p ∷ []))
-    && cond (eqb p 65535) (not (eqb (getD r at 0) 3)) (eqb (getD r at 0) 3))
-    && rows-match r ms k (suc i) (at + 12)
+-- what the findings give an operation: the bytes of its row behind the partner, if any
+unfoldable pub finding-by : List Finding → (i : ℕ) → Option (List ℕ)
+finding-by [] i = none
+finding-by (found p s t l ∷ fs) i = cond (eqb i p) (some (as-words (s ∷ t ∷ l ∷ 0 ∷ []))) (finding-by fs i)
+finding-by (said q c ∷ fs) i = cond (eqb i q) (some (as-words (65535 ∷ 65535 ∷ c ∷ 0 ∷ []))) (finding-by fs i)
+
+-- the operation row that stands from `at` on. One that a finding speaks of is in state 5, has no partner, and tells what the
+-- finding says; any other has partner p, and is in state 3 where that is one and nowhere else
+unfoldable pub row-good : (report : List ℕ) → (at p : ℕ) → Option (List ℕ) → Bool
+row-good r at p (some w) = same (take 12 (drop at r)) (5 ∷ 0 ∷ 255 ∷ 255 ∷ w)
+row-good r at p none =
+    same (take 2 (drop (at + 2) r)) (as-words (p ∷ [])) && cond (eqb p 65535) (not (eqb (getD r at 0) 3)) (eqb (getD r at 0) 3)
+
+-- each of `left` operation rows from operation i on, which stand from `at` on
+unfoldable pub rows-match : (report : List ℕ) → List Match → List Finding → (left i at : ℕ) → Bool
+rows-match r ms fs zero i at = true
+rows-match r ms fs (suc k) i at = row-good r at (partner-by ms i) (finding-by fs i) && rows-match r ms fs k (suc i) (at + 12)
 
 unfoldable pub same-if-given : (report : List ℕ) → Option (List ℕ) → Bool
 same-if-given r none = true
 same-if-given r (some w) = same r w
 
 -- a report of p boards and n operations tells what it must
-unfoldable pub reported : (p n : ℕ) → Told → (report : List ℕ) → Bool
-reported p n (told v k ms q c rs) r =
+unfoldable pub reported : (p n : ℕ) → Told → List Finding → (report : List ℕ) → Bool
+reported p n (told v k ms q c rs) fs r =
     (same (take 16 r) (opening p n (told v k ms q c rs)) && same (take (8 * p) (drop 16 r)) (rows-bytes rs))
-    && (eqb (length r) (16 + 8 * p + 12 * n) && rows-match r ms n 0 (16 + 8 * p))
+    && (eqb (length r) (16 + 8 * p + 12 * n) && rows-match r ms fs n 0 (16 + 8 * p))
 
 -- whether run wrote the order down, or follow accepted it; and the job as it was left
 unfoldable pub driven : Drive → Sheet → (inboxes : List ℕ) → Bool × Job
@@ -197,13 +222,13 @@ driven (follows o) s i =
 
 -- check accepts the sheet, the order is as it must be, the report and the inboxes come out as written
 unfoldable pub as-expected : BenchJob → Bool
-as-expected (job d v t (before becomes after) w) =
+as-expected (job d v t fs (before becomes after) w) =
     let bs = draft-bytes d in
     let s = sheet-in bs in
     let e = driven v s before in
     let r = report s (e .1) in
     (eqb (sheet-refusal bs .number) 0 && e .0)
-    && (reported (P-drafted d) (N-drafted d) t r && (same-if-given r w && same (e .1 .memory) after))
+    && (reported (P-drafted d) (N-drafted d) t fs r && (same-if-given r w && same (e .1 .memory) after))
 
 unfoldable pub all : {A : Type 0} → (A → Bool) → List A → Bool
 all f [] = true

@@ -1,13 +1,14 @@
 -- The premise service on sheets written by hand, in one list under one claim that the checker computes. What each must answer is
--- worked out from document 01, "What is pinned down". BenchNumbered says how to read a sheet. The edits in must-fail/ named
--- premise-.. put wrong definitions in the place of Premise's; this claim refuses each. Assumes nothing.
+-- worked out from document 01, "What is pinned down", and document 02, K9. BenchNumbered and BenchProbes say how to read a sheet.
+-- The edits in must-fail/ named premise-.. put wrong definitions in the place of Premise's; this claim refuses each. Assumes
+-- nothing.
 use mathlib.Core.Path.{_≡_, refl}
 use mathlib.Core.Bool.{Bool, true, _&&_}
 use mathlib.Core.List.{List, [], _∷_}
 use Prim.Native.Nat.{ℕ}
 use lib.Dec.{eqb}
 use Rattle.rules.specs.Premise.{premise-refusal}
-use Rattle.rules.specs.BenchJob.{standard, buffered, ready, any, send, isend, receive, ireceive, wait}
+use Rattle.rules.specs.BenchJob.{standard, buffered, ready, any, send, isend, receive, ireceive, wait, probe, query}
 use Rattle.rules.specs.BenchJob.{script, Draft, draft, draft-bytes, all}
 use Rattle.rules.specs.BenchNumbered.{case-1-sheet, ready-sheet, any-source-sheet}
 use Rattle.rules.specs.Definitions.{definitions}
@@ -69,11 +70,32 @@ questions =
     (script 0 1 (send buffered 1 0 1 0 1 ∷ receive 1 0 1 0 1 ∷ [])
     ∷ script 0 1 (receive 0 0 1 0 1 ∷ send ready 0 0 1 0 1 ∷ []) ∷ []))
     21 3
-    -- a refusal of check wins over all: another CRC, a peer that is no rank, a wait on a slot that nobody holds, a forgotten request
+    -- a probe from any source (document 02, K9) is 20 too, behind a receive that names its source, and before an any-source
+    -- receive; one that names its source is not, though it is of any tag
+    ∷ asked (draft 1 0x8270 [] (script 0 1 (receive 0 0 3 0 1 ∷ probe any 0 3 ∷ []) ∷ [])) 20 1
+    ∷ asked (draft 1 0xaf58 [] (script 0 1 (probe any 0 any ∷ receive any 0 3 0 1 ∷ []) ∷ [])) 20 0
+    ∷ asked (draft 1 0xd53c [] (script 0 1 (probe 0 0 any ∷ receive 0 0 any 0 1 ∷ []) ∷ [])) 0 0
+    -- 23 at the first of two queries (K9), on a board that is covered and has a probe
+    ∷ asked
+    (draft 1 0x973b []
+    (script 32 0 (send buffered 1 0 1 0 0 ∷ isend standard 1 0 2 0 0 0 ∷ query 0 ∷ query 0 ∷ wait 0 ∷ [])
+    ∷ script 0 0 (probe 0 0 any ∷ receive 0 0 1 0 0 ∷ receive 0 0 2 0 0 ∷ []) ∷ []))
+    23 2
+    -- with a byte less 22 wins over 23; 20 and 21 do so too, behind the query
+    ∷ asked
+    (draft 1 0xb0d5 []
+    (script 31 0 (send buffered 1 0 1 0 0 ∷ isend standard 1 0 2 0 0 0 ∷ query 0 ∷ query 0 ∷ wait 0 ∷ [])
+    ∷ script 0 0 (probe 0 0 any ∷ receive 0 0 1 0 0 ∷ receive 0 0 2 0 0 ∷ []) ∷ []))
+    22 0
+    ∷ asked (draft 1 0x69c1 [] (script 0 0 (ireceive 0 0 1 0 0 0 ∷ query 0 ∷ wait 0 ∷ probe any 0 1 ∷ []) ∷ [])) 20 3
+    ∷ asked (draft 1 0xaad3 [] (script 0 0 (ireceive 0 0 1 0 0 0 ∷ query 0 ∷ send ready 0 0 1 0 0 ∷ wait 0 ∷ []) ∷ [])) 21 2
+    -- a refusal of check wins over all: another CRC, a peer that is no rank, a wait on a slot that nobody holds, a forgotten request,
+    -- also where a query names it
     ∷ asked (draft 1 0x465d [] (script 0 1 (receive any 0 3 0 1 ∷ []) ∷ [])) 4 0
     ∷ asked (draft 1 0x519d [] (script 0 0 (send ready 9 0 3 0 0 ∷ []) ∷ [])) 6 0
     ∷ asked (draft 1 0x610e [] (script 0 1 (receive any 0 3 0 1 ∷ wait 0 ∷ []) ∷ [])) 7 1
     ∷ asked (draft 1 0xe8a0 [] (script 0 1 (ireceive any 0 3 0 1 0 ∷ []) ∷ [])) 7 0
+    ∷ asked (draft 1 0x145c [] (script 0 1 (ireceive 0 0 3 0 1 0 ∷ query 0 ∷ []) ∷ [])) 7 0
     -- a receive of any tag names its source, and a synchronous send is charged nothing; no operations at all
     ∷ asked case-1-sheet 0 0
     ∷ asked (draft 1 0xe5b1 [] (script 0 0 [] ∷ [])) 0 0 ∷ []

@@ -1,5 +1,5 @@
 -- Bench calls: numbers 1 to 9, each at several places, and calls next to them that are accepted. Worked out by hand from
--- document 01, "When the desk says no" and "The sheet, byte by byte".
+-- document 01, "When the desk says no" and "The sheet, byte by byte", and document 02, K7 and K11. BenchProbesRefused has those for K9.
 -- To read a call:
 --   asks-check sheet (number at place)
 --   asks-follow sheet order inbox-room report-room scratch-room (number at place)
@@ -60,10 +60,11 @@ bench-calls =
     ∷ asks-check (altered 26 0 (of-each 0x5d9f (send standard 1 0 0 0 0 ∷ []) (send standard 0 0 0 0 0 ∷ []))) (5 at 2)
     ∷ asks-check (altered 26 2 (of-each 0x10cb (send standard 1 0 0 0 0 ∷ []) (send standard 0 0 0 0 0 ∷ []))) (5 at 2)
     ∷ asks-check (altered 18 0 (of-each 0xb6d7 (send standard 1 0 0 0 0 ∷ []) (send standard 0 0 0 0 0 ∷ []))) (5 at 1)
-    -- 6. Kinds 0 and 7, flag 2, zero field 1, also in its high byte; a blocking operation's slot 1
+    -- 6. Kinds 0 and 9 (7 and 8 are document 02's K9), flag 2, zero field 1, also in its high byte; a blocking operation's slot 1
     ∷ asks-check (draft-bytes (of-rank-1 0x44fd (send standard 0 0 0 0 1 ∷ []))) (0 at 0)
     ∷ asks-check (draft-bytes (of-rank-1 0xb4cc (send 0 0 0 0 0 1 ∷ []))) (6 at 0)
-    ∷ asks-check (draft-bytes (of-rank-1 0x4419 (send 7 0 0 0 0 1 ∷ []))) (6 at 0)
+    ∷ asks-check (draft-bytes (of-rank-1 0xb592 (send 9 0 0 0 0 1 ∷ []))) (6 at 0)
+    ∷ asks-check (draft-bytes (of-rank-1 0xf032 (send 9 0 0 0 0 0 ∷ []))) (6 at 0)
     ∷ asks-check (altered 33 2 (of-rank-1 0x6539 (send standard 0 0 0 0 1 ∷ []))) (6 at 0)
     ∷ asks-check (altered 38 1 (of-rank-1 0x4788 (send standard 0 0 0 0 1 ∷ []))) (6 at 0)
     ∷ asks-check (altered 39 1 (of-rank-1 0x9cb4 (send standard 0 0 0 0 1 ∷ []))) (6 at 0)
@@ -109,7 +110,7 @@ bench-calls =
     ∷ asks-check (altered 58 1 (of-rank-1 0x1bff (isend standard 0 0 0 0 1 0 ∷ wait 0 ∷ []))) (6 at 1)
     ∷ asks-check (altered 60 1 (of-rank-1 0x198c (isend standard 0 0 0 0 1 0 ∷ wait 0 ∷ []))) (6 at 1)
     -- Of two the first is told
-    ∷ asks-check (draft-bytes (of-rank-1 0xb460 (send standard 0 0 0 0 1 ∷ send 7 0 0 0 0 1 ∷ send 0 0 0 0 0 1 ∷ []))) (6 at 1)
+    ∷ asks-check (draft-bytes (of-rank-1 0x6d71 (send standard 0 0 0 0 1 ∷ send 9 0 0 0 0 1 ∷ send 0 0 0 0 0 1 ∷ []))) (6 at 1)
     -- 7. Slots: taken twice, by a send and by a receive; never taken; another taken; freed twice; taken again after its wait
     ∷ asks-check (draft-bytes (of-rank-1 0x3cb2 (isend standard 0 0 0 0 1 3 ∷ isend standard 0 0 0 0 1 3 ∷ []))) (7 at 1)
     ∷ asks-check (draft-bytes (of-rank-1 0xcc15 (isend standard 0 0 0 0 1 3 ∷ ireceive 0 0 0 0 1 3 ∷ []))) (7 at 1)
@@ -163,9 +164,9 @@ bench-calls =
     ∷ asks-check (draft-bytes (of-each 0x513b (ireceive 1 0 0 0 0 0 ∷ []) (send standard 0 0 0 0 0 ∷ wait 0 ∷ []))) (7 at 2)
     -- Lowest number first: a board entry behind a wrong kind; a wrong kind behind a slot that is not held, and behind a forgotten
     -- request
-    ∷ asks-check (draft-bytes (draft 1 0x96f2 [] (script 0 0 (send 7 1 0 0 0 0 ∷ []) ∷ script 16385 0 [] ∷ []))) (5 at 1)
-    ∷ asks-check (draft-bytes (of-rank-1 0xed21 (wait 0 ∷ send 7 0 0 0 0 1 ∷ []))) (6 at 1)
-    ∷ asks-check (draft-bytes (of-rank-1 0xe9bd (isend standard 0 0 0 0 1 0 ∷ send 7 0 0 0 0 1 ∷ []))) (6 at 1)
+    ∷ asks-check (draft-bytes (draft 1 0x47cc [] (script 0 0 (send 9 1 0 0 0 0 ∷ []) ∷ script 16385 0 [] ∷ []))) (5 at 1)
+    ∷ asks-check (draft-bytes (of-rank-1 0x1caa (wait 0 ∷ send 9 0 0 0 0 1 ∷ []))) (6 at 1)
+    ∷ asks-check (draft-bytes (of-rank-1 0x1836 (isend standard 0 0 0 0 1 0 ∷ send 9 0 0 0 0 1 ∷ []))) (6 at 1)
     -- 8. Job 1's sheet: inbox 4, report 56, order out 4, scratch 65,536; exactly enough, and more
     ∷ asks-run (draft-bytes case-1-sheet) 4 56 4 65536 (0 at 0)
     ∷ asks-run (draft-bytes case-1-sheet) 5 57 5 65537 (0 at 0)

@@ -7,7 +7,7 @@ use Prim.Native.Nat.{ℕ, zero, suc, _+_, _≤_}
 use lib.Dec.{leb, eqb}
 use lib.ListN.{length, set, take, drop}
 use Rattle.rules.specs.Limits.{any, report-header-size, board-row-size}
-use Rattle.rules.specs.Sheet.{Sheet, Op, Board, sheet-in, P-of, inbox-total, is-receive, is-ready, is-buffered}
+use Rattle.rules.specs.Sheet.{Sheet, Op, Board, sheet-in, P-of, inbox-total, selects, tells-completion, is-ready, is-buffered}
 use Rattle.rules.specs.Refusal.{sheet-refusal}
 use Rattle.rules.specs.Job.{Job}
 use Rattle.rules.specs.Step.{charge-of, is-none}
@@ -18,14 +18,14 @@ use Rattle.rules.specs.Report.{report}
 unfoldable pub passes : List ℕ → Bool
 passes bs = eqb (sheet-refusal bs .number) 0
 
--- CALM: no receive from any source and no ready send; on each board the charges of all its buffered sends, were none
--- matched, add up to at most its attached size
+-- CALM: no receive and no probe from any source, no ready send and no query (document 02, K9); on each board the charges of all
+-- its buffered sends, were none matched, add up to at most its attached size
 unfoldable pub is-any-source : Op → Bool
-is-any-source o = is-receive o && eqb (o .peer) any
+is-any-source o = selects o && eqb (o .peer) any
 
 unfoldable pub none-wild : List Op → Bool
 none-wild [] = true
-none-wild (o ∷ os) = (not (is-any-source o) && not (is-ready o)) && none-wild os
+none-wild (o ∷ os) = (not (is-any-source o) && (not (is-ready o) && not (tells-completion o))) && none-wild os
 
 unfoldable pub all-charges : List Op → ℕ
 all-charges [] = 0

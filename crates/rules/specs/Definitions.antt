@@ -13,30 +13,34 @@ use Rattle.rules.specs.Premise
 use Rattle.rules.specs.BenchJob
 use Rattle.rules.specs.BenchNumbered
 use Rattle.rules.specs.BenchFurther
+use Rattle.rules.specs.BenchProbes
 use Rattle.rules.specs.BenchRefusal
 use Rattle.rules.specs.BenchRefused
 use Rattle.rules.specs.BenchRooms
+use Rattle.rules.specs.BenchProbesRefused
 
 unfoldable pub definitions : Unit {0}
 unfolding
     Crc.xor Crc.shift Crc.shifts Crc.crc-byte Crc.crc-from Crc.crc
     Sheet.no-op Sheet.no-board Sheet.P-of Sheet.N-of Sheet.op Sheet.board Sheet.is-send Sheet.is-buffered
-    Sheet.is-ready Sheet.is-receive Sheet.is-wait Sheet.is-nonblocking Sheet.only-half Sheet.no-half
+    Sheet.is-ready Sheet.is-receive Sheet.is-wait Sheet.is-probe Sheet.is-query Sheet.is-nonblocking
+    Sheet.tells-message Sheet.tells-completion Sheet.tells Sheet.selects Sheet.only-half Sheet.no-half
     Sheet.takes-slot Sheet.names-slot Sheet.frees-slot Sheet.sum-before Sheet.counts-before Sheet.inbox-start
     Sheet.inbox-total Sheet.rank-from Sheet.rank-of Sheet.two Sheet.boards-in Sheet.ops-in Sheet.sheet-in
     Refusal.refusal Refusal.or-else Refusal.first-broken Refusal.sizes-good Refusal.layout-good Refusal.crc-good
     Refusal.board-good Refusal.boards-refusal Refusal.or-any Refusal.envelope-good Refusal.slot-good
-    Refusal.extent-good Refusal.wait-good Refusal.fields-good Refusal.room-for Refusal.op-good Refusal.ops-refusal
+    Refusal.extent-good Refusal.wait-good Refusal.probe-good Refusal.fields-good Refusal.room-for Refusal.op-good Refusal.ops-refusal
     Refusal.freed Refusal.holds Refusal.some-below Refusal.slot-held Refusal.share Refusal.area-taken
     Refusal.request-good Refusal.slot-freed Refusal.requests-refusal Refusal.tables-refusal Refusal.sheet-refusal
     Job.entry Job.bare-entry Job.place Job.job Job.started Job.entry-at Job.place-at Job.with-entries
     Job.with-places Job.with-messages Job.with-receives Job.with-memory Job.with-stop Job.with-steps
     Step.next-op Step.is-finished Step.complete Step.waited-below Step.waited Step.complete-if Step.half-complete
-    Step.in-waiting-half Step.is-none Step.able Step.fits-with Step.first-by Step.first-message Step.first-receive
+    Step.is-none Step.half-ends Step.in-waiting-half Step.able Step.fits-with Step.first-by Step.first-message Step.first-receive
     Step.without Step.splice Step.area-start Step.is-cut Step.copied Step.delivered Step.charge-of Step.charged
     Step.released Step.with-place Step.charge Step.release Step.matched-rows Step.matched Step.with-state
     Step.pend-message Step.pend-receive Step.stopped Step.one-finished Step.now-waiting Step.initiated
-    Step.fits-buffer Step.unmatched Step.sent Step.received Step.initiating Step.ended Step.step
+    Step.fits-buffer Step.unmatched Step.sent Step.received Step.initiating Step.probe-row Step.query-row
+    Step.half-row Step.ended Step.step
     Order.followed Order.follow-from Order.follow Order.lowest-able Order.next-rank Order.none-able Order.ran
     Order.run-next Order.run-from Order.run
     Report.low-two Report.count-from Report.is-pending-message Report.is-pending-receive Report.pending-messages
@@ -49,16 +53,20 @@ unfolding
     Claims.all-covered Claims.calm Claims.accepts Claims.left-by Claims.rows-without-peaks Claims.without-peaks
     Claims.Alike
     Premise.source-good Premise.any-source-refusal Premise.mode-good Premise.ready-refusal Premise.cover-good
-    Premise.cover-refusal Premise.calm-refusal Premise.premise-refusal Premise.Premise-says
+    Premise.cover-refusal Premise.query-good Premise.query-refusal Premise.calm-refusal Premise.premise-refusal Premise.Premise-says
     BenchJob.scripts-of BenchJob.lines-of BenchJob.P-drafted BenchJob.N-drafted BenchJob.as-words
     BenchJob.line-bytes BenchJob.all-line-bytes BenchJob.entry-bytes BenchJob.draft-bytes BenchJob.same
-    BenchJob.verdict-bytes BenchJob.opening BenchJob.rows-bytes BenchJob.partner-by BenchJob.rows-match
+    BenchJob.verdict-bytes BenchJob.opening BenchJob.rows-bytes BenchJob.partner-by BenchJob.finding-by
+    BenchJob.row-good BenchJob.rows-match
     BenchJob.same-if-given BenchJob.reported BenchJob.driven BenchJob.as-expected BenchJob.all
     BenchNumbered.case-1-sheet BenchNumbered.nonblocking-sheet BenchNumbered.ready-sheet
     BenchNumbered.any-source-sheet BenchNumbered.numbered-jobs
     BenchFurther.further-jobs
+    BenchProbes.probe-sheet BenchProbes.probe-buffered-sheet BenchProbes.any-probe-sheet BenchProbes.query-sheet
+    BenchProbes.query-receive-sheet BenchProbes.stopped-sheet BenchProbes.hanging-sheet BenchProbes.probe-jobs
     BenchRefusal.altered BenchRefusal.header-only BenchRefusal.plain BenchRefusal.of-rank-1 BenchRefusal.of-each
     BenchRefusal.is-answer BenchRefusal.as-answered
     BenchRefused.bench-calls
+    BenchProbesRefused.probe-calls
     BenchRooms.follow-leaves BenchRooms.run-leaves BenchRooms.bench-rooms
 definitions = tt

@@ -8,8 +8,9 @@ use lib.ListN.{getD, replicate}
 use Rattle.rules.specs.Limits.{absent}
 use Rattle.rules.specs.Sheet.{Sheet, P-of, N-of}
 
--- the row of an operation: its state (0 not entered, 1 pending, 2 buffered, 3 matched, 5 wait finished), its partner, and of
--- a matched receive its status: source, tag and length of the message; cut says that the message was truncated
+-- the row of an operation: its state (0 not entered, 1 pending, 2 buffered, 3 matched, 5 wait, probe or query finished), its
+-- partner, and of a matched receive its status: source, tag and length of the message; cut says that the message was truncated.
+-- A probe's row tells of a message the same, a query's tells completion by the length (document 02, K9)
 pub record Entry : Type 0 where
   pub state : ℕ
   pub cut : ℕ

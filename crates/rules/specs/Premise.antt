@@ -1,16 +1,16 @@
 -- Whether the order of steps can matter for a sheet (document 01, "What is pinned down", the first point of demand 3), as a
--- service answers it: the lowest number first, each at its first place. The numbers 20 to 22 are this service's own and stand
+-- service answers it: the lowest number first, each at its first place. The numbers 20 to 23 are this service's own and stand
 -- beside 1 to 9 of document 01's table. Assumes nothing: these are definitions.
 use mathlib.Core.Bool.{Bool, not}
 use mathlib.Core.List.{List}
 use Prim.Native.Nat.{ℕ}
 use lib.Dec.{leb}
-use Rattle.rules.specs.Sheet.{Sheet, op, board, P-of, N-of, is-ready, sheet-in}
+use Rattle.rules.specs.Sheet.{Sheet, op, board, P-of, N-of, is-ready, tells-completion, sheet-in}
 use Rattle.rules.specs.Refusal.{Refusal, or-else, first-broken, sheet-refusal}
 use Rattle.rules.specs.Service.{answers}
 use Rattle.rules.specs.Claims.{is-any-source, all-charges, script}
 
--- 20: a receive from any source; the place is its operation
+-- 20: a receive or a probe from any source; the place is its operation
 unfoldable pub source-good : Sheet → (i : ℕ) → Bool
 source-good s i = not (is-any-source (op s i))
 
@@ -32,11 +32,18 @@ cover-good s r = leb (all-charges (script (board s r) (s .ops))) (board s r .att
 unfoldable pub cover-refusal : Sheet → Refusal
 cover-refusal s = first-broken 22 (cover-good s) (P-of s) 0
 
+-- 23: a query (document 02, K9); the place is its operation
+unfoldable pub query-good : Sheet → (i : ℕ) → Bool
+query-good s i = not (tells-completion (op s i))
+
+unfoldable pub query-refusal : Sheet → Refusal
+query-refusal s = first-broken 23 (query-good s) (N-of s) 0
+
 -- why a sheet that passes check is not calm: what may make the order matter
 unfoldable pub calm-refusal : Sheet → Refusal
-calm-refusal s = or-else (any-source-refusal s) (or-else (ready-refusal s) (cover-refusal s))
+calm-refusal s = or-else (any-source-refusal s) (or-else (ready-refusal s) (or-else (cover-refusal s) (query-refusal s)))
 
--- PREMISE: refusals 1 to 7 as check gives them, then 20 to 22, or number 0 and place 0
+-- PREMISE: refusals 1 to 7 as check gives them, then 20 to 23, or number 0 and place 0
 unfoldable pub premise-refusal : List ℕ → Refusal
 premise-refusal bs = or-else (sheet-refusal bs) (calm-refusal (sheet-in bs))
 

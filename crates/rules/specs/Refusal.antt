@@ -8,7 +8,7 @@ use lib.ListN.{length}
 use Rattle.rules.specs.Limits.{most-boards, most-comms, most-ops, most-payload, most-attached, most-inbox, tag-limit, most-length, slot-limit}
 use Rattle.rules.specs.Limits.{any, header-size, boards-at, ops-at, payload-at, sheet-size}
 use Rattle.rules.specs.Sheet.{Sheet, Op, op, board, P-of, N-of, rank-of, counts-before, inbox-start, is-send, is-receive, takes-slot}
-use Rattle.rules.specs.Sheet.{names-slot, frees-slot, two, P-in, C-in, N-in, L-in, sheet-in}
+use Rattle.rules.specs.Sheet.{selects, tells-message, names-slot, frees-slot, two, P-in, C-in, N-in, L-in, sheet-in}
 use Rattle.rules.specs.Crc.{crc}
 
 -- an answer: number 0 and place 0 is success
@@ -61,11 +61,11 @@ boards-refusal s =
     or-else (first-broken 5 (board-good s) (P-of s) 0)
     (cond (eqb (counts-before s (P-of s)) (N-of s)) accepted (refusal 5 (P-of s)))
 
--- 6: a receive may name any source and any tag
+-- 6: what selects messages, a receive or a probe, may name any source and any tag
 unfoldable pub or-any : Op → (limit v : ℕ) → Bool
-or-any o l v = ltb v l || (is-receive o && eqb v any)
+or-any o l v = ltb v l || (selects o && eqb v any)
 
--- peer, communicator and tag of a send or a receive, among p boards and c communicators
+-- peer, communicator and tag of a send, a receive or a probe, among p boards and c communicators
 unfoldable pub envelope-good : (p c : ℕ) → Op → Bool
 envelope-good p c o = (or-any o p (o .peer) && ltb (o .comm) c) && or-any o tag-limit (o .tag)
 
@@ -85,9 +85,16 @@ wait-good o =
     ((eqb (o .flag) 0 && eqb (o .peer) 0) && (eqb (o .comm) 0 && eqb (o .zero-field) 0))
     && ((eqb (o .tag) 0 && eqb (o .offset) 0) && (eqb (o .long) 0 && ltb (o .slot) slot-limit))
 
+-- a probe has an envelope; its other fields are 0 (document 02, K9)
+unfoldable pub probe-good : Op → Bool
+probe-good o =
+    (eqb (o .flag) 0 && eqb (o .zero-field) 0) && ((eqb (o .offset) 0 && eqb (o .long) 0) && eqb (o .slot) 0)
+
 unfoldable pub fields-good : (p c room : ℕ) → Op → Bool
 fields-good p c room o =
-    cond (names-slot o) (wait-good o) ((is-send o || is-receive o) && (envelope-good p c o && extent-good room o))
+    cond (names-slot o) (wait-good o)
+    (cond (tells-message o) (envelope-good p c o && probe-good o)
+    ((is-send o || is-receive o) && (envelope-good p c o && extent-good room o)))
 
 -- a receive's room is its board's inbox, a send's the payload
 unfoldable pub room-for : Sheet → (i : ℕ) → ℕ

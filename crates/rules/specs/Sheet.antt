@@ -1,13 +1,13 @@
 -- The sheet, byte by byte (document 01, "The sheet, byte by byte"): boards, operations and payload, and what bytes decode to.
 -- Everything that reads a sheet goes through `sheet-in`. Assumes nothing: these are definitions.
-use mathlib.Core.Bool.{Bool, true, false, _&&_, cond}
+use mathlib.Core.Bool.{Bool, true, false, _&&_, _||_, cond}
 use mathlib.Core.List.{List, [], _∷_}
 use Prim.Native.Nat.{ℕ, zero, suc, _+_, _*_}
 use lib.Dec.{ltb, leb, eqb}
 use lib.ListN.{length, getD, take, drop}
 use Rattle.rules.specs.Limits.{boards-at, board-size, op-size, ops-at, payload-at}
 
--- an operation: a send, a receive, or a wait on a request slot
+-- an operation: a send, a receive, a wait on a request slot, a probe, or a status query on a request slot
 pub record Op : Type 0 where
   pub kind : ℕ
   pub flag : ℕ
@@ -68,7 +68,8 @@ op s i = getD (s .ops) i no-op
 unfoldable pub board : Sheet → (r : ℕ) → Board
 board s r = getD (s .boards) r no-board
 
--- KINDS: 1 standard, 2 buffered, 3 synchronous, 4 ready send, 5 receive, 6 wait
+-- KINDS: 1 standard, 2 buffered, 3 synchronous, 4 ready send, 5 receive, 6 wait; 7 blocking probe, 8 status query (document
+-- 02, K9; MPI_PROBE, MPI_REQUEST_GET_STATUS)
 unfoldable pub is-send : Op → Bool
 is-send o = leb 1 (o .kind) && leb (o .kind) 4
 
@@ -84,27 +85,49 @@ is-receive o = eqb (o .kind) 5
 unfoldable pub is-wait : Op → Bool
 is-wait o = eqb (o .kind) 6
 
--- a nonblocking operation (flag 1); a wait has flag 0
+unfoldable pub is-probe : Op → Bool
+is-probe o = eqb (o .kind) 7
+
+unfoldable pub is-query : Op → Bool
+is-query o = eqb (o .kind) 8
+
+-- a nonblocking operation (flag 1); all but sends and receives have flag 0
 unfoldable pub is-nonblocking : Op → Bool
 is-nonblocking o = eqb (o .flag) 1
 
 -- ROLES: what an operation is asked for, beside sending and receiving. A further kind is given its roles here; everything else
--- asks for the role that it means and not for the kind. "Each operation but wait has an initiating step. A blocking one then
--- has a waiting half; a wait is only a waiting half." (MPI: an operation is initiated, and then completed.)
+-- asks for the role that it means and not for the kind.
+-- Its one step tells in its row what it found, and changes nothing else (document 02, K9): of the earliest pending message that
+-- fits, source, tag and length; of the operation that holds a slot, whether it is complete
+unfoldable pub tells-message : Op → Bool
+tells-message o = is-probe o
+
+unfoldable pub tells-completion : Op → Bool
+tells-completion o = is-query o
+
+unfoldable pub tells : Op → Bool
+tells o = tells-message o || tells-completion o
+
+-- it names a source and a tag, or any, by which messages are selected (MPI: message selection)
+unfoldable pub selects : Op → Bool
+selects o = is-receive o || tells-message o
+
+-- "Each operation but wait has an initiating step. A blocking one then has a waiting half; a wait is only a waiting half." (MPI:
+-- an operation is initiated, and then completed.) An operation that tells initiates nothing, and is only a waiting half too
 unfoldable pub only-half : Op → Bool
-only-half o = is-wait o
+only-half o = is-wait o || tells o
 
 -- an operation that is finished after its initiating step: it has no waiting half
 unfoldable pub no-half : Op → Bool
 no-half o = is-nonblocking o
 
 -- SLOTS (MPI: requests): "a nonblocking operation takes a slot that its board doesn't hold; a wait names one it holds and
--- frees it". At the end of its script a board holds none (document 02, K7)
+-- frees it". A query names one and does not free it (document 02, K9). At the end of its script a board holds none (K7)
 unfoldable pub takes-slot : Op → Bool
 takes-slot o = is-nonblocking o
 
 unfoldable pub names-slot : Op → Bool
-names-slot o = is-wait o
+names-slot o = is-wait o || tells-completion o
 
 unfoldable pub frees-slot : Op → Bool
 frees-slot o = is-wait o

@@ -8,7 +8,8 @@ use lib.Dec.{ltb, leb, eqb}
 use lib.ListN.{length, set, take, drop}
 use Rattle.rules.specs.Limits.{any, absent, bsend-overhead}
 use Rattle.rules.specs.Sheet.{Sheet, Op, op, board, P-of, rank-of, inbox-start, is-buffered, is-ready, is-receive, only-half, no-half, takes-slot, frees-slot}
-use Rattle.rules.specs.Job.{Job, Place, Stop, place, entry, bare-entry, entry-at, place-at, with-entries, with-places, with-messages}
+use Rattle.rules.specs.Sheet.{tells-message, tells-completion}
+use Rattle.rules.specs.Job.{Job, Entry, Place, Stop, place, entry, bare-entry, entry-at, place-at, with-entries, with-places, with-messages}
 use Rattle.rules.specs.Job.{with-receives, with-memory, with-stop, with-steps}
 
 -- the operation that is next on a board
@@ -19,12 +20,33 @@ next-op s x r = board s r .first + place-at x r .finished
 unfoldable pub is-finished : Sheet → Job → (r : ℕ) → Bool
 is-finished s x r = leb (board s r .count) (place-at x r .finished)
 
+-- FIT (004): message m is addressed to the receiver; communicators equal; source equal or any; tag equal or any
+unfoldable pub fits-with : Sheet → (m q : ℕ) → Bool
+fits-with s m q =
+    let a = op s m in
+    let b = op s q in
+    (eqb (a .peer) (rank-of s q) && eqb (a .comm) (b .comm))
+    && ((eqb (b .peer) any || eqb (b .peer) (rank-of s m)) && (eqb (b .tag) any || eqb (b .tag) (a .tag)))
+
+-- the first of a list, in its order, that passes a test
+unfoldable pub first-by : (ℕ → Bool) → List ℕ → Option ℕ
+first-by f [] = none
+first-by f (x ∷ xs) = cond (f x) (some x) (first-by f xs)
+
+-- the earliest-arrived pending message that fits operation q, a receive or a probe; the earliest-posted pending receive that
+-- fits message m
+unfoldable pub first-message : Sheet → (q : ℕ) → List ℕ → Option ℕ
+first-message s q ms = first-by (λ m. fits-with s m q) ms
+
+unfoldable pub first-receive : Sheet → (m : ℕ) → List ℕ → Option ℕ
+first-receive s m rs = first-by (λ q. fits-with s m q) rs
+
 -- complete: a send buffered or matched, a receive matched
 unfoldable pub complete : Job → (i : ℕ) → Bool
 complete x i = leb 2 (entry-at x i .state)
 
--- the operation that wait i waits for: the latest one of its board below j that took its slot. On a sheet that passes
--- check there is one; none is the answer elsewhere, and is never complete
+-- the operation that holds the slot which operation i names, a wait or a query: the latest one of its board below j that took
+-- that slot. On a sheet that passes check there is one; none is the answer elsewhere, and is never complete
 unfoldable pub waited-below : (j : ℕ) → Sheet → (i : ℕ) → Option ℕ
 waited-below zero s i = none
 waited-below (suc j) s i =
@@ -42,39 +64,26 @@ complete-if x (some j) = complete x j
 unfoldable pub half-complete : Sheet → Job → (i : ℕ) → Bool
 half-complete s x i = cond (frees-slot (op s i)) (complete-if x (waited s i)) (complete x i)
 
--- each operation but wait has an initiating step; a blocking one then has a waiting half, a wait is only a waiting half
-unfoldable pub in-waiting-half : Sheet → Job → (r : ℕ) → Bool
-in-waiting-half s x r = place-at x r .waiting || only-half (op s (next-op s x r))
-
 unfoldable pub is-none : {A : Type 0} → Option A → Bool
 is-none none = true
 is-none (some a) = false
 
--- able (MPI: the process can make progress): not stopped, unfinished, and an initiating step or a complete waiting half next
+-- whether operation i's waiting half can end: a probe's where a pending message fits it, a query's always (document 02, K9), any
+-- other's where what it waits for is complete
+unfoldable pub half-ends : Sheet → Job → (i : ℕ) → Bool
+half-ends s x i =
+    cond (tells-message (op s i)) (not (is-none (first-message s i (x .messages))))
+    (tells-completion (op s i) || half-complete s x i)
+
+-- each operation that is not only a waiting half has an initiating step; a blocking one then has a waiting half
+unfoldable pub in-waiting-half : Sheet → Job → (r : ℕ) → Bool
+in-waiting-half s x r = place-at x r .waiting || only-half (op s (next-op s x r))
+
+-- able (MPI: the process can make progress): not stopped, unfinished, and an initiating step or a waiting half that can end next
 unfoldable pub able : Sheet → Job → (r : ℕ) → Bool
 able s x r =
     (is-none (x .stop) && (ltb r (P-of s) && not (is-finished s x r)))
-    && (not (in-waiting-half s x r) || half-complete s x (next-op s x r))
-
--- FIT (004): message m is addressed to the receiver; communicators equal; source equal or any; tag equal or any
-unfoldable pub fits-with : Sheet → (m q : ℕ) → Bool
-fits-with s m q =
-    let a = op s m in
-    let b = op s q in
-    (eqb (a .peer) (rank-of s q) && eqb (a .comm) (b .comm))
-    && ((eqb (b .peer) any || eqb (b .peer) (rank-of s m)) && (eqb (b .tag) any || eqb (b .tag) (a .tag)))
-
--- the first of a list, in its order, that passes a test
-unfoldable pub first-by : (ℕ → Bool) → List ℕ → Option ℕ
-first-by f [] = none
-first-by f (x ∷ xs) = cond (f x) (some x) (first-by f xs)
-
--- the earliest-arrived pending message that fits receive q; the earliest-posted pending receive that fits message m
-unfoldable pub first-message : Sheet → (q : ℕ) → List ℕ → Option ℕ
-first-message s q ms = first-by (λ m. fits-with s m q) ms
-
-unfoldable pub first-receive : Sheet → (m : ℕ) → List ℕ → Option ℕ
-first-receive s m rs = first-by (λ q. fits-with s m q) rs
+    && (not (in-waiting-half s x r) || half-ends s x (next-op s x r))
 
 -- a list without the first v in it
 unfoldable pub without : ℕ → List ℕ → List ℕ
@@ -138,8 +147,11 @@ matched s m q x =
     (with-messages (without m (x .messages)) (matched-rows s m q (release s m x))))
 
 -- INITIATING STEPS
+abbrev pub with-row : (i : ℕ) → Entry → Job → Job
+with-row i e x = with-entries (set (x .entries) i e) x
+
 unfoldable pub with-state : (i state : ℕ) → Job → Job
-with-state i v x = with-entries (set (x .entries) i (bare-entry v)) x
+with-state i v x = with-row i (bare-entry v) x
 
 -- pending: MPI's unexpected message, and posted receive
 unfoldable pub pend-message : (i state : ℕ) → Job → Job
@@ -196,9 +208,25 @@ initiating s r i x =
     cond (is-receive (op s i)) (received s r i (first-message s i (x .messages)) x)
     (sent s r i (first-receive s i (x .receives)) x)
 
+-- WHAT IS TOLD (document 02, K9). A probe tells source, tag and full length of the message that it found
+unfoldable pub probe-row : Sheet → Option ℕ → Entry
+probe-row s none = bare-entry 5
+probe-row s (some m) = entry 5 0 absent (rank-of s m) (op s m .tag) (op s m .long)
+
+-- a query tells by its length whether the operation was complete
+unfoldable pub query-row : Bool → Entry
+query-row b = entry 5 0 absent absent absent (cond b 1 0)
+
+-- the row of operation i, which is only a waiting half, after its step in job x
+unfoldable pub half-row : Sheet → Job → (i : ℕ) → Entry
+half-row s x i =
+    cond (tells-message (op s i)) (probe-row s (first-message s i (x .messages)))
+    (cond (tells-completion (op s i)) (query-row (complete-if x (waited s i))) (bare-entry 5))
+
 -- A WAITING HALF ends its operation; the row of one that is only a waiting half then says so
 unfoldable pub ended : Sheet → (r i : ℕ) → Job → Job
-ended s r i x = with-place r (one-finished (place-at x r)) (cond (only-half (op s i)) (with-state i 5 x) x)
+ended s r i x =
+    with-place r (one-finished (place-at x r)) (cond (only-half (op s i)) (with-row i (half-row s x i) x) x)
 
 -- a step of board r, counted, stopping or not
 unfoldable pub step : Sheet → (r : ℕ) → Job → Job

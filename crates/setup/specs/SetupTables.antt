@@ -1,7 +1,7 @@
--- The two tables that are written once: the rank of each operation, and for each wait the operation that it waits for. They
+-- The two tables that are written once: the rank of each operation, and for each that names a slot the one that holds it. They
 -- are filled script by script, with a list of the latest operation that took each slot. The tables are right below operation
 -- i (`Filled`), the list is right there (`Latest`); one operation more keeps both. Assumes nothing.
---   latest                   the latest operation of board r below i that took slot k; waited-latest: what a wait waits for
+--   latest                   the latest operation of board r below i that took slot k; waited-latest: who holds the slot that one names
 --   Latest                   latest-none: before a script; latest-more: one operation more
 --   Filled                   filled-none, filled-more; filled-all: state's Indexed
 use mathlib.Core.Path.{_≡_, refl, sym, ap, subst, _∙_}
@@ -17,11 +17,10 @@ use lib.ListN.{length, getD, set, replicate, length-set, length-replicate}
 use lib.Seq.{getD-set-same, getD-set-other}
 use borrow.Author.Tests.{eq-eqb, eqb-true}
 use Rattle.rules.specs.Limits.{most-ops, slot-limit, scratch-size}
-use Rattle.rules.specs.Sheet.{Sheet, Op, op, board, P-of, N-of, rank-of, sheet-in, names-slot, takes-slot, frees-slot}
+use Rattle.rules.specs.Sheet.{Sheet, Op, op, board, P-of, N-of, rank-of, sheet-in, names-slot, takes-slot}
 use Rattle.rules.specs.Refusal.{freed, holds, slot-held, request-good}
 use Rattle.rules.specs.Step.{waited-below, waited, splice}
 use Rattle.rules.specs.Report.{low-two}
-use Rattle.laws.specs.Fields.{frees-names}
 use Rattle.laws.specs.Tests.{and-left, and-right, and-both, true-not-false, not-so, cond-true, cond-false}
 use Rattle.laws.specs.Below.{below-found}
 use Rattle.laws.specs.Laid.{Laid}
@@ -85,12 +84,12 @@ latest-some s r k (suc i) j l t = go (takes s r k i) refl (λ d. latest-some s r
         other (no d) = omega arith
 
 -- the slot that an operation names is held (rule 7), so one took it
-pub wait-taken : (s : Sheet) → Valid s → (r i : ℕ) → i < N-of s → rank-of s i ≡ r → frees-slot (op s i) ≡ true → Taken s r i (op s i .slot)
+pub wait-taken : (s : Sheet) → Valid s → (r i : ℕ) → i < N-of s → rank-of s i ≡ r → names-slot (op s i) ≡ true → Taken s r i (op s i .slot)
 unfolding request-good slot-held holds
 wait-taken s g r i l e w =
     let k = op s i .slot in
     let test : ℕ → Bool = λ j. holds s j i && eqb (op s j .slot) k in
-    let F = below-found i test (sym (cond-true (names-slot (op s i)) (slot-held s i k) _ (frees-names (op s i) w)) ∙ g .requests-good i l) in
+    let F = below-found i test (sym (cond-true (names-slot (op s i)) (slot-held s i k) _ w) ∙ g .requests-good i l) in
     let j = F .at in
     let held = and-left (holds s j i) (eqb (op s j .slot) k) (F .passed) in
     let near = ltb j i && eqb (rank-of s j) (rank-of s i) in
@@ -191,7 +190,7 @@ filled-all s c F =
       wait-is = F .waits;
     }
 
--- what operation i of board r writes: its rank, and where it frees a slot the latest that took it
+-- what operation i of board r writes: its rank, and where it names a slot the latest that took it
 abbrev pub rank-put : (i r : ℕ) → List ℕ → List ℕ
 rank-put i r c = splice c (rank-at i) (r ∷ [])
 
@@ -199,7 +198,7 @@ abbrev pub wait-put : (i v : ℕ) → List ℕ → List ℕ
 wait-put i v c = splice c (word-at waits-at i) (low-two v)
 
 unfoldable pub op-put : Op → (i r : ℕ) → (last c : List ℕ) → List ℕ
-op-put o i r last c = cond (frees-slot o) (wait-put i (getD last (o .slot) 0) (rank-put i r c)) (rank-put i r c)
+op-put o i r last c = cond (names-slot o) (wait-put i (getD last (o .slot) 0) (rank-put i r c)) (rank-put i r c)
 
 -- one operation more
 module _ (s : Sheet) (g : Valid s) (r i : ℕ) (last c : List ℕ) (F : Filled s c i) (L : Latest s r i last) (l : i < N-of s) (e : rank-of s i ≡ r) where
@@ -217,7 +216,7 @@ module _ (s : Sheet) (g : Valid s) (r i : ℕ) (last c : List ℕ) (F : Filled s
     awaited-kept s c (rank-at i) (r ∷ []) i (omega (arith, few)) (F .roomy) rank-fits (λ j a b p q. omega (arith, few)) (F .waits),
   )
 
-  -- the word of one that frees a slot is put, which leaves the ranks
+  -- the word of one that names a slot is put, which leaves the ranks
   wait-filled : (v : ℕ) → v < 65536 → waited s i ≡ some v → Filled s (wait-put i v (rank-put i r c)) (i + 1)
   unfolding low-two
   wait-filled v small h =
@@ -231,9 +230,9 @@ module _ (s : Sheet) (g : Valid s) (r i : ℕ) (last c : List ℕ) (F : Filled s
 
   pub filled-more : op s i .slot < slot-limit → Filled s (op-put (op s i) i r last c) (i + 1)
   unfolding op-put
-  filled-more m = go (frees-slot (op s i)) refl
+  filled-more m = go (names-slot (op s i)) refl
     where
-      go : (b : Bool) → frees-slot (op s i) ≡ b → Filled s (cond b (wait-put i (getD last (op s i .slot) 0) (rank-put i r c)) (rank-put i r c)) (i + 1)
+      go : (b : Bool) → names-slot (op s i) ≡ b → Filled s (cond b (wait-put i (getD last (op s i .slot) 0) (rank-put i r c)) (rank-put i r c)) (i + 1)
       go true w =
           let T = wait-taken s g r i l e w in
           let is = L .is (op s i .slot) (T .by) m (T .is) in

@@ -30,21 +30,21 @@ fn note(s: &[u8], i: usize, last: &mut [usize; limits::SLOT_LIMIT])
     }
 }
 
-// The entries of operation i of board r: its rank, and where it frees a slot the latest operation that took it. The others'
+// The entries of operation i of board r: its rank, and where it names a slot the latest operation that took it. The others'
 // words are never read.
 fn put_op(s: &[u8], c: &mut [u8], i: usize, r: usize, last: &[usize; limits::SLOT_LIMIT])
     requires { ⌜ Slotted (now s) i × (r < most-boards) × (scratch-size ≤ length (now c)) ⌝ }
     ensures { λ _. ⌜ now (c .exit) ≡ op-put (op (sheet-in (now (s .entry))) i) i r (now (last .entry)) (now (c .entry)) ⌝ }
 {
     ranks::put_rank(c, i, r as u8);
-    if ops::frees_slot(s, i) {
+    if ops::names_slot(s, i) {
         let slot = ops::slot(s, i);
         waits::put_waited(c, i, last[slot]);
     }
 }
 
-// The tables filled for the script of board r. At its start nobody holds a slot, so what stands in `last` then is never read: a
-// wait names a slot that is held (refusal 7).
+// The tables filled for the script of board r. At its start nobody holds a slot, so what stands in `last` then is never read: an
+// operation names a slot that is held (refusal 7).
 fn put_script(s: &[u8], c: &mut [u8], r: usize)
     requires { ⌜ Laid (now s) × Valid (sheet-in (now s)) × (r < P-of (sheet-in (now s)))
         × Filled (sheet-in (now s)) (now c) (counts-before (sheet-in (now s)) r) ⌝ }

@@ -4,6 +4,7 @@ ghost use mathlib.Core.Path.{_≡_};
 ghost use Prim.Native.Nat.{_+_, _<_};
 ghost use lib.ListN.{length};
 ghost use Rattle.rules.specs.Sheet.{sheet-in, op, N-of, is-send, is-buffered, is-ready, is-receive, only-half, no-half, takes-slot, names-slot, frees-slot};
+ghost use Rattle.rules.specs.Sheet.{tells-message, tells-completion, tells, selects};
 ghost use Rattle.rules.specs.Step.{charge-of};
 ghost use Rattle.rules.specs.Claims.{is-any-source};
 ghost use Rattle.laws.specs.Laid.{Laid};
@@ -35,7 +36,7 @@ pub fn flag(s: &[u8], i: usize) -> usize
     words::byte_at(s, at(s, i) + 1)
 }
 
-// A send's destination; a receive's source, or any.
+// A send's destination; a receive's or a probe's source, or any.
 pub fn peer(s: &[u8], i: usize) -> usize
     requires { ⌜ Laid (now s) × (i < N-of (sheet-in (now s))) ⌝ }
     ensures { λ v. ⌜ Word (op (sheet-in (now (s .entry))) i .peer) v ⌝ }
@@ -59,7 +60,7 @@ pub fn zero_field(s: &[u8], i: usize) -> usize
     words::two_at(s, at(s, i) + 6)
 }
 
-// Its tag; a receive may name any.
+// Its tag; a receive or a probe may name any.
 pub fn tag(s: &[u8], i: usize) -> usize
     requires { ⌜ Laid (now s) × (i < N-of (sheet-in (now s))) ⌝ }
     ensures { λ v. ⌜ Word (op (sheet-in (now (s .entry))) i .tag) v ⌝ }
@@ -91,7 +92,7 @@ pub fn slot(s: &[u8], i: usize) -> usize
     words::two_at(s, at(s, i) + 14)
 }
 
-// KINDS: 1 standard, 2 buffered, 3 synchronous, 4 ready send, 5 receive, 6 wait. A send.
+// KINDS: 1 standard, 2 buffered, 3 synchronous, 4 ready send, 5 receive, 6 wait, 7 blocking probe, 8 status query. A send.
 pub fn is_send(s: &[u8], i: usize) -> bool
     requires { ⌜ Laid (now s) × (i < N-of (sheet-in (now s))) ⌝ }
     ensures { λ b. ⌜ b ≡ is-send (op (sheet-in (now (s .entry))) i) ⌝ }
@@ -124,20 +125,55 @@ pub fn is_receive(s: &[u8], i: usize) -> bool
     kind(s, i) == 5
 }
 
-// A receive from any source.
+// A receive or a probe from any source.
 pub fn is_any_source(s: &[u8], i: usize) -> bool
     requires { ⌜ Laid (now s) × (i < N-of (sheet-in (now s))) ⌝ }
     ensures { λ b. ⌜ b ≡ is-any-source (op (sheet-in (now (s .entry))) i) ⌝ }
 {
-    is_receive(s, i) & (peer(s, i) == limits::ANY)
+    selects(s, i) & (peer(s, i) == limits::ANY)
 }
 
-// ROLES, as rules names them. Only a waiting half: it has no initiating step.
+// ROLES, as rules names them. Tells of the earliest pending message that fits it: a probe.
+pub fn tells_message(s: &[u8], i: usize) -> bool
+    requires { ⌜ Laid (now s) × (i < N-of (sheet-in (now s))) ⌝ }
+    ensures { λ b. ⌜ b ≡ tells-message (op (sheet-in (now (s .entry))) i) ⌝ }
+{
+    kind(s, i) == 7
+}
+
+// Tells whether the operation that holds its slot is complete: a query.
+pub fn tells_completion(s: &[u8], i: usize) -> bool
+    requires { ⌜ Laid (now s) × (i < N-of (sheet-in (now s))) ⌝ }
+    ensures { λ b. ⌜ b ≡ tells-completion (op (sheet-in (now (s .entry))) i) ⌝ }
+{
+    kind(s, i) == 8
+}
+
+// Tells one or the other.
+pub fn tells(s: &[u8], i: usize) -> bool
+    requires { ⌜ Laid (now s) × (i < N-of (sheet-in (now s))) ⌝ }
+    ensures { λ b. ⌜ b ≡ tells (op (sheet-in (now (s .entry))) i) ⌝ }
+{
+    let k = kind(s, i);
+    (k == 7) | (k == 8)
+}
+
+// Names a source and a tag, or any, by which messages are selected.
+pub fn selects(s: &[u8], i: usize) -> bool
+    requires { ⌜ Laid (now s) × (i < N-of (sheet-in (now s))) ⌝ }
+    ensures { λ b. ⌜ b ≡ selects (op (sheet-in (now (s .entry))) i) ⌝ }
+{
+    let k = kind(s, i);
+    (k == 5) | (k == 7)
+}
+
+// Only a waiting half: it has no initiating step.
 pub fn is_only_half(s: &[u8], i: usize) -> bool
     requires { ⌜ Laid (now s) × (i < N-of (sheet-in (now s))) ⌝ }
     ensures { λ b. ⌜ b ≡ only-half (op (sheet-in (now (s .entry))) i) ⌝ }
 {
-    kind(s, i) == 6
+    let k = kind(s, i);
+    (k == 6) | ((k == 7) | (k == 8))
 }
 
 // Finished after its initiating step.
@@ -161,7 +197,8 @@ pub fn names_slot(s: &[u8], i: usize) -> bool
     requires { ⌜ Laid (now s) × (i < N-of (sheet-in (now s))) ⌝ }
     ensures { λ b. ⌜ b ≡ names-slot (op (sheet-in (now (s .entry))) i) ⌝ }
 {
-    kind(s, i) == 6
+    let k = kind(s, i);
+    (k == 6) | (k == 8)
 }
 
 // Frees the slot that it names, once the operation that took it is complete.

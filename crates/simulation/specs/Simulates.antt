@@ -1,6 +1,6 @@
 -- What a function does to every job that scratch and the control block hold, and what it asks at its entry. A caller's proof
 -- composes the parts by the laws and does not look into them.
---   Holds           some job is held of which a condition holds
+--   Holds           some job is held of which a condition holds; holds-for: and another
 --   Simulates       every such job becomes the job that a function of sheet and job makes of it
 --   held-after      what is held after a part
 --   in-turn         one part after another
@@ -23,6 +23,18 @@ pub record Holds (bs c : List ℕ) (t : Control) (ok : Sheet → Job → Type 0)
   pub job : Job
   pub decodes : Decodes (sheet-in bs) c t job
   pub fine : ok (sheet-in bs) job
+
+-- of the same job another condition holds
+pub holds-for : {bs c : List ℕ} {t : Control} {ok then : Sheet → Job → Type 0} (h : Holds bs c t ok) → then (sheet-in bs) (h .job) →
+    Holds bs c t then
+holds-for h o =
+    record {
+      laid = h .laid;
+      valid = h .valid;
+      job = h .job;
+      decodes = h .decodes;
+      fine = o;
+    }
 
 -- bs is the sheet, c and t scratch and control block before, b and u after
 pub record Simulates (bs c : List ℕ) (t : Control) (b : List ℕ) (u : Control) (ok : Sheet → Job → Type 0) (f : Sheet → Job → Job) : Type 0 where

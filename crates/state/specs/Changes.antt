@@ -10,7 +10,7 @@ use lib.ListN.{set}
 use Rattle.rules.specs.Limits.{most-ops, absent}
 use Rattle.rules.specs.Sheet.{Sheet, op, N-of, P-of, rank-of}
 use Rattle.rules.specs.Job.{Job, Entry, Place, job, entry, bare-entry, place-at, with-entries, with-messages, with-receives}
-use Rattle.rules.specs.Step.{splice, without, is-cut, with-place, with-state, matched-rows, charged}
+use Rattle.rules.specs.Step.{splice, without, is-cut, with-place, with-row, with-state, matched-rows, charged}
 use Rattle.rules.specs.Report.{low-two, op-row}
 use Rattle.state.specs.declared.BoardPlace.{BoardPlace}
 use Rattle.state.specs.declared.Control.{Control}
@@ -41,6 +41,13 @@ pub record Charges (c b : List ℕ) (r size n : ℕ) (ok : Bool) : Type 0 where
   pub says : (s : Sheet) (t : Control) (x : Job) → Decodes s c t x → r < P-of s → ok ≡ leb (place-at x r .in-use + n) size
   pub taken : ok ≡ true → Changes c b (λ s x. r < P-of s) (λ s x. with-place r (charged n (place-at x r)) x)
   pub refused : ok ≡ false → b ≡ c
+
+-- what an operation that tells puts into its row fits its bytes
+pub record Tellable (s : Sheet) (i source tag long : ℕ) : Type 0 where
+  pub inside : i < N-of s
+  pub source-fits : source < 65536
+  pub tag-fits : tag < 65536
+  pub long-fits : long < 65536
 
 -- the figures of a matched receive's row: its status, that fits its bytes
 pub record Status (s : Sheet) (m r cut source tag long : ℕ) : Type 0 where
@@ -82,6 +89,22 @@ module _ (s : Sheet) (c : List ℕ) (t : Control) (x : Job) (d : Decodes s c t x
   take-by q left k v b u n f e g =
       decodes-as s b (splice c (word-at (base-of q) k) (behind c (base-of q) left k)) u (recounted q left t)
       (with-list q (without v (list-of q x)) x) e g (list-remove s c t x d q left k v n f)
+
+  -- the row of an operation that tells
+  pub row-told : (i source tag long : ℕ) (b : List ℕ) → Tellable s i source tag long →
+      b ≡ splice c (row-at i) (op-row (entry 5 0 absent source tag long)) → Decodes s b t (with-row i (entry 5 0 absent source tag long) x)
+  unfolding entry
+  row-told i source tag long b q e =
+      decodes-as s b (splice c (row-at i) (op-row (entry 5 0 absent source tag long))) t t (with-row i (entry 5 0 absent source tag long) x) e
+      refl
+      (entry-put s c t x d i (entry 5 0 absent source tag long)
+      (record {
+        partner-fits = omega arith;
+        source-fits = q .source-fits;
+        tag-fits = q .tag-fits;
+        long-fits = q .long-fits;
+      })
+      (q .inside))
 
   -- both rows of a match
   pub rows-match : (m r cut source tag long : ℕ) (a b : List ℕ) → Status s m r cut source tag long →

@@ -1,5 +1,5 @@
--- The tables of ranks and of waits, which are filled once, before the start: what they hold, one entry more, and that a splice
--- below them leaves them. Assumes nothing.
+-- The tables of ranks and of who holds the slot that an operation names, which are filled once, before the start: what they
+-- hold, one entry more, and that a splice below them leaves them. Assumes nothing.
 use mathlib.Core.Path.{_≡_, sym, _∙_, ap, subst}
 use mathlib.Core.Bool.{true, false}
 use mathlib.Core.List.{List, [], _∷_}
@@ -9,7 +9,7 @@ use native.Mathlib.Omega.{arith}
 use native.Mathlib.Decide.{ℕ-discrete, decLt}
 use lib.ListN.{length, getD, replicate, length-replicate, getD-replicate}
 use Rattle.rules.specs.Limits.{most-ops, scratch-size}
-use Rattle.rules.specs.Sheet.{Sheet, op, N-of, rank-of, frees-slot, two}
+use Rattle.rules.specs.Sheet.{Sheet, op, N-of, rank-of, names-slot, two}
 use Rattle.rules.specs.Step.{splice, waited}
 use Rattle.rules.specs.Report.{low-two}
 use Rattle.laws.specs.Tests.{true-not-false}
@@ -22,7 +22,7 @@ abbrev pub Ranked : Sheet → List ℕ → (n : ℕ) → Type 0
 Ranked s c n = (i : ℕ) → i < n → getD c (rank-at i) 0 ≡ rank-of s i
 
 abbrev pub Awaited : Sheet → List ℕ → (n : ℕ) → Type 0
-Awaited s c n = (i : ℕ) → i < n → frees-slot (op s i) ≡ true → waited s i ≡ some (two c (word-at waits-at i))
+Awaited s c n = (i : ℕ) → i < n → names-slot (op s i) ≡ true → waited s i ≡ some (two c (word-at waits-at i))
 
 pub record Indexed (s : Sheet) (c : List ℕ) : Type 0 where
   pub rank-is : Ranked s c (N-of s)
@@ -45,7 +45,7 @@ indexed-kept s c at vs m h l x =
       wait-is = awaited-kept s c at vs (N-of s) m h (omega arith) (omega arith) (x .wait-is);
     }
 
--- FILLING: the ranks of a script, of one operation, and the operation of one wait
+-- FILLING: the ranks of a script, of one operation, and who holds the slot that one names
 pub ranked-script : (s : Sheet) (c : List ℕ) (i n r : ℕ) → i + n ≤ most-ops → scratch-size ≤ length c → ((j : ℕ) → i ≤ j → j < i + n → rank-of s j ≡ r) → Ranked s c i → Ranked s
     (splice c (rank-at i) (replicate n r)) (i + n)
 ranked-script s c i n r m h e x j l = go (decLt j i)
@@ -66,12 +66,12 @@ module _ (s : Sheet) (c : List ℕ) (i : ℕ) (m : i < most-ops) (h : scratch-si
   ranked-more r e x =
       ranked-script s c i 1 r (omega arith) h (λ j l u. let q : j ≡ i = omega arith in ap (λ (k : ℕ). rank-of s k) q ∙ sym e) x
 
-  -- an operation that is no wait has no entry
-  pub awaited-skip : frees-slot (op s i) ≡ false → Awaited s c i → Awaited s c (i + 1)
+  -- an operation that names no slot has no entry
+  pub awaited-skip : names-slot (op s i) ≡ false → Awaited s c i → Awaited s c (i + 1)
   awaited-skip e x j l w = go (ℕ-discrete j i)
     where
       go : Dec (j ≡ i) → waited s j ≡ some (two c (word-at waits-at j))
-      go (yes q) = true-not-false (ap (λ (k : ℕ). frees-slot (op s k)) (sym q) ∙ w) e
+      go (yes q) = true-not-false (ap (λ (k : ℕ). names-slot (op s k)) (sym q) ∙ w) e
       go (no q) = x j (omega arith) w
 
   pub awaited-more : (k : ℕ) → k < 65536 → waited s i ≡ some k → Awaited s c i → Awaited s (splice c (word-at waits-at i) (low-two k)) (i + 1)

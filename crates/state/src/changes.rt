@@ -3,13 +3,13 @@
 ghost use mathlib.Core.Path.{_≡_};
 ghost use Prim.Native.Nat.{ℕ, _<_, _≤_};
 ghost use lib.ListN.{length};
-ghost use Rattle.rules.specs.Limits.{most-ops, most-boards, scratch-size};
+ghost use Rattle.rules.specs.Limits.{most-ops, most-boards, scratch-size, absent};
 ghost use Rattle.rules.specs.Sheet.{N-of, P-of};
-ghost use Rattle.rules.specs.Job.{place-at};
-ghost use Rattle.rules.specs.Step.{without, with-place, with-state, matched-rows, released, one-finished, now-waiting};
+ghost use Rattle.rules.specs.Job.{entry, place-at};
+ghost use Rattle.rules.specs.Step.{without, with-place, with-row, with-state, matched-rows, released, one-finished, now-waiting};
 ghost use Rattle.state.specs.Lists.{First-at};
 ghost use Rattle.state.specs.Queues.{count-of, list-of, with-list, pended};
-ghost use Rattle.state.specs.Changes.{Becomes, Changes, Can-finish, Charges, Status};
+ghost use Rattle.state.specs.Changes.{Becomes, Changes, Can-finish, Charges, Tellable, Status};
 use crate::BoardPlace;
 use crate::Control;
 use crate::Queue;
@@ -24,6 +24,15 @@ pub fn set_state(c: &mut [u8], i: usize, v: u8)
     ensures { λ _. ⌜ Changes (now (c .entry)) (now (c .exit)) (λ s x. i < N-of s) (λ s x. with-state i v x) ⌝ }
 {
     rows::put_bare(c, i, v);
+}
+
+// Operation i is finished, and its row tells a source, a tag and a length (document 02, K9).
+pub fn set_told(c: &mut [u8], i: usize, source: usize, tag: usize, long: usize)
+    requires { ⌜ (i < most-ops) × (scratch-size ≤ length (now c)) ⌝ }
+    ensures { λ _. ⌜ Changes (now (c .entry)) (now (c .exit)) (λ s x. Tellable s i source tag long)
+        (λ s x. with-row i (entry 5 0 absent source tag long) x) ⌝ }
+{
+    rows::put_told(c, i, source, tag, long);
 }
 
 // Operation i becomes pending in a state: its row, and behind the others in its list.

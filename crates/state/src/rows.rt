@@ -104,3 +104,11 @@ pub fn put_received(
 {
     put_row(c, r, 3, cut, m, source, tag, long);
 }
+
+// The row of operation i, finished, with what it tells (document 02, K9).
+pub fn put_told(c: &mut [u8], i: usize, source: usize, tag: usize, long: usize)
+    requires { ⌜ (i < most-ops) × (scratch-size ≤ length (now c)) ⌝ }
+    ensures { λ _. ⌜ now (c .exit) ≡ splice (now (c .entry)) (row-at i) (op-row (entry 5 0 absent source tag long)) ⌝ }
+{
+    put_row(c, i, 5, 0, limits::ABSENT, source, tag, long);
+}

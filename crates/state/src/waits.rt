@@ -1,4 +1,4 @@
-// For each wait the operation that it waits for, two bytes each: a table that is written once.
+// For each operation that names a slot, a wait or a query, the one that holds it, two bytes each: a table that is written once.
 ghost use mathlib.Core.Path.{_≡_};
 ghost use Prim.Native.Nat.{_<_, _≤_};
 ghost use lib.ListN.{length};
@@ -10,7 +10,7 @@ ghost use Rattle.state.specs.Layout.{waits-at, word-at};
 ghost use Rattle.words.specs.Read.{Word};
 use crate::WAITS;
 
-// The operation that wait i waits for.
+// The operation that holds the slot which operation i names.
 pub fn waited_at(c: &[u8], i: usize) -> usize
     requires { ⌜ (i < most-ops) × (scratch-size ≤ length (now c)) ⌝ }
     ensures { λ v. ⌜ Word (two (now (c .entry)) (word-at waits-at i)) v ⌝ }

@@ -9,10 +9,14 @@ use native.Mathlib.Omega.{arith}
 use lib.Dec.{ltb, leb, eqb}
 use lib.ListN.{length}
 use borrow.Author.Tests.{lt-ltb, le-ltb, le-leb, lt-leb, leb-false, eq-eqb, ne-eqb}
-use Rattle.rules.specs.Sheet.{Sheet, sheet-in, op, board, P-of, N-of, rank-of, two, only-half, takes-slot, frees-slot}
+use Rattle.rules.specs.Sheet.{Sheet, sheet-in, op, board, P-of, N-of, rank-of, two, only-half, takes-slot, names-slot, frees-slot}
+use Rattle.rules.specs.Sheet.{tells-message, tells-completion, tells}
 use Rattle.rules.specs.Job.{Job, Entry, Place, Stop, entry-at, place-at}
-use Rattle.rules.specs.Step.{able, next-op, is-finished, complete, complete-if, waited, waited-below, half-complete, in-waiting-half, is-none}
+use Rattle.rules.specs.Step.{able, next-op, is-finished, complete, complete-if, waited, waited-below, half-complete, half-ends, in-waiting-half, is-none}
 use Rattle.rules.specs.Report.{entry-in}
+use Rattle.laws.specs.Tests.{or-false-left, or-false-right}
+use Rattle.invariant.specs.sheet.Waits.{waited-before}
+use Rattle.laws.specs.Fields.{frees-names}
 use Rattle.state.specs.declared.Control.{Control}
 use Rattle.state.specs.Layout.{row-at, seat-at, word-at, waits-at}
 use Rattle.state.specs.Decoded.{place-in}
@@ -20,9 +24,15 @@ use Rattle.state.specs.Controls.{stop-of}
 use Rattle.state.specs.Decodes.{Decodes, entry-is, place-is}
 use Rattle.simulation.specs.Represents.{Represents, Represented}
 
--- what comes next is an initiating step, or a waiting half whose operation is complete
+-- what comes next is an initiating step, or a waiting half that can end
 unfoldable pub can-go-on : Sheet → Job → (r i : ℕ) → Bool
-can-go-on s x r i = not (in-waiting-half s x r) || half-complete s x i
+can-go-on s x r i = not (in-waiting-half s x r) || half-ends s x i
+
+-- of an operation that tells nothing: where what it waits for is complete
+plain-ends : (s : Sheet) (x : Job) (i : ℕ) → tells (op s i) ≡ false → half-ends s x i ≡ half-complete s x i
+unfolding half-ends tells
+plain-ends s x i t =
+    rw (or-false-left (tells-message (op s i)) (tells-completion (op s i)) t, or-false-right (tells-message (op s i)) (tells-completion (op s i)) t)
 
 -- board r is there and unfinished, and operation i is its next
 pub record Next (s : Sheet) (x : Job) (r i : ℕ) : Type 0 where
@@ -44,16 +54,6 @@ next-of s x r i l h e =
       unfinished = lt-leb (board s r .count) (place-at x r .finished) h;
       is-next = e;
     }
-
--- what a wait waits for stands before it
-pub waited-before : (s : Sheet) (n i k : ℕ) → waited-below n s i ≡ some k → k < n
-unfolding waited-below
-waited-before s zero i k e = absurd (let z : _≡_ {A = ℕ} 0 1 = cc in omega arith)
-waited-before s (suc n) i k e = go (eqb (rank-of s n) (rank-of s i) && (takes-slot (op s n) && eqb (op s n .slot) (op s i .slot))) e (λ q. waited-before s n i k q)
-  where
-    go : (b : Bool) → cond b (some n) (waited-below n s i) ≡ some k → (waited-below n s i ≡ some k → k < n) → k < suc n
-    go true q ih = let z : n ≡ k = cc in omega arith
-    go false q ih = let z = ih q in omega arith
 
 module _ (bs lent c : List ℕ) (t : Control) (x : Job) (d : Represents bs lent c t x) where
   abbrev s : Sheet
@@ -77,8 +77,8 @@ module _ (bs lent c : List ℕ) (t : Control) (x : Job) (d : Represents bs lent 
       let e = n .is-next in
       omega (arith, d .good .script-inside r (n .there))
 
-  -- what a wait waits for is one of the sheet
-  pub wait-target : (i : ℕ) → frees-slot (op s i) ≡ true → i < N-of s → two c (word-at waits-at i) < N-of s
+  -- who holds the slot that an operation names is one of the sheet
+  pub wait-target : (i : ℕ) → names-slot (op s i) ≡ true → i < N-of s → two c (word-at waits-at i) < N-of s
   unfolding waited
   wait-target i w l = let b = waited-before s i i (two c (word-at waits-at i)) (d .decodes .indexed .wait-is i l w) in omega arith
 
@@ -121,16 +121,23 @@ module _ (bs lent c : List ℕ) (t : Control) (x : Job) (d : Represents bs lent 
     unfolding can-go-on
     next-initiating h = rw h
 
+    -- it tells
+    pub next-telling : in-waiting-half s x r ≡ true → half-ends s x i ≡ can-go-on s x r i
+    unfolding can-go-on
+    next-telling h = rw h
+
     -- the operation whose slot it frees is complete
-    pub next-freeing : in-waiting-half s x r ≡ true → frees-slot (op s i) ≡ true →
+    pub next-freeing : in-waiting-half s x r ≡ true → tells (op s i) ≡ false → frees-slot (op s i) ≡ true →
         leb 2 (entry-in c (row-at (two c (word-at waits-at i))) .state) ≡ can-go-on s x r i
     unfolding can-go-on half-complete complete-if complete
-    next-freeing h w =
+    next-freeing h t w =
         let j : ℕ = two c (word-at waits-at i) in
-        let target : waited s i ≡ some j = d .decodes .indexed .wait-is i (next-below r i n) w in
-        ap (λ (v : ℕ). leb 2 v) (state-is j (wait-target i w (next-below r i n))) ∙ rw (h, w, target)
+        let names = frees-names (op s i) w in
+        let target : waited s i ≡ some j = d .decodes .indexed .wait-is i (next-below r i n) names in
+        ap (λ (v : ℕ). leb 2 v) (state-is j (wait-target i names (next-below r i n))) ∙ rw (h, plain-ends s x i t, w, target)
 
     -- it is complete itself
-    pub next-half : in-waiting-half s x r ≡ true → frees-slot (op s i) ≡ false → leb 2 (entry-in c (row-at i) .state) ≡ can-go-on s x r i
+    pub next-half : in-waiting-half s x r ≡ true → tells (op s i) ≡ false → frees-slot (op s i) ≡ false →
+        leb 2 (entry-in c (row-at i) .state) ≡ can-go-on s x r i
     unfolding can-go-on half-complete complete
-    next-half h w = ap (λ (v : ℕ). leb 2 v) (state-is i (next-below r i n)) ∙ rw (h, w)
+    next-half h t w = ap (λ (v : ℕ). leb 2 v) (state-is i (next-below r i n)) ∙ rw (h, plain-ends s x i t, w)

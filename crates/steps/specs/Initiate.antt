@@ -2,7 +2,6 @@
 --   Able-board, Begins       a board that is able; one whose next operation has its initiating step before it
 --   begins-unentered         that operation is not entered
 --   begins-pairs             and the one that its search found is one of the sheet
---   found-is, missing-is     what the search over scratch found is what rules' search finds
 --   initiating-..            rules' initiating step, by what was found
 -- Assumes nothing.
 use mathlib.Core.Path.{_≡_, refl, sym, _∙_, ap, subst}
@@ -25,7 +24,8 @@ use Rattle.state.specs.declared.Queue.the-variants.{Messages, Receives}
 use Rattle.state.specs.Layout.{word-at}
 use Rattle.state.specs.Queues.{base-of, count-of, list-of}
 use Rattle.state.specs.Decodes.{Decodes, list-are, few-listed, list-is, list-length}
-use Rattle.search.specs.Search.{Listed, First, pair-fits, first-found, first-missing}
+use Rattle.search.specs.Search.{pair-fits}
+use Rattle.search.specs.Held.{listed-op}
 use Rattle.steps.specs.Pairing.{Unentered, Pairs, searched, matched-with, message-of, receive-of}
 
 -- the job is one that an order leads to from some inboxes, and board r is able in it
@@ -40,14 +40,9 @@ pub record Begins (r i : ℕ) (s : Sheet) (x : Job) : Type 0 where
   pub initiates : in-waiting-half s x r ≡ false
   pub is-next : i ≡ next-op s x r
 
--- what the invariant says of a waiting list: an operation in it is one of the sheet and stands there once; one that is not
--- entered stands in none, and there is room for it
+-- what the invariant says of a waiting list beside that: an operation in it stands there once; one that is not entered stands in
+-- none, and there is room for it
 module _ {s : Sheet} {lent : List ℕ} {x : Job} (g : Valid s) (R : Reached s lent x) where
-  listed-op : (list : Queue) (k : ℕ) → k < length (list-of list x) → getD (list-of list x) k 0 < N-of s
-  unfolding list-of
-  listed-op Messages k l = message-op g R k l .0
-  listed-op Receives k l = receive-op g R k l .0
-
   listed-once : (list : Queue) (j k : ℕ) → j < k → k < length (list-of list x) → getD (list-of list x) j 0 ≡ getD (list-of list x) k 0 → ⊥
   unfolding list-of
   listed-once Messages j k h l e = message-once g R j k h l e
@@ -104,32 +99,6 @@ module _ {r i : ℕ} {s : Sheet} {x : Job} (g : Valid s) (b : Begins r i s x) wh
               before = λ j h e. listed-once g R list j k h l e;
             };
       }
-
--- a waiting list in scratch, of a job that an order leads to
-module _ (bs c : List ℕ) (t : Control) (x : Job) (d : Decodes (sheet-in bs) c t x) (list : Queue) where
-  abbrev s : Sheet
-  s = sheet-in bs
-
-  pub listed-in : {lent : List ℕ} → Valid s → Reached s lent x → Listed bs c list (count-of list t)
-  listed-in g R =
-      record {
-        short = few-listed s c t x d list;
-        members =
-            λ k l. subst (λ (n : ℕ). n < N-of s) (sym (list-is s c t x d list k l))
-            (listed-op g R list k (omega (arith, list-length s c t x d list)));
-      }
-
-  -- what the search over scratch found is what rules' search over the list finds
-  module _ (i k : ℕ) (h : First (λ j. pair-fits list s i (two c (word-at (base-of list) j))) (count-of list t) k) where
-    pub found-is : k < count-of list t → first-by (λ j. pair-fits list s i j) (list-of list x) ≡ some (two c (word-at (base-of list) k))
-    found-is l =
-        ap (λ (js : List ℕ). first-by (λ j. pair-fits list s i j) js) (list-are s c t x d list)
-        ∙ first-found (λ j. pair-fits list s i j) c (base-of list) (count-of list t) k h l
-
-    pub missing-is : count-of list t ≤ k → first-by (λ j. pair-fits list s i j) (list-of list x) ≡ none
-    missing-is l =
-        ap (λ (js : List ℕ). first-by (λ j. pair-fits list s i j) js) (list-are s c t x d list)
-        ∙ first-missing (λ j. pair-fits list s i j) c (base-of list) (count-of list t) k h (omega (arith, h .within))
 
 -- INITIATING, by what the operation is and what was found in the list that it searches
 module _ (s : Sheet) (r i : ℕ) (x : Job) where

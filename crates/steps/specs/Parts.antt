@@ -14,26 +14,14 @@ use lib.ListN.{length, getD, set}
 use lib.Seq.{getD-set-same, getD-set-other, set-out}
 use borrow.Author.Tests.{eq-eqb, ne-eqb}
 use Rattle.rules.specs.Sheet.{Sheet, sheet-in, op, P-of, N-of, rank-of, only-half, no-half}
-use Rattle.rules.specs.Job.{Job, Place, job, place, entry-at, place-at, with-entries, with-places}
-use Rattle.rules.specs.Step.{charge-of, released, release, with-place, with-state, one-finished, now-waiting, initiated, ended}
+use Rattle.rules.specs.Job.{Job, Entry, Place, job, place, entry-at, place-at, with-entries, with-places}
+use Rattle.rules.specs.Step.{charge-of, released, release, with-place, with-row, one-finished, now-waiting, initiated, half-row, ended}
 use Rattle.state.specs.declared.Control.{Control}
 use Rattle.state.specs.declared.Queue.{Queue}
 use Rattle.state.specs.declared.Queue.the-variants.{Messages, Receives}
 use Rattle.state.specs.Queues.{list-of}
 use Rattle.state.specs.Changes.{Can-finish}
-use Rattle.simulation.specs.Simulates.{Holds}
-use Rattle.search.specs.Search.{Readable}
-
--- what is held can be read
-pub holds-reads : {bs c : List ℕ} {t : Control} {ok : Sheet → Job → Type 0} → Holds bs c t ok → Readable bs c
-holds-reads h =
-    record {
-      laid = h .laid;
-      few = h .decodes .few-ops;
-      roomy = h .decodes .roomy;
-      tables = h .decodes .indexed;
-      ranked = λ i l. omega (arith, h .valid .rank-small i l, h .valid .boards-few);
-    }
+use Rattle.telling.specs.Telling.{Looks}
 
 -- AFTER AN INITIATING STEP
 pub initiated-finished : (s : Sheet) (r i : ℕ) (x : Job) → no-half (op s i) ≡ true → with-place r (one-finished (place-at x r)) x ≡ initiated s r i x
@@ -44,19 +32,24 @@ pub initiated-waiting : (s : Sheet) (r i : ℕ) (x : Job) → no-half (op s i) �
 unfolding initiated
 initiated-waiting s r i x e = rw e
 
+-- what an operation that ends a waiting half is given
+pub record Ends (r i : ℕ) (s : Sheet) (x : Job) : Type 0 where
+  pub looks : Looks i s x
+  pub can-finish : Can-finish r s x
+
 -- AFTER A WAITING HALF
 pub ended-only : (s : Sheet) (r i : ℕ) (x : Job) → only-half (op s i) ≡ true →
-    with-place r (one-finished (place-at (with-state i 5 x) r)) (with-state i 5 x) ≡ ended s r i x
-unfolding ended with-state with-entries job place-at
+    with-place r (one-finished (place-at (with-row i (half-row s x i) x) r)) (with-row i (half-row s x i) x) ≡ ended s r i x
+unfolding ended with-entries job place-at
 ended-only s r i x e = rw e
 
 pub ended-other : (s : Sheet) (r i : ℕ) (x : Job) → only-half (op s i) ≡ false → with-place r (one-finished (place-at x r)) x ≡ ended s r i x
 unfolding ended
 ended-other s r i x e = rw e
 
-pub state-can-finish : (s : Sheet) (r i v : ℕ) (x : Job) → Can-finish r s x → Can-finish r s (with-state i v x)
-unfolding with-state with-entries job place-at
-state-can-finish s r i v x h =
+pub row-can-finish : (s : Sheet) (r i : ℕ) (e : Entry) (x : Job) → Can-finish r s x → Can-finish r s (with-row i e x)
+unfolding with-entries job place-at
+row-can-finish s r i e x h =
     record {
       there = h .there;
       room = h .room;

@@ -1,5 +1,5 @@
 // Whether a board is able: the job isn't stopped, the board is unfinished, and what comes next is an initiating step or a
-// waiting half whose operation is complete (document 01, "How a board steps").
+// waiting half that can end (document 01, "How a board steps").
 ghost use mathlib.Core.Path.{_≡_};
 ghost use mathlib.Core.List.{List};
 ghost use Prim.Native.Nat.{ℕ};
@@ -16,7 +16,7 @@ use state::places;
 use state::rows;
 use state::waits;
 
-// Operation i is the next of board r: an initiating step, or a waiting half whose operation is complete.
+// Operation i is the next of board r: an initiating step, or a waiting half that can end.
 fn next_is_able(s: &[u8], c: &[u8], t: Control, r: usize, i: usize) -> bool
     requires { ⌜ Represented-next (now s) (now c) t r i ⌝ }
     ensures { λ b. ⌜ ((lent : List ℕ) (x : Job) → Represents (now (s .entry)) lent (now (c .entry)) t x →
@@ -24,6 +24,9 @@ fn next_is_able(s: &[u8], c: &[u8], t: Control, r: usize, i: usize) -> bool
 {
     if !(places::waiting_of(c, r) | ops::is_only_half(s, i)) {
         return true;
+    }
+    if ops::tells(s, i) {
+        return telling::can_end(s, c, t, i);
     }
     if ops::frees_slot(s, i) {
         let j = waits::waited_at(c, i);

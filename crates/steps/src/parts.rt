@@ -4,6 +4,7 @@ ghost use Rattle.rules.specs.Sheet.{sheet-in, N-of};
 ghost use Rattle.rules.specs.Step.{initiated, ended};
 ghost use Rattle.state.specs.Changes.{Can-finish};
 ghost use Rattle.simulation.specs.Simulates.{Holds, Simulates};
+ghost use Rattle.steps.specs.Parts.{Ends};
 use sheet::ops;
 use state::Control;
 use state::changes;
@@ -23,12 +24,12 @@ pub fn initiate(s: &[u8], c: &mut [u8], t: Control, r: usize, i: usize)
 
 // A waiting half ends operation i of board r; the row of one that is only a waiting half then says so.
 pub fn end_half(s: &[u8], c: &mut [u8], t: Control, r: usize, i: usize)
-    requires { ⌜ Holds (now s) (now c) t (Can-finish r) × (i < N-of (sheet-in (now s))) ⌝ }
-    ensures { λ _. ⌜ Simulates (now (s .entry)) (now (c .entry)) t (now (c .exit)) t (Can-finish r)
+    requires { ⌜ Holds (now s) (now c) t (Ends r i) ⌝ }
+    ensures { λ _. ⌜ Simulates (now (s .entry)) (now (c .entry)) t (now (c .exit)) t (Ends r i)
         (λ s x. ended s r i x) ⌝ }
 {
     if ops::is_only_half(s, i) {
-        changes::set_state(c, i, 5);
+        telling::put_half_row(s, c, t, i);
         changes::finish_one(c, r);
         return;
     }

@@ -3,13 +3,14 @@
 //! generated sheets. Prints how many cases of each kind got each answer; at
 //! the first difference prints what is needed to see it and exits with 1, as
 //! it does where an answer of premise to accepted sheets, or a case around an
-//! attached buffer, the most operations or a forgotten request, never came up.
+//! attached buffer, the most operations, a forgotten request, a probe or a query
+//! never came up.
 
 use jamturret::lent::Answer;
 use jamturret_host::command::{argument, difference, tally};
 use jamturret_host::generate::{self, KINDS};
 use jamturret_host::random::Random;
-use jamturret_host::{buffers, guarded, judge, lengths, requests_left};
+use jamturret_host::{buffers, guarded, judge, lengths, probes, requests_left};
 use std::process;
 use std::time::Instant;
 
@@ -24,7 +25,7 @@ const NAIVE_EVERY: u64 = 4;
 const ENOUGH: u64 = 10_000;
 
 /// Check's numbers, and then premise's of sheets that check accepts.
-const NUMBERS: [u32; 12] = [0, 1, 2, 3, 4, 5, 6, 7, 0, 20, 21, 22];
+const NUMBERS: [u32; 13] = [0, 1, 2, 3, 4, 5, 6, 7, 0, 20, 21, 22, 23];
 const PREMISE: usize = 8;
 
 /// Answers counted for each kind, a column a number.
@@ -62,6 +63,7 @@ fn main() {
     let mut covered = [0; buffers::COVERED.len()];
     let mut asked = [0; lengths::ASKED.len()];
     let mut requests = [0; requests_left::ASKED.len()];
+    let mut probed = [0; probes::ASKED.len()];
     let mut naive = 0;
     for number in 0..cases {
         let (kind, sheet, mut random) = generate::case(seed, number);
@@ -76,6 +78,7 @@ fn main() {
         tally(&mut asked, lengths::asked(&sheet, check, premise));
         let found = requests_left::asked(&sheet, check, premise);
         tally(&mut requests, found);
+        tally(&mut probed, probes::asked(&sheet, check, premise));
         if check.number == 0 {
             tally(&mut covered, buffers::covered(&sheet, premise));
         }
@@ -85,14 +88,16 @@ fn main() {
         println!("premise {name:<40}{count:>8}");
     }
     let lengths = lengths::ASKED.iter().zip(asked);
-    for (name, count) in lengths.chain(requests_left::ASKED.iter().zip(requests)) {
+    let requests_left = requests_left::ASKED.iter().zip(requests);
+    let probes = probes::ASKED.iter().zip(probed);
+    for (name, count) in lengths.chain(requests_left).chain(probes) {
         println!("{name:<48}{count:>8}");
     }
     println!(
         "seed {seed}: {cases} cases agree, {naive} of them with the naive judge too, in {:.1} s",
         start.elapsed().as_secs_f64()
     );
-    let reached = [&totals[..], &covered, &asked, &requests].concat();
+    let reached = [&totals[..], &covered, &asked, &requests, &probed].concat();
     if cases >= ENOUGH && reached.contains(&0) {
         eprintln!("an answer or a case never came up: see the zeros above");
         process::exit(1);
@@ -129,7 +134,7 @@ fn count(row: &mut Row, check: Answer, premise: Answer) {
         let column = NUMBERS[PREMISE..]
             .iter()
             .position(|&number| number == premise.number);
-        row[PREMISE + column.expect("0, 20, 21 or 22")] += 1;
+        row[PREMISE + column.expect("0 or 20 to 23")] += 1;
     }
 }
 

@@ -2,7 +2,7 @@
 //! the edge of its range. The CRC is mended by the caller, save in `crc`.
 
 use super::{size, valid};
-use crate::layout::{self, board, header as head, operation as op, word, HEADER_BYTES};
+use crate::layout::{self, board, header as head, kind, operation as op, word, HEADER_BYTES};
 use crate::random::Random;
 use crate::sheet::{add_word, board_at, operation_at, set_word};
 
@@ -143,7 +143,7 @@ pub fn operation(sheet: &mut Vec<u8>, random: &mut Random) {
     let boards = word(sheet, head::BOARDS);
     let communicators = word(sheet, head::COMMUNICATORS);
     match random.below(11) {
-        0 => sheet[at + op::KIND] = random.pick(&[0, 1, 2, 3, 4, 5, 6, 7, 255]),
+        0 => sheet[at + op::KIND] = random.pick(&[0, 1, 2, 3, 4, 5, 6, 7, 8, 9, 255]),
         1 => sheet[at + op::FLAG] = random.pick(&[0, 1, 2, 255]),
         2 => {
             let peers = [0, boards - 1, boards, boards + 256, 65_534, 65_535];
@@ -175,8 +175,8 @@ pub fn operation(sheet: &mut Vec<u8>, random: &mut Random) {
 /// Another small slot, which is a right field and may break the slot rule.
 pub fn slot(sheet: &mut Vec<u8>, random: &mut Random) {
     if let Some(at) = some_operation(sheet, random) {
-        let wait = sheet[at + op::KIND] == layout::kind::WAIT;
-        if wait || sheet[at + op::FLAG] == 1 {
+        let names = [kind::WAIT, kind::QUERY].contains(&sheet[at + op::KIND]);
+        if names || sheet[at + op::FLAG] == 1 {
             set_word(sheet, at + op::SLOT, random.below(layout::SLOTS) as u16);
         }
     }

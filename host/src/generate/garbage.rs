@@ -76,12 +76,10 @@ fn random_script(random: &mut Random) -> Vec<Operation> {
 }
 
 fn fields(random: &mut Random) -> Operation {
-    let kind = random.pick(&[1, 2, 3, 4, 5, 5, 5, 6, 6]);
-    if kind == 6 && random.chance(80) {
-        return Operation::wait(random.below(3) as u16);
-    }
+    let kind = random.pick(&[1, 2, 3, 4, 5, 5, 5, 6, 6, 7, 8]);
     let flag = random.below(2) as u8;
-    Operation {
+    let slot = random.below(3) as u16;
+    let any = Operation {
         kind,
         flag,
         peer: random.pick(&[0, 0, 0, 0, 1, ANY]),
@@ -90,6 +88,12 @@ fn fields(random: &mut Random) -> Operation {
         tag: random.pick(&[0, 1, 2, 32_767, ANY]),
         offset: random.below(5) as u16,
         length: random.below(4) as u16,
-        slot: if flag == 1 { random.below(3) as u16 } else { 0 },
+        slot: if flag == 1 { slot } else { 0 },
+    };
+    match kind {
+        6 if random.chance(80) => Operation::wait(slot),
+        7 if random.chance(80) => Operation::probe(any.peer, any.tag).on(any.communicator),
+        8 if random.chance(80) => Operation::query(slot),
+        _ => any,
     }
 }

@@ -1,7 +1,9 @@
 //! Sheets whose messages mostly have a receive: boards that talk to each
 //! other, so that steps, matches, buffers and deliveries are tried. Few
-//! ranks, tags and communicators, so that several messages fit one receive.
+//! ranks, tags and communicators, so that several messages fit one receive. Some
+//! have probes before their receives, and queries (document 02, K9).
 
+use super::probes::receive_as_told;
 use super::script::{Surroundings, Writer};
 use crate::layout::kind::{BUFFERED, READY, RECEIVE, STANDARD, SYNCHRONOUS};
 use crate::layout::{ANY, BSEND_OVERHEAD, MOST_ATTACHED, MOST_BOARDS};
@@ -30,6 +32,12 @@ struct Manner {
     to_oneself: usize,
     /// Receives from any source.
     any_source: usize,
+    /// Receives that come with a probe.
+    probes: usize,
+    /// Probes from any source.
+    any_source_probes: usize,
+    /// Queries of held slots, before each operation and each wait at the end.
+    queries: usize,
     /// The kinds that sends are drawn from.
     kinds: &'static [u8],
 }
@@ -68,6 +76,15 @@ fn manner(random: &mut Random, calm: bool) -> Manner {
             true => 0,
             false => random.pick(&[0, 10, 40, 100]),
         },
+        probes: random.pick(&[0, 0, 0, 30, 70]),
+        any_source_probes: match calm {
+            true => 0,
+            false => random.pick(&[0, 30, 100]),
+        },
+        queries: match calm {
+            true => 0,
+            false => random.pick(&[0, 0, 20, 50]),
+        },
         kinds: match without_ready {
             true => random.pick(&[WITHOUT_READY, &[BUFFERED], &[STANDARD, SYNCHRONOUS]]),
             false => random.pick(&[ALL_KINDS, &[READY], &[BUFFERED, READY]]),
@@ -80,6 +97,21 @@ pub fn small(random: &mut Random, calm: bool) -> Sheet {
     if random.chance(10) {
         manner.boards = random.pick(&[1, 5, 9, MOST_BOARDS]);
     }
+    sheet(random, &manner)
+}
+
+/// Calm, but for probes from any source, or for queries, or for both.
+pub fn nearly_calm(random: &mut Random) -> Sheet {
+    let (probes, queries) = random.pick(&[(70, 0), (90, 0), (0, 40), (40, 20)]);
+    let manner = Manner {
+        boards: random.between(3, 4),
+        communicators: random.pick(&[1, 1, 2]),
+        probes,
+        any_source_probes: 80,
+        queries,
+        nonblocking: random.pick(&[20, 60, 100]),
+        ..manner(random, true)
+    };
     sheet(random, &manner)
 }
 
@@ -98,12 +130,17 @@ pub fn medium(random: &mut Random, calm: bool) -> Sheet {
 /// Up to the most operations, messages of up to 4,096 bytes.
 pub fn large(random: &mut Random, calm: bool) -> Sheet {
     let nonblocking = random.pick(&[0, 30]);
+    let manner = manner(random, calm);
     let manner = Manner {
         boards: random.pick(&[1, 4, 15, MOST_BOARDS]),
-        messages: match nonblocking {
-            0 => random.pick(&[300, MOST_OPERATIONS / 2]),
+        messages: match (nonblocking, manner.probes + manner.queries) {
+            (0, 0) => random.pick(&[300, MOST_OPERATIONS / 2]),
+            // Each receive may bring a probe.
+            (0, _) => random.pick(&[300, MOST_OPERATIONS / 4]),
             // Each transfer may bring a wait.
-            _ => random.between(100, MOST_OPERATIONS / 4),
+            (_, 0) => random.between(100, MOST_OPERATIONS / 4),
+            // And queries.
+            _ => random.between(100, MOST_OPERATIONS / 8),
         },
         payload: MOST_PAYLOAD,
         inboxes: MOST_INBOX_TOTAL,
@@ -111,7 +148,7 @@ pub fn large(random: &mut Random, calm: bool) -> Sheet {
         longest: random.pick(&[12, 1000, usize::from(MOST_LENGTH)]),
         nonblocking,
         waits: nonblocking,
-        ..manner(random, calm)
+        ..manner
     };
     sheet(random, &manner)
 }
@@ -127,6 +164,8 @@ fn sheet(random: &mut Random, manner: &Manner) -> Sheet {
         payload: manner.payload,
         nonblocking: manner.nonblocking,
         waits: manner.waits,
+        queries: manner.queries,
+        probes: 0,
     };
     let inbox = manner.inboxes / manner.boards;
     let boards = wishes.iter().map(|wishes| {
@@ -141,12 +180,19 @@ fn sheet(random: &mut Random, manner: &Manner) -> Sheet {
             script,
         }
     });
-    Sheet {
+    let mut sheet = Sheet {
         communicators: manner.communicators as u16,
         boards: boards.collect(),
         payload: random.bytes(manner.payload),
+    };
+    if manner.probes > 0 && manner.messages < MANY && random.chance(70) {
+        receive_as_told(&mut sheet);
     }
+    sheet
 }
+
+/// From so many messages on a job is not run to see what its probes tell.
+const MANY: usize = 50;
 
 /// The scripts without slots and areas. Sends and receives stand in one
 /// order on all boards, so that a job without displaced ones can finish.
@@ -159,16 +205,18 @@ fn wishes(random: &mut Random, manner: &Manner) -> Vec<Vec<Operation>> {
             false => source,
         };
         let (send, receive) = pair(random, manner, source, destination);
+        let received = received(random, manner, &send, source, receive);
         match random.chance(manner.stray) {
             true if random.chance(50) => scripts[source].push(send),
-            true => scripts[destination].push(receive),
-            false if source == destination => {
-                // Only a posted or a buffered one can meet on one board.
+            true => scripts[destination].extend(received),
+            false if source == destination && (received.len() == 1 || send.kind != BUFFERED) => {
+                // Only a posted or a buffered one can meet on one board, and
+                // a probe tells none that meets a posted receive.
                 scripts[source].extend([receive, send]);
             }
             false => {
                 scripts[source].push(send);
-                scripts[destination].push(receive);
+                scripts[destination].extend(received);
             }
         }
     }
@@ -216,6 +264,35 @@ fn pair(
         receive.peer = ANY;
     }
     (send, receive)
+}
+
+/// The receive of a message, and mostly before it a probe that the message
+/// fits; seldom two of them, one behind the receive, or one alone.
+fn received(
+    random: &mut Random,
+    manner: &Manner,
+    send: &Operation,
+    source: usize,
+    receive: Operation,
+) -> Vec<Operation> {
+    if !random.chance(manner.probes) {
+        return vec![receive];
+    }
+    let peer = match random.chance(manner.any_source_probes) {
+        true => ANY,
+        false => source as u16,
+    };
+    let tag = match random.chance(30) {
+        true => ANY,
+        false => send.tag,
+    };
+    let probe = Operation::probe(peer, tag).on(send.communicator);
+    match random.below(40) {
+        0 => vec![probe, probe, receive],
+        1 => vec![receive, probe],
+        2 => vec![probe],
+        _ => vec![probe, receive],
+    }
 }
 
 /// Mostly enough for a message, at times just enough, too little or nothing.

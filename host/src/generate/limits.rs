@@ -65,6 +65,14 @@ fn wait() -> Operation {
     Operation::wait(31)
 }
 
+fn query() -> Operation {
+    Operation::query(31)
+}
+
+fn probe() -> Operation {
+    Operation::probe(0, 0)
+}
+
 fn sized(boards: usize, communicators: u16, operations: usize, payload: usize) -> Vec<u8> {
     let mut entries = vec![Board::default(); boards];
     if let Some(first) = entries.first_mut() {
@@ -183,8 +191,14 @@ pub const LIMITS: &[Limit] = &[
     ("kind 4", || field(with(send(), |o| o.kind = 4)), 0, 0),
     ("kind 5", || field(with(send(), |o| o.kind = RECEIVE)), 0, 0),
     ("kind 6", || behind(wait()), 0, 0),
-    ("kind 7", || field(with(send(), |o| o.kind = 7)), 6, 1),
+    ("kind 7", || field(probe()), 0, 0),
+    ("kind 7 in place of a send", || field(with(send(), |o| o.kind = 7)), 6, 1),
     ("kind 7 in place of a wait", || behind(with(wait(), |o| o.kind = 7)), 6, 2),
+    ("kind 8", || behind(with(wait(), |o| o.kind = 8)), 0, 0),
+    ("kind 8 in place of a send", || field(with(send(), |o| o.kind = 8)), 6, 1),
+    ("kind 9 in place of a probe", || field(with(probe(), |o| o.kind = 9)), 6, 1),
+    ("kind 9 in place of a query", || behind(with(query(), |o| o.kind = 9)), 6, 2),
+    ("kind 0 in place of a query", || behind(with(query(), |o| o.kind = 0)), 6, 2),
     ("flag 1", || field(send().nonblocking(0)), 0, 0),
     ("flag 2", || field(with(send(), |o| o.flag = 2)), 6, 1),
     ("flag 2 of a receive", || field(with(receive(), |o| o.flag = 2)), 6, 1),
@@ -238,6 +252,32 @@ pub const LIMITS: &[Limit] = &[
     ("wait tag 1", || behind(with(wait(), |o| o.tag = 1)), 6, 2),
     ("wait offset 1", || behind(with(wait(), |o| o.offset = 1)), 6, 2),
     ("wait length 1", || behind(with(wait(), |o| o.length = 1)), 6, 2),
+    // Fields of probes and queries (document 02, K9).
+    ("probe flag 1", || field(with(probe(), |o| o.flag = 1)), 6, 1),
+    ("probe peer P-1", || field(with(probe(), |o| o.peer = 1)), 0, 0),
+    ("probe peer P", || field(with(probe(), |o| o.peer = 2)), 6, 1),
+    ("probe peer 65,534", || field(with(probe(), |o| o.peer = 65_534)), 6, 1),
+    ("probe of any source", || field(with(probe(), |o| o.peer = ANY)), 0, 0),
+    ("probe on communicator C-1", || field(probe().on(1)), 0, 0),
+    ("probe on communicator C", || field(probe().on(2)), 6, 1),
+    ("probe on communicator 65,535", || field(probe().on(ANY)), 6, 1),
+    ("probe zero 1", || field(with(probe(), |o| o.zero = 1)), 6, 1),
+    ("probe tag 32,767", || field(with(probe(), |o| o.tag = 32_767)), 0, 0),
+    ("probe tag 32,768", || field(with(probe(), |o| o.tag = 32_768)), 6, 1),
+    ("probe tag 65,534", || field(with(probe(), |o| o.tag = 65_534)), 6, 1),
+    ("probe of any tag", || field(with(probe(), |o| o.tag = ANY)), 0, 0),
+    ("probe offset 1", || field(with(probe(), |o| o.offset = 1)), 6, 1),
+    ("probe length 1", || field(with(probe(), |o| o.length = 1)), 6, 1),
+    ("probe slot 1", || field(with(probe(), |o| o.slot = 1)), 6, 1),
+    ("nonblocking probe", || field(probe().nonblocking(31)), 6, 1),
+    ("query slot 32", || behind(Operation::query(32)), 6, 2),
+    ("query flag 1", || behind(with(query(), |o| o.flag = 1)), 6, 2),
+    ("query peer 1", || behind(with(query(), |o| o.peer = 1)), 6, 2),
+    ("query communicator 1", || behind(with(query(), |o| o.communicator = 1)), 6, 2),
+    ("query zero 1", || behind(with(query(), |o| o.zero = 1)), 6, 2),
+    ("query tag 1", || behind(with(query(), |o| o.tag = 1)), 6, 2),
+    ("query offset 1", || behind(with(query(), |o| o.offset = 1)), 6, 2),
+    ("query length 1", || behind(with(query(), |o| o.length = 1)), 6, 2),
     ("last of 2,048 operations", || last_operations(&[with(send(), |o| o.zero = 1)]), 6, 2047),
     // Refusal 7, slots.
     ("all 32 slots of two boards", || freed(&[&all_slots(), &all_slots()]), 0, 0),
@@ -283,6 +323,23 @@ pub const LIMITS: &[Limit] = &[
     ("freed by the last operation", || script(&[&[receive().nonblocking(31), send(), wait()], &[]]), 0, 0),
     ("freed by the last of 2,048 operations", || last_operations(&[send().nonblocking(31), wait()]), 0, 0),
     ("forgotten as last of 2,048 operations", || last_operations(&[send().nonblocking(31)]), 7, 2047),
+    // Refusal 7, probes and queries (document 02, K9).
+    ("probe beside a held slot 0", || freed(&[&[send().nonblocking(0), probe(), probe()], &[]]), 0, 0),
+    ("probe does not take slot 0", || script(&[&[probe(), Operation::wait(0)], &[]]), 7, 1),
+    ("probe beside a held area", || behind(probe()), 0, 0),
+    ("two queries of a slot", || freed(&[&[send().nonblocking(31), query(), query()], &[]]), 0, 0),
+    ("query of a slot never taken", || behind(Operation::query(0)), 7, 2),
+    ("query before the slot is taken", || freed(&[&[query(), send().nonblocking(31)], &[]]), 7, 0),
+    ("query of a freed slot", || script(&[&[send().nonblocking(31), wait(), query()], &[]]), 7, 2),
+    ("query of a blocking send", || script(&[&[send(), Operation::query(0)], &[]]), 7, 1),
+    ("query of another board's slot", || freed(&[&[send().nonblocking(31)], &[query()]]), 7, 2),
+    ("slot retaken behind a query", || freed(&[&[send().nonblocking(31), query(), send().nonblocking(31)], &[]]), 7, 2),
+    ("slot retaken behind query and wait", || freed(&[&[send().nonblocking(31), query(), wait(), send().nonblocking(31), query()], &[]]), 0, 0),
+    ("area shared behind a query", || freed(&[&[receive().nonblocking(31), query(), receive()], &[]]), 7, 2),
+    ("two waits around a query", || script(&[&[send().nonblocking(31), query(), wait(), wait()], &[]]), 7, 3),
+    ("forgotten, queried only", || script(&[&[send(), receive().nonblocking(31), query()], &[]]), 7, 1),
+    ("query as last of 2,048 operations", || last_operations(&[query()]), 7, 2047),
+    ("query of a freed slot goes before", || script(&[&[send().nonblocking(0)], &[send().nonblocking(31), wait(), query()]]), 7, 3),
     // Another broken rule goes before a forgotten request.
     ("slot taken twice later", || script(&[&[send().nonblocking(0), send().nonblocking(1), send().nonblocking(1)], &[]]), 7, 2),
     ("slot taken twice on a later board", || script(&[&[send().nonblocking(0)], &[send().nonblocking(1), send().nonblocking(1)]]), 7, 2),

@@ -1,6 +1,7 @@
 //! Jobs of the most operations, at times one less or one more; or with a last
 //! operation that stops the job, or lets the order matter (document 02, K11);
-//! that is nonblocking, or frees the slot of the one before it (K7).
+//! that is nonblocking, or frees the slot of the one before it (K7), which may be
+//! queried between (K9).
 
 use crate::layout::kind::{BUFFERED, READY};
 use crate::layout::{ANY, MOST_LENGTH, MOST_OPERATIONS};
@@ -18,7 +19,7 @@ pub fn any(random: &mut Random) -> Vec<u8> {
     let script = &mut sheet.boards[rank].script;
     let last = script.pop().expect("every board has operations");
     let to_oneself = |kind| Operation::send(kind, rank as u16, 0, 0, MOST_LENGTH);
-    match random.below(9) {
+    match random.below(11) {
         0 => {}
         1 => script.extend([last, last]),
         2 => script.push(to_oneself(READY)),
@@ -29,6 +30,12 @@ pub fn any(random: &mut Random) -> Vec<u8> {
             script.pop();
             script.extend([last.nonblocking(31), Operation::wait(31)]);
         }
+        7 => {
+            script.truncate(script.len() - 2);
+            script.extend([last.nonblocking(31), Operation::query(31)]);
+            script.push(Operation::wait(31));
+        }
+        8 => script.push(Operation::probe(ANY, ANY)),
         _ => script.push(last),
     }
     sheet.bytes()

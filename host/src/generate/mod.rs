@@ -10,6 +10,7 @@
 //! - `garbage`: random bytes, truncations, extensions, random fields.
 //! - `requests`: slots and areas just right and just wrong.
 //! - `forgotten`: slots that are held when their script ends.
+//! - `probes`: probes and queries, right and just wrong.
 //! - `premise`: sheets for which the order cannot matter, and nearly such ones.
 //! - `limits`: both sides of every limit, the sheet otherwise right.
 //! - `longest`: jobs of the most operations.
@@ -21,6 +22,7 @@ pub mod jobs;
 mod limits;
 mod longest;
 mod premise;
+mod probes;
 mod requests;
 mod script;
 mod size;
@@ -34,24 +36,25 @@ pub use limits::LIMITS;
 type Generator = fn(&mut Random) -> Vec<u8>;
 
 /// The kinds of cases: name, how many of a hundred cases, generator.
-pub const KINDS: [(&str, usize, Generator); 17] = [
-    ("right, small", 11, |random| right(random, size::small)),
+pub const KINDS: [(&str, usize, Generator); 18] = [
+    ("right, small", 9, |random| right(random, size::small)),
     ("right, medium", 5, |random| right(random, size::medium)),
     ("right, large", 2, |random| right(random, size::large)),
     ("all slots held", 2, requests::all_slots_held),
     ("at a limit", 7, limits::any),
     ("longest", 1, longest::any),
-    ("header", 5, |random| damaged(random, &[damage::header])),
-    ("offset or length", 5, |random| {
+    ("header", 4, |random| damaged(random, &[damage::header])),
+    ("offset or length", 4, |random| {
         damaged(random, &[damage::offset_or_length])
     }),
-    ("crc", 5, damage::crc),
-    ("board entry", 9, |random| damaged(random, &[damage::board])),
-    ("operation field", 10, |random| {
+    ("crc", 4, damage::crc),
+    ("board entry", 8, |random| damaged(random, &[damage::board])),
+    ("operation field", 9, |random| {
         damaged(random, &[damage::operation])
     }),
-    ("slots and areas", 11, requests::pair),
+    ("slots and areas", 10, requests::pair),
     ("forgotten requests", 6, forgotten::any),
+    ("probes and queries", 8, probes::any),
     ("calm or nearly", 6, premise::any),
     ("several faults", 8, several_faults),
     ("truncated or extended", 3, garbage::truncated_or_extended),

@@ -1,9 +1,10 @@
 //! Sheets for which the order of steps cannot matter (document 01, What is
-//! pinned down), and such sheets with up to three things changed that let it
-//! matter: an any-source receive, a ready send, a buffer that is too small. A
-//! few of them forget a request, which is told before (document 02, K7).
+//! pinned down), and such sheets with a few things changed that let it matter:
+//! an any-source receive or probe, a ready send, a buffer that is too small, a
+//! query (document 02, K9). A few of them forget a request, which is told before
+//! (K7).
 
-use super::{forgotten, jobs};
+use super::{forgotten, jobs, probes};
 use crate::buffers::Buffered;
 use crate::layout::{board, header, kind, operation, word, ANY};
 use crate::random::Random;
@@ -15,6 +16,10 @@ pub fn any(random: &mut Random) -> Vec<u8> {
         1..=5 => jobs::medium(random, true),
         _ => jobs::small(random, true),
     };
+    if random.chance(20) {
+        let rank = random.below(sheet.boards.len());
+        probes::put_query(&mut sheet, rank, random);
+    }
     if random.chance(8) {
         forgotten::forget(&mut sheet, random);
     }
@@ -46,7 +51,8 @@ fn operations(sheet: &[u8], kinds: &[u8]) -> Vec<usize> {
 }
 
 fn any_source(sheet: &mut [u8], random: &mut Random) {
-    if let Some(at) = one_of(&operations(sheet, &[kind::RECEIVE]), random) {
+    let asks = random.pick(&[kind::RECEIVE, kind::PROBE]);
+    if let Some(at) = one_of(&operations(sheet, &[asks]), random) {
         set_word(sheet, at + operation::PEER, ANY);
     }
 }

@@ -1,6 +1,7 @@
 //! Right scripts for one board: slots are taken when free and freed when
 //! held, areas keep clear of those of held receives (document 01, Slots and
-//! Areas), and at the end every slot is free (document 02, K7).
+//! Areas), and at the end every slot is free (document 02, K7). Queries are of
+//! held slots (K9).
 
 use crate::layout::{kind, ANY, MOST_TAG, SLOTS};
 use crate::random::Random;
@@ -15,6 +16,10 @@ pub struct Surroundings {
     pub nonblocking: usize,
     /// How many of a hundred operations are waits when a slot is held.
     pub waits: usize,
+    /// How many of a hundred are queries when a slot is held.
+    pub queries: usize,
+    /// How many of a hundred are probes, where operations are drawn here.
+    pub probes: usize,
 }
 
 pub struct Writer<'a> {
@@ -36,9 +41,11 @@ impl<'a> Writer<'a> {
         }
     }
 
-    /// The script, with waits for all slots that are still held.
+    /// The script, with waits for all slots that are still held, and queries
+    /// before them.
     pub fn finish(mut self, random: &mut Random) -> Vec<Operation> {
         while self.holding() > 0 {
+            self.queries(random);
             self.wait(random);
         }
         self.script
@@ -56,6 +63,13 @@ impl<'a> Writer<'a> {
         if holding > 0 && (holding == left || random.chance(self.around.waits)) {
             return self.wait(random);
         }
+        if holding > 0 && random.chance(self.around.queries) {
+            return self.query(random);
+        }
+        if random.chance(self.around.probes) {
+            let probe = self.probe(random);
+            return self.script.push(probe);
+        }
         let operation = match random.chance(50) {
             true => self.receive(random),
             false => self.send(random),
@@ -68,10 +82,18 @@ impl<'a> Writer<'a> {
     }
 
     /// Adds this blocking transfer, at times as a nonblocking one and at
-    /// times behind a wait. A receive gets a free area of its length.
+    /// times behind queries or a wait; or this probe. A receive gets a free
+    /// area of its length. Nothing comes between a probe and what follows it.
     pub fn put(&mut self, mut operation: Operation, random: &mut Random) {
-        if self.holding() > 0 && random.chance(self.around.waits) {
-            self.wait(random);
+        let probed = |last: &Operation| last.kind == kind::PROBE;
+        if !self.script.last().is_some_and(probed) {
+            self.queries(random);
+            if self.holding() > 0 && random.chance(self.around.waits) {
+                self.wait(random);
+            }
+        }
+        if operation.kind == kind::PROBE {
+            return self.script.push(operation);
         }
         if operation.kind == kind::RECEIVE {
             let (offset, length) = self.area_of(usize::from(operation.length), random);
@@ -86,6 +108,19 @@ impl<'a> Writer<'a> {
         let slot = self.some_slot(random, true);
         self.last_freed = self.held[usize::from(slot)].take();
         self.script.push(Operation::wait(slot));
+    }
+
+    /// Queries of held slots, often none and at times several of one.
+    fn queries(&mut self, random: &mut Random) {
+        while self.holding() > 0 && random.chance(self.around.queries) {
+            self.query(random);
+        }
+    }
+
+    /// Queries a held slot; there is one.
+    fn query(&mut self, random: &mut Random) {
+        let slot = self.some_slot(random, true);
+        self.script.push(Operation::query(slot));
     }
 
     fn take_up(&mut self, mut operation: Operation, random: &mut Random) {
@@ -128,19 +163,21 @@ impl<'a> Writer<'a> {
 
     fn receive(&self, random: &mut Random) -> Operation {
         let (offset, length) = self.area(random);
-        let mut operation = Operation {
+        let send = self.send(random);
+        Operation {
             kind: kind::RECEIVE,
+            peer: or_any(send.peer, random),
+            tag: or_any(send.tag, random),
             offset,
             length,
-            ..self.send(random)
-        };
-        if random.chance(20) {
-            operation.peer = ANY;
+            ..send
         }
-        if random.chance(20) {
-            operation.tag = ANY;
-        }
-        operation
+    }
+
+    fn probe(&self, random: &mut Random) -> Operation {
+        let send = self.send(random);
+        let (peer, tag) = (or_any(send.peer, random), or_any(send.tag, random));
+        Operation::probe(peer, tag).on(send.communicator)
     }
 
     /// An area that shares no byte with a held one; an empty one if a few
@@ -218,6 +255,13 @@ pub fn free_all(script: &mut Vec<Operation>, random: &mut Random) {
     while !held.is_empty() {
         let slot = held.swap_remove(random.below(held.len()));
         script.push(Operation::wait(slot));
+    }
+}
+
+fn or_any(number: u16, random: &mut Random) -> u16 {
+    match random.chance(20) {
+        true => ANY,
+        false => number,
     }
 }
 

@@ -13,6 +13,8 @@ pub fn sheet(random: &mut Random, size: &Size) -> Sheet {
         payload: size.payload,
         nonblocking: random.pick(&[0, 40, 70, 100]),
         waits: random.pick(&[0, 10, 30, 45]),
+        queries: random.pick(&[0, 0, 0, 15, 40]),
+        probes: random.pick(&[0, 0, 0, 10, 30]),
     };
     let counts = shares(random, size.operations, size.boards);
     let inboxes = shares(random, size.inboxes, size.boards);

@@ -1,5 +1,5 @@
-//! The state of a job and its steps (document 01, How a board steps). Plain
-//! lists, searched from the front.
+//! The state of a job and its steps (document 01, How a board steps; probes and
+//! queries: document 02, K9). Plain lists, searched from the front.
 
 use super::script::Script;
 use crate::layout::{kind, SLOTS};
@@ -10,8 +10,32 @@ pub enum State {
     NotEntered,
     Pending,
     Buffered,
-    Matched { partner: usize, cut: bool },
+    Matched {
+        partner: usize,
+        cut: bool,
+    },
     WaitFinished,
+    /// The message that the probe told.
+    Probed {
+        message: usize,
+    },
+    /// Whether the operation of the queried slot was complete.
+    Queried {
+        complete: bool,
+    },
+}
+
+/// The step that comes next on a board.
+enum Next {
+    /// An initiating step.
+    Initiate,
+    /// The waiting half of this operation; a wait's is that of the operation
+    /// that holds its slot.
+    WaitingHalf(usize),
+    /// The one step of a probe.
+    Probe,
+    /// The one step of a query of this operation.
+    Query(usize),
 }
 
 #[derive(Clone, Copy, PartialEq, Eq)]
@@ -71,39 +95,67 @@ impl<'a> Job<'a> {
         self.script.boards[rank].first + self.boards[rank].finished
     }
 
+    /// The operation that the rank has come to; none if it is finished.
+    pub fn at(&self, rank: usize) -> Option<usize> {
+        (!self.finished(rank)).then(|| self.current(rank))
+    }
+
     pub fn able(&self, rank: usize) -> bool {
         if self.stop.is_some() || self.finished(rank) {
             return false;
         }
-        match self.waits_for(rank) {
-            None => true,
-            Some(operation) => self.complete(operation),
+        match self.next(rank) {
+            Next::Initiate | Next::Query(_) => true,
+            Next::WaitingHalf(operation) => self.complete(operation),
+            Next::Probe => self.earliest_message(self.current(rank)).is_some(),
         }
     }
 
-    /// The operation of the waiting half that comes next; none if an
-    /// initiating step comes next.
-    fn waits_for(&self, rank: usize) -> Option<usize> {
+    /// The next step of a rank that is not finished.
+    fn next(&self, rank: usize) -> Next {
         let index = self.current(rank);
-        let operation = &self.script.operations[index];
-        if operation.kind == kind::WAIT {
-            let holder = self.boards[rank].holders[usize::from(operation.slot)];
-            return Some(holder.expect("a wait names a held slot"));
+        match self.script.operations[index].kind {
+            kind::WAIT => Next::WaitingHalf(self.holder(rank, index)),
+            kind::QUERY => Next::Query(self.holder(rank, index)),
+            kind::PROBE => Next::Probe,
+            _ if self.boards[rank].in_waiting_half => Next::WaitingHalf(index),
+            _ => Next::Initiate,
         }
-        self.boards[rank].in_waiting_half.then_some(index)
+    }
+
+    /// The operation that holds the slot of a wait or a query.
+    fn holder(&self, rank: usize, index: usize) -> usize {
+        let slot = usize::from(self.script.operations[index].slot);
+        self.boards[rank].holders[slot].expect("it names a held slot")
     }
 
     /// The operation that the rank's next step initiates, and the list that it
-    /// searches; none if a waiting half comes next.
+    /// searches; none if no initiating step comes next.
     pub fn searches(&self, rank: usize) -> Option<(usize, &[usize])> {
-        if self.waits_for(rank).is_some() {
+        let Next::Initiate = self.next(rank) else {
             return None;
-        }
+        };
         let index = self.current(rank);
         match self.script.is_receive(index) {
             true => Some((index, &self.messages)),
             false => Some((index, &self.receives)),
         }
+    }
+
+    /// The probe that is the next step of an able rank, and the message that it
+    /// tells; none if another step comes next.
+    pub fn probes(&self, rank: usize) -> Option<(usize, usize)> {
+        let Next::Probe = self.next(rank) else {
+            return None;
+        };
+        let index = self.current(rank);
+        Some((index, self.told_message(index)))
+    }
+
+    /// Where the earliest message stands that fits a receive or a probe.
+    fn earliest_message(&self, index: usize) -> Option<usize> {
+        let mut messages = self.messages.iter();
+        messages.position(|&message| self.script.fits(message, index))
     }
 
     fn complete(&self, index: usize) -> bool {
@@ -113,9 +165,14 @@ impl<'a> Job<'a> {
     /// One step of an able rank.
     pub fn step(&mut self, rank: usize) {
         self.steps += 1;
-        match self.waits_for(rank) {
-            Some(_) => self.waiting_half(rank),
-            None => self.initiate(rank),
+        match self.next(rank) {
+            Next::Initiate => self.initiate(rank),
+            Next::WaitingHalf(_) => self.waiting_half(rank),
+            Next::Probe => self.probe(rank),
+            Next::Query(holder) => {
+                let complete = self.complete(holder);
+                self.end(rank, State::Queried { complete });
+            }
         }
         for board in &mut self.boards {
             board.peak = board.peak.max(board.in_use);
@@ -126,10 +183,29 @@ impl<'a> Job<'a> {
         let index = self.current(rank);
         let operation = &self.script.operations[index];
         if operation.kind == kind::WAIT {
-            self.states[index] = State::WaitFinished;
             self.boards[rank].holders[usize::from(operation.slot)] = None;
+            return self.end(rank, State::WaitFinished);
         }
         self.boards[rank].in_waiting_half = false;
+        self.boards[rank].finished += 1;
+    }
+
+    /// It takes nothing: the message stays pending.
+    fn probe(&mut self, rank: usize) {
+        let message = self.told_message(self.current(rank));
+        self.end(rank, State::Probed { message });
+    }
+
+    /// The message that a probe of an able rank tells.
+    fn told_message(&self, index: usize) -> usize {
+        let place = self.earliest_message(index);
+        self.messages[place.expect("the rank is able")]
+    }
+
+    /// Ends an operation of one step: a wait, a probe or a query.
+    fn end(&mut self, rank: usize, state: State) {
+        let index = self.current(rank);
+        self.states[index] = state;
         self.boards[rank].finished += 1;
     }
 
@@ -153,9 +229,7 @@ impl<'a> Job<'a> {
     }
 
     fn initiate_receive(&mut self, index: usize) {
-        let script = self.script;
-        let earliest = self.messages.iter().position(|&m| script.fits(m, index));
-        match earliest {
+        match self.earliest_message(index) {
             Some(place) => {
                 let message = self.messages.remove(place);
                 self.match_up(message, index);

@@ -36,7 +36,7 @@ mod script;
 mod services;
 
 pub use check::check;
-pub use orders::{able_after, each_search, order_by, Search};
+pub use orders::{after, each_probe, each_search, order_by, After, Probe, Search};
 pub use premise::premise;
 pub use rooms::{Needs, Rooms, SCRATCH_ROOM};
 pub use services::{follow, needs, run};

@@ -41,7 +41,7 @@ pub fn check(sheet: &[u8]) -> Answer {
 
 /// "No receive from any source and no ready send. On each board the charges of
 /// all its buffered sends, were none matched, add up to at most its attached
-/// size."
+/// size." And no probe from any source and no query (document 02, K9).
 pub fn premise(sheet: &[u8]) -> Answer {
     let checked = check(sheet);
     if checked.number != 0 {
@@ -49,14 +49,18 @@ pub fn premise(sheet: &[u8]) -> Answer {
     }
     let view = View(sheet);
     let (p, n) = (view.word(0), view.word(4));
-    if let Some(index) = (0..n).find(|&i| view.kind(i) == 5 && view.field(i, 2) == 65535) {
+    let asks = |index| view.kind(index) == 5 || view.kind(index) == 7;
+    if let Some(index) = (0..n).find(|&i| asks(i) && view.field(i, 2) == 65535) {
         return Answer::refusal(20, index);
     }
     if let Some(index) = (0..n).find(|&index| view.kind(index) == 4) {
         return Answer::refusal(21, index);
     }
-    match (0..p).find(|&rank| view.charges(rank) > view.board(rank, 4)) {
-        Some(rank) => Answer::refusal(22, rank),
+    if let Some(rank) = (0..p).find(|&rank| view.charges(rank) > view.board(rank, 4)) {
+        return Answer::refusal(22, rank);
+    }
+    match (0..n).find(|&index| view.kind(index) == 8) {
+        Some(index) => Answer::refusal(23, index),
         None => Answer::refusal(0, 0),
     }
 }
@@ -151,9 +155,11 @@ impl View<'_> {
     fn fields_right(&self, index: u64) -> bool {
         let kind = self.kind(index);
         let (flag, slot) = (self.flag(index), self.field(index, 14));
-        if kind == 6 {
-            let zeros = [2, 4, 6, 8, 10, 12];
-            return flag == 0 && slot <= 31 && zeros.iter().all(|&f| self.field(index, f) == 0);
+        if kind == 6 || kind == 8 {
+            return flag == 0 && slot <= 31 && self.zero(index, &[2, 4, 6, 8, 10, 12]);
+        }
+        if kind == 7 {
+            return self.probe_right(index);
         }
         let receive = kind == 5;
         let (peer, tag) = (self.field(index, 2), self.field(index, 8));
@@ -172,6 +178,21 @@ impl View<'_> {
             && offset + length <= inside
     }
 
+    /// "A receive's peer, communicator and tag with zeros else" (document 02,
+    /// K9).
+    fn probe_right(&self, index: u64) -> bool {
+        let (peer, tag) = (self.field(index, 2), self.field(index, 8));
+        (peer < self.word(0) || peer == 65535)
+            && self.field(index, 4) < self.word(2)
+            && (tag <= 32767 || tag == 65535)
+            && self.flag(index) == 0
+            && self.zero(index, &[6, 10, 12, 14])
+    }
+
+    fn zero(&self, index: u64, places: &[u64]) -> bool {
+        places.iter().all(|&place| self.field(index, place) == 0)
+    }
+
     /// The charges of all buffered sends of a board: of each the length and 32
     /// (document 02, K2).
     fn charges(&self, rank: u64) -> u64 {
@@ -186,7 +207,7 @@ impl View<'_> {
     }
 
     fn takes(&self, index: u64) -> bool {
-        self.kind(index) != 6 && self.flag(index) == 1
+        self.kind(index) <= 5 && self.flag(index) == 1
     }
 
     /// Whether the slot that operation `taker` took is held just before
@@ -202,10 +223,11 @@ impl View<'_> {
         let held = self.earlier(index).any(|before| {
             self.takes(before) && self.field(before, 14) == slot && self.still_held(before, index)
         });
-        match (self.kind(index) == 6, self.takes(index)) {
-            (true, _) => held,
-            (false, true) => !held,
-            (false, false) => true,
+        // A wait or a query names a held slot.
+        match (self.kind(index), self.takes(index)) {
+            (6 | 8, _) => held,
+            (_, true) => !held,
+            (_, false) => true,
         }
     }
 

@@ -41,26 +41,39 @@ impl Operation {
         match self.kind {
             kind::STANDARD..=kind::READY => self.right_transfer(header, header.payload, false),
             kind::RECEIVE => self.right_transfer(header, board.inbox, true),
-            kind::WAIT => self.right_wait(),
+            // A query has the fields of a wait (document 02, K9).
+            kind::WAIT | kind::QUERY => self.right_wait(),
+            kind::PROBE => self.right_probe(header),
             _ => false,
         }
     }
 
     /// A send or a receive, whose offset and length lie within `room` bytes.
     fn right_transfer(&self, header: &Header, room: usize, receive: bool) -> bool {
-        let peer = usize::from(self.peer) < header.boards || (receive && self.peer == ANY);
-        let tag = self.tag <= layout::MOST_TAG || (receive && self.tag == ANY);
         let slot = match self.flag {
             0 => self.slot == 0,
             1 => usize::from(self.slot) < layout::SLOTS,
             _ => false,
         };
-        peer && tag
+        self.right_envelope(header, receive)
             && slot
-            && self.communicator < header.communicators
-            && self.zero == 0
             && self.length <= layout::MOST_LENGTH
             && usize::from(self.offset) + usize::from(self.length) <= room
+    }
+
+    /// Peer, tag and communicator, and the zero between them. A receive's peer
+    /// and tag may be any.
+    fn right_envelope(&self, header: &Header, receive: bool) -> bool {
+        let peer = usize::from(self.peer) < header.boards || (receive && self.peer == ANY);
+        let tag = self.tag <= layout::MOST_TAG || (receive && self.tag == ANY);
+        peer && tag && self.communicator < header.communicators && self.zero == 0
+    }
+
+    /// A receive's peer, communicator and tag, with zeros else (document 02,
+    /// K9).
+    fn right_probe(&self, header: &Header) -> bool {
+        let others = [self.offset, self.length, self.slot];
+        self.flag == 0 && others == [0; 3] && self.right_envelope(header, true)
     }
 
     fn right_wait(&self) -> bool {

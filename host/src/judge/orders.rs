@@ -8,7 +8,7 @@ use super::script::Script;
 /// ends by itself when nobody is able.
 pub fn order_by(sheet: &[u8], mut choose: impl FnMut(&[u8]) -> Option<u8>) -> Vec<u8> {
     let script = Script::read(sheet);
-    let mut job = Job::new(&script, &vec![0; script.inbox_total()]);
+    let mut job = walk(&script, &[], |_, _, _| {});
     let mut order = Vec::new();
     loop {
         let able = able(&job);
@@ -23,14 +23,40 @@ pub fn order_by(sheet: &[u8], mut choose: impl FnMut(&[u8]) -> Option<u8>) -> Ve
     }
 }
 
-/// The able ranks after an order that follow accepts.
-pub fn able_after(sheet: &[u8], order: &[u8]) -> Vec<u8> {
-    let script = Script::read(sheet);
-    let mut job = Job::new(&script, &vec![0; script.inbox_total()]);
-    for &rank in order {
+/// Takes the steps of an order that follow accepts. `see` is shown the job
+/// before each of them, with how many were taken and whose step comes next.
+fn walk<'a>(
+    script: &'a Script<'a>,
+    order: &[u8],
+    mut see: impl FnMut(&Job, usize, usize),
+) -> Job<'a> {
+    let mut job = Job::new(script, &vec![0; script.inbox_total()]);
+    for (steps, &rank) in order.iter().enumerate() {
+        see(&job, steps, usize::from(rank));
         job.step(usize::from(rank));
     }
-    able(&job)
+    job
+}
+
+/// Where an order that follow accepts leaves the boards.
+pub struct After {
+    /// The ranks that are able.
+    pub able: Vec<u8>,
+    /// The operation that each board has come to; none if it is finished.
+    pub at: Vec<Option<usize>>,
+    /// A step has stopped the job.
+    pub stopped: bool,
+}
+
+pub fn after(sheet: &[u8], order: &[u8]) -> After {
+    let script = Script::read(sheet);
+    let job = walk(&script, order, |_, _, _| {});
+    let ranks = 0..job.boards.len();
+    After {
+        able: able(&job),
+        at: ranks.map(|rank| job.at(rank)).collect(),
+        stopped: job.stop.is_some(),
+    }
 }
 
 /// A search of a waiting list by an initiating step.
@@ -47,9 +73,8 @@ pub struct Search {
 /// Shows the searches of an order that follow accepts, one after the other.
 pub fn each_search(sheet: &[u8], order: &[u8], mut show: impl FnMut(Search)) {
     let script = Script::read(sheet);
-    let mut job = Job::new(&script, &vec![0; script.inbox_total()]);
-    for (steps, &rank) in order.iter().enumerate() {
-        if let Some((operation, list)) = job.searches(usize::from(rank)) {
+    walk(&script, order, |job, steps, rank| {
+        if let Some((operation, list)) = job.searches(rank) {
             let receives = script.is_receive(operation);
             let parts = |&other: &usize| match receives {
                 true => script.parts_of_fit(other, operation),
@@ -62,8 +87,44 @@ pub fn each_search(sheet: &[u8], order: &[u8], mut show: impl FnMut(Search)) {
                 candidates: list.iter().map(parts).collect(),
             });
         }
-        job.step(usize::from(rank));
-    }
+    });
+}
+
+/// The step of a probe (document 02, K9).
+pub struct Probe {
+    /// How many steps were taken before.
+    pub steps: usize,
+    pub operation: usize,
+    /// The message that it tells.
+    pub message: usize,
+    /// Its board had come to it before that message arrived.
+    pub waited: bool,
+    /// The pending messages as they arrived, each with the parts of its fit.
+    pub pending: Vec<(usize, [bool; 4])>,
+}
+
+/// Shows the probes' steps of an order that follow accepts, one after the
+/// other.
+pub fn each_probe(sheet: &[u8], order: &[u8], mut show: impl FnMut(Probe)) {
+    let script = Script::read(sheet);
+    // The step that entered each operation, and the last step of each rank.
+    let mut entered = vec![None; script.operations.len()];
+    let mut last = vec![None; script.boards.len()];
+    walk(&script, order, |job, steps, rank| {
+        if let Some((operation, _)) = job.searches(rank) {
+            entered[operation] = Some(steps);
+        } else if let Some((operation, message)) = job.probes(rank) {
+            let parts = |&other: &usize| (other, script.parts_of_fit(other, operation));
+            show(Probe {
+                steps,
+                operation,
+                message,
+                waited: entered[message] > last[rank],
+                pending: job.messages.iter().map(parts).collect(),
+            });
+        }
+        last[rank] = Some(steps);
+    });
 }
 
 fn able(job: &Job) -> Vec<u8> {

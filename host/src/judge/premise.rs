@@ -1,7 +1,8 @@
 //! Whether the order of steps can matter for a sheet (document 01, What is
-//! pinned down, the first point): refusals 1 to 7, then 20 a receive from any
-//! source, 21 a ready send, 22 a board whose attached buffer does not cover
-//! all its buffered sends. One pass over the scripts.
+//! pinned down, the first point): refusals 1 to 7, then 20 a receive or a probe
+//! from any source, 21 a ready send, 22 a board whose attached buffer does not
+//! cover all its buffered sends, 23 a status query (document 02, K9). One pass
+//! over the scripts.
 
 use super::boards::Boards;
 use super::check::check;
@@ -22,16 +23,19 @@ pub fn premise(sheet: &[u8]) -> Answer {
 
 /// The first place of each number, and of these the lowest number.
 fn first(sheet: &[u8], header: &Header, boards: &Boards) -> Answer {
-    let (mut any_source, mut ready, mut uncovered) = (None, None, None);
+    let (mut any_source, mut ready, mut uncovered, mut query) = (None, None, None, None);
     for (rank, board) in boards.in_rank_order().iter().enumerate() {
         let mut buffered = 0;
         for (index, row) in rows(header.operation_entries(sheet), board).enumerate() {
             let operation = Operation::read(row);
             let place = Some((board.first + index) as u64);
             match operation.kind {
-                kind::RECEIVE if operation.peer == ANY => any_source = any_source.or(place),
+                kind::RECEIVE | kind::PROBE if operation.peer == ANY => {
+                    any_source = any_source.or(place);
+                }
                 kind::READY => ready = ready.or(place),
                 kind::BUFFERED => buffered += operation.charge(),
+                kind::QUERY => query = query.or(place),
                 _ => (),
             }
         }
@@ -39,7 +43,7 @@ fn first(sheet: &[u8], header: &Header, boards: &Boards) -> Answer {
             uncovered = uncovered.or(Some(rank as u64));
         }
     }
-    let places = [(20, any_source), (21, ready), (22, uncovered)];
+    let places = [(20, any_source), (21, ready), (22, uncovered), (23, query)];
     let mut answers = places
         .iter()
         .filter_map(|&(number, place)| Some(Answer::refusal(number, place?)));

@@ -71,17 +71,26 @@ fn operation_row(job: &Job, index: usize, out: &mut Vec<u8>) {
         State::Pending => (1, false, None),
         State::Buffered => (2, false, None),
         State::Matched { partner, cut } => (3, cut, Some(partner)),
-        State::WaitFinished => (5, false, None),
+        State::WaitFinished | State::Probed { .. } | State::Queried { .. } => (5, false, None),
     };
     out.extend([state, u8::from(cut)]);
     words(out, &[partner.unwrap_or(usize::from(NONE))]);
-    // Only a matched receive has a status.
-    let (source, tag, length) = match partner {
-        Some(message) if job.script.is_receive(index) => {
-            let sent = &job.script.operations[message];
-            (job.script.rank_of[message], sent.tag, sent.length)
-        }
-        _ => (usize::from(NONE), NONE, 0),
-    };
+    let (source, tag, length) = status(job, index);
     words(out, &[source, usize::from(tag), usize::from(length), 0]);
+}
+
+/// Source, tag and length: of a matched receive and of a finished probe the
+/// message's; the length of a query is 1 where it found the operation complete
+/// (document 02, K9).
+fn status(job: &Job, index: usize) -> (usize, u16, u16) {
+    let of_message = |message: usize| {
+        let sent = &job.script.operations[message];
+        (job.script.rank_of[message], sent.tag, sent.length)
+    };
+    match job.states[index] {
+        State::Matched { partner, .. } if job.script.is_receive(index) => of_message(partner),
+        State::Probed { message } => of_message(message),
+        State::Queried { complete } => (usize::from(NONE), NONE, u16::from(complete)),
+        _ => (usize::from(NONE), NONE, 0),
+    }
 }

@@ -1,6 +1,6 @@
 //! Request slots, the areas of receives, and refusal 7 (document 01, Slots
-//! and Areas; document 02, K7). One pass; a receive is compared with at most
-//! 32 held areas.
+//! and Areas; document 02, K7 and K9). One pass; a receive is compared with at
+//! most 32 held areas.
 
 use super::boards::Boards;
 use super::header::Header;
@@ -42,6 +42,11 @@ impl Requests {
             self.held &= !slot;
             self.receives &= !slot;
             return held;
+        }
+        // It frees nothing (document 02, K9). A probe has neither slot nor
+        // area, and passes all below.
+        if operation.kind == kind::QUERY {
+            return self.held & slot != 0;
         }
         if operation.flag == 1 && self.held & slot != 0 {
             return false;

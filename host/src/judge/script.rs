@@ -41,7 +41,8 @@ impl<'a> Script<'a> {
     }
 
     /// Document 01, How a board steps: addressed to the receiver,
-    /// communicators equal, source equal or any, tag equal or any.
+    /// communicators equal, source equal or any, tag equal or any. A probe is
+    /// fitted as a receive is (document 02, K9).
     pub fn fits(&self, message: usize, receive: usize) -> bool {
         self.parts_of_fit(message, receive) == [true; 4]
     }

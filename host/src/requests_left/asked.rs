@@ -39,12 +39,13 @@ pub const ASKED: [&str; TOLD + NOT_TOLD + ACCEPTED + PREMISE] = [
     "premise, forgotten and not 20",
     "premise, forgotten and not 21",
     "premise, forgotten and not 22",
+    "premise, forgotten and not 23",
 ];
 
 const TOLD: usize = 13;
 const NOT_TOLD: usize = 7;
 const ACCEPTED: usize = 3;
-const PREMISE: usize = 3;
+const PREMISE: usize = 4;
 
 /// Which cases the answers of check and premise make.
 pub fn asked(sheet: &[u8], check: Answer, premise: Answer) -> [bool; ASKED.len()] {
@@ -59,7 +60,7 @@ pub fn asked(sheet: &[u8], check: Answer, premise: Answer) -> [bool; ASKED.len()
             Seven::Forgotten => {
                 first = told(sheet, place);
                 let number = premise_else(sheet);
-                fourth = [20, 21, 22].map(|other| premise == check && number == other);
+                fourth = [20, 21, 22, 23].map(|other| premise == check && number == other);
             }
             rule => second = not_told(sheet, place, rule),
         },
@@ -137,18 +138,21 @@ fn accepted(sheet: &[u8]) -> [bool; ACCEPTED] {
 /// What premise would answer if nothing were forgotten.
 fn premise_else(sheet: &[u8]) -> u32 {
     let source = |index| field_of(sheet, index, operation::PEER);
-    let any_source = |index| receives(sheet, index) && source(index) == usize::from(ANY);
-    let ready = |index| kind_of(sheet, index) == kind::READY;
+    let of_kind = |index, kind| kind_of(sheet, index) == kind;
+    let asks = |index| receives(sheet, index) || of_kind(index, kind::PROBE);
+    let any_source = |index| asks(index) && source(index) == usize::from(ANY);
     let uncovered = |rank| {
         let board = Buffered::of(sheet, rank);
         board.charges > board.attached
     };
     if operations(sheet).any(any_source) {
         20
-    } else if operations(sheet).any(ready) {
+    } else if operations(sheet).any(|index| of_kind(index, kind::READY)) {
         21
     } else if (0..boards(sheet)).any(uncovered) {
         22
+    } else if operations(sheet).any(|index| of_kind(index, kind::QUERY)) {
+        23
     } else {
         0
     }

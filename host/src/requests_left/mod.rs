@@ -8,7 +8,7 @@
 
 mod asked;
 mod called;
-mod reading;
+pub mod reading;
 
 use crate::layout::{kind, word};
 use crate::sheet::kind_of;
@@ -17,8 +17,8 @@ pub use asked::{asked, ASKED};
 pub use called::{called, CALLED};
 
 /// No-request-left (document 02, K7): in a report with verdict 1 every receive
-/// is matched, every send too, or buffered and of that kind, every wait is
-/// finished, and no pending receive is counted.
+/// is matched, every send too, or buffered and of that kind, every other
+/// operation is finished, and no pending receive is counted.
 pub fn no_request_left(sheet: &[u8], report: &[u8]) -> Result<(), String> {
     if report[0] != 1 {
         return Ok(());
@@ -26,7 +26,7 @@ pub fn no_request_left(sheet: &[u8], report: &[u8]) -> Result<(), String> {
     let kept = |index: &usize| {
         let state = reading::state_of(sheet, report, *index);
         match kind_of(sheet, *index) {
-            kind::WAIT => state == 5,
+            kind::WAIT | kind::PROBE | kind::QUERY => state == 5,
             kind::BUFFERED => state == 2 || state == 3,
             _ => state == 3,
         }

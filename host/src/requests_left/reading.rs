@@ -36,6 +36,11 @@ pub fn waits(sheet: &[u8], index: usize) -> bool {
     kind_of(sheet, index) == kind::WAIT && slot_of(sheet, index) < SLOTS
 }
 
+/// A query of a slot (document 02, K9).
+pub fn queries(sheet: &[u8], index: usize) -> bool {
+    kind_of(sheet, index) == kind::QUERY && slot_of(sheet, index) < SLOTS
+}
+
 pub fn takes(sheet: &[u8], index: usize) -> bool {
     let flag = sheet[operation_at(boards(sheet), index) + operation::FLAG];
     let transfer = (kind::STANDARD..=kind::RECEIVE).contains(&kind_of(sheet, index));
@@ -75,7 +80,8 @@ pub fn holder(sheet: &[u8], slot: usize, index: usize) -> Option<usize> {
 
 fn breaks_slot_rule(sheet: &[u8], index: usize) -> bool {
     let held = || holder(sheet, slot_of(sheet, index), index).is_some();
-    waits(sheet, index) && !held() || takes(sheet, index) && held()
+    let names = waits(sheet, index) || queries(sheet, index);
+    names && !held() || takes(sheet, index) && held()
 }
 
 /// A receive that shares a byte with a held one.

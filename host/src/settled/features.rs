@@ -56,7 +56,7 @@ pub const FEATURES: [Feature; 12] = [
         },
     },
     Feature {
-        name: "kind-7-or-8",
+        name: "probe-or-query",
         says: "an operation of kind 7 or 8 (K9)",
         in_case: |case| any_operation(case, |operation| [PROBE, QUERY].contains(&operation.kind)),
     },

@@ -1,32 +1,61 @@
 //! Document 01, What is pinned down, the claim about whole orders (demand 3),
 //! tried through the library: whole orders end alike with each other and with
 //! run, and two neighbouring steps of able boards may change places. *Alike*
-//! sets the peaks aside.
+//! sets the peaks aside. On sheets that only their any-source probes or their
+//! queries leave out (document 02, K9), orders that end otherwise are counted.
 
 use super::{orders, Trial};
 use crate::buffers::Buffered;
 use crate::compare::Call;
 use crate::desk::Desk;
-use crate::judge;
-use crate::layout::{header, kind, operation, word, ANY};
+use crate::layout::{kind, operation, ANY};
 use crate::random::Random;
+use crate::requests_left::reading::{operations, state_of};
 use crate::sheet::{boards, field_of, kind_of};
+use crate::{judge, probes};
 use jamturret::lent::Answer;
 
-/// Whether the claim speaks of an accepted sheet: no receive from any source,
-/// no ready send, and on each board all buffered sends together are covered.
-pub fn applies(sheet: &[u8]) -> bool {
-    let operations = usize::from(word(sheet, header::OPERATIONS));
-    let calm = (0..operations).all(|index| {
-        let kind = kind_of(sheet, index);
-        let source = field_of(sheet, index, operation::PEER);
-        kind != kind::READY && (kind != kind::RECEIVE || source != usize::from(ANY))
-    });
-    let covered = |rank| {
+/// What of an accepted sheet keeps the claim from speaking of it.
+pub struct Against {
+    /// A receive from any source, a ready send, or a board whose buffered sends
+    /// together are not covered.
+    transfers: bool,
+    /// A probe from any source.
+    probes: bool,
+    queries: bool,
+}
+
+pub fn against(sheet: &[u8]) -> Against {
+    let kind = |index: usize| kind_of(sheet, index);
+    let any_source = |index: usize| field_of(sheet, index, operation::PEER) == usize::from(ANY);
+    let from_any =
+        |asks: u8| operations(sheet).any(|index| kind(index) == asks && any_source(index));
+    let uncovered = |rank| {
         let board = Buffered::of(sheet, rank);
-        board.charges <= board.attached
+        board.charges > board.attached
     };
-    calm && (0..boards(sheet)).all(covered)
+    Against {
+        transfers: from_any(kind::RECEIVE)
+            || probes::has(sheet, kind::READY)
+            || (0..boards(sheet)).any(uncovered),
+        probes: from_any(kind::PROBE),
+        queries: probes::has(sheet, kind::QUERY),
+    }
+}
+
+impl Against {
+    pub fn nothing(&self) -> bool {
+        !self.transfers && !self.probes && !self.queries
+    }
+
+    /// 0 if only any-source probes are against it, 1 if only queries are.
+    pub fn probes_or_queries(&self) -> Option<usize> {
+        match (self.transfers, self.probes, self.queries) {
+            (false, true, false) => Some(0),
+            (false, false, true) => Some(1),
+            _ => None,
+        }
+    }
 }
 
 const WHOLE_ORDERS: usize = 2;
@@ -34,21 +63,44 @@ const EXCHANGES: usize = 2;
 
 impl Trial<'_> {
     pub fn orders_end_alike(&mut self) -> Result<(), String> {
-        let needs = judge::needs(self.sheet).ok_or("the sheet was accepted")?;
-        let before = self.filler.exact(&needs, &mut self.random);
-        let ran = self.ask(&Call::Run, &before)?.desk;
+        let [before, ran] = self.before_and_run()?;
         for _ in 0..WHOLE_ORDERS {
-            let call = Call::Follow(orders::whole(self.sheet, &mut self.random));
-            let ended = self.ask(&call, &before)?.desk;
-            if ended.without_peaks() != ran.without_peaks() {
+            let (call, alike) = self.ends_alike(&before, &ran)?;
+            if !alike {
                 return Err(format!("{call}: does not end alike with run"));
             }
             self.counts.whole_orders += 1;
+            self.counts.probed_orders += u64::from(probed(self.sheet, &ran.report));
         }
         for _ in 0..EXCHANGES {
             self.exchange(&before)?;
         }
         Ok(())
+    }
+
+    /// Counts the orders that do not end alike with run.
+    pub fn orders_may_differ(&mut self, which: usize) -> Result<(), String> {
+        let [before, ran] = self.before_and_run()?;
+        for _ in 0..WHOLE_ORDERS {
+            let (_, alike) = self.ends_alike(&before, &ran)?;
+            self.counts.differing[which] += u64::from(!alike);
+        }
+        Ok(())
+    }
+
+    /// Rooms, and what run leaves in them.
+    fn before_and_run(&mut self) -> Result<[Desk; 2], String> {
+        let needs = judge::needs(self.sheet).ok_or("the sheet was accepted")?;
+        let before = self.filler.exact(&needs, &mut self.random);
+        let ran = self.ask(&Call::Run, &before)?.desk;
+        Ok([before, ran])
+    }
+
+    /// A whole order, and whether it ends alike with run in such rooms.
+    fn ends_alike(&mut self, before: &Desk, ran: &Desk) -> Result<(Call, bool), String> {
+        let call = Call::Follow(orders::whole(self.sheet, &mut self.random));
+        let ended = self.ask(&call, before)?.desk;
+        Ok((call, ended.without_peaks() == ran.without_peaks()))
     }
 
     fn exchange(&mut self, before: &Desk) -> Result<(), String> {
@@ -57,6 +109,7 @@ impl Trial<'_> {
         };
         let mut exchanged = order.clone();
         exchanged.swap(index, index + 1);
+        let probes = steps_a_probe(self.sheet, &order, index);
         let one = self.ask(&Call::Follow(order), before)?;
         let call = Call::Follow(exchanged);
         let other = self.ask(&call, before)?;
@@ -64,11 +117,27 @@ impl Trial<'_> {
             && (one.answer != Answer::SUCCESS
                 || one.desk.without_peaks() == other.desk.without_peaks());
         self.counts.exchanged[usize::from(one.answer != Answer::SUCCESS)] += 1;
+        self.counts.exchanged_probes += u64::from(probes);
         match alike {
             true => Ok(()),
             false => Err(format!("{call}: steps {index} and the next exchanged")),
         }
     }
+}
+
+/// Whether a report tells a finished probe.
+fn probed(sheet: &[u8], report: &[u8]) -> bool {
+    let probe = |index: &usize| kind_of(sheet, *index) == kind::PROBE;
+    let mut probes = operations(sheet).filter(probe);
+    probes.any(|index| state_of(sheet, report, index) == 5)
+}
+
+/// Whether one of the two steps from an index on is a probe's.
+fn steps_a_probe(sheet: &[u8], order: &[u8], index: usize) -> bool {
+    let after = judge::after(sheet, &order[..index]);
+    let at = |rank: &u8| after.at[usize::from(*rank)];
+    let mut steps = order[index..index + 2].iter().filter_map(at);
+    steps.any(|operation| kind_of(sheet, operation) == kind::PROBE)
 }
 
 /// An order and an index in it: the beginning before the index is accepted,
@@ -77,7 +146,7 @@ impl Trial<'_> {
 fn exchangeable(sheet: &[u8], random: &mut Random) -> Option<(Vec<u8>, usize)> {
     let whole = orders::whole(sheet, random);
     let index = random.between(0, whole.len());
-    let able = judge::able_after(sheet, &whole[..index]);
+    let able = judge::after(sheet, &whole[..index]).able;
     if able.len() < 2 {
         return None;
     }

@@ -4,12 +4,21 @@ use super::{KINDS, ORDERS};
 use crate::command::tally;
 use crate::compare::{Call, Outcome};
 use crate::layout::word;
-use crate::{areas, buffers, lengths, requests_left, searched};
+use crate::{areas, buffers, lengths, probes, requests_left, searched};
 use jamturret::lent::Answer;
 use std::fmt;
 
 /// Verdicts 0 to 4, then refusals 1 to 9.
 const COLUMNS: usize = 5 + 9;
+
+/// More counts than an array has a default for.
+struct Many<const N: usize>([u64; N]);
+
+impl<const N: usize> Default for Many<N> {
+    fn default() -> Many<N> {
+        Many([0; N])
+    }
+}
 
 #[derive(Default)]
 pub struct Counts {
@@ -26,6 +35,8 @@ pub struct Counts {
     lengths: [u64; lengths::CALLED.len()],
     /// Calls that make each case around requests that are left.
     requests: [u64; requests_left::CALLED.len()],
+    /// Calls that make each case around probes and queries.
+    probes: Many<{ probes::CALLED.len() }>,
     /// Calls that make each case around the search of a waiting list.
     searched: [u64; searched::CALLED.len()],
     steps: u64,
@@ -33,9 +44,19 @@ pub struct Counts {
     cut: u64,
     pending_messages: u64,
     pending_receives: u64,
+    /// Receives that asked for what the probe before them told.
+    pub pairs: u64,
     pub whole_orders: u64,
+    /// Those of them that have a probe's step.
+    pub probed_orders: u64,
     /// Exchanged steps of orders that were accepted, and that were not.
     pub exchanged: [u64; 2],
+    /// Exchanges of which one step is a probe's.
+    pub exchanged_probes: u64,
+    /// Orders that do not end alike with run, of sheets that only their
+    /// any-source probes leave out of the claim, and that only their queries
+    /// do.
+    pub differing: [u64; 2],
 }
 
 impl Counts {
@@ -43,6 +64,7 @@ impl Counts {
         tally(&mut self.lengths, lengths::called(sheet, call, outcome));
         let requests = requests_left::called(sheet, call, outcome);
         tally(&mut self.requests, requests);
+        tally(&mut self.probes.0, probes::called(sheet, call, outcome));
         let Answer { number, place } = outcome.answer;
         if number == 0 {
             let report = &outcome.desk.report;
@@ -84,15 +106,18 @@ impl Counts {
     }
 
     /// The smallest count of a verdict, a refusal, a place of 8, an order that
-    /// 9 refuses and a case around a buffer, a capacity, a request or a search:
-    /// 0 if something was not reached.
+    /// 9 refuses, a case around a buffer, a capacity, a request, a probe or a
+    /// query or a search, and of orders that the claim about them speaks of or
+    /// leaves out: 0 if something was not reached.
     pub fn least(&self) -> u64 {
         let columns = (0..COLUMNS).map(|column| self.column(column));
         let refused = self.orders.iter().map(|row| row[1] + row[2]);
-        let wrong = refused.skip(3).take(3);
+        let wrong = refused.skip(3).take(4);
         let others = self.short.into_iter().chain(self.exchanged);
         let others = others.chain(self.buffers).chain(self.areas);
-        let others = others.chain(self.requests).chain(self.searched);
+        let others = others.chain(self.requests).chain(self.probes.0);
+        let others = others.chain(self.searched).chain(self.differing);
+        let others = others.chain([self.probed_orders, self.exchanged_probes]);
         columns.chain(wrong).chain(others).min().unwrap_or(0)
     }
 
@@ -134,9 +159,10 @@ impl fmt::Display for Counts {
         let areas = areas::LEFT.iter().zip(self.areas);
         let lengths = lengths::CALLED.iter().zip(self.lengths);
         let requests = requests_left::CALLED.iter().zip(self.requests);
+        let probes = probes::CALLED.iter().zip(self.probes.0);
         let searched = searched::CALLED.iter().zip(self.searched);
         let cases = buffers.chain(areas).chain(lengths).chain(requests);
-        for (name, count) in cases.chain(searched) {
+        for (name, count) in cases.chain(probes).chain(searched) {
             writeln!(out, "{name:<40}{count:>8}")?;
         }
         writeln!(
@@ -149,10 +175,21 @@ impl fmt::Display for Counts {
             "No-request-left holds of {} reports of finished jobs",
             self.column(1)
         )?;
+        writeln!(out, "Probe-then-receive holds of {} pairs", self.pairs)?;
         writeln!(
             out,
             "{} whole orders end alike with run; {} exchanges of two steps in accepted orders, {} in refused ones",
             self.whole_orders, self.exchanged[0], self.exchanged[1]
+        )?;
+        writeln!(
+            out,
+            "of these {} orders and {} exchanges have a probe's step",
+            self.probed_orders, self.exchanged_probes
+        )?;
+        writeln!(
+            out,
+            "orders that end otherwise than run: {} by probes from any source, {} by queries",
+            self.differing[0], self.differing[1]
         )
     }
 }

@@ -9,7 +9,7 @@ use crate::traffic;
 type Generator = fn(&mut Random) -> Vec<u8>;
 
 /// Name, how many of a hundred cases, generator.
-pub const KINDS: [(&str, usize, Generator); 10] = [
+pub const KINDS: [(&str, usize, Generator); 11] = [
     ("calm, small", 22, |random| {
         jobs::small(random, true).bytes()
     }),
@@ -17,7 +17,10 @@ pub const KINDS: [(&str, usize, Generator); 10] = [
         jobs::medium(random, true).bytes()
     }),
     ("calm, large", 1, |random| jobs::large(random, true).bytes()),
-    ("wild, small", 31, |random| {
+    ("calm but for probes or queries", 5, |random| {
+        jobs::nearly_calm(random).bytes()
+    }),
+    ("wild, small", 28, |random| {
         jobs::small(random, false).bytes()
     }),
     ("wild, medium", 6, |random| {
@@ -28,7 +31,7 @@ pub const KINDS: [(&str, usize, Generator); 10] = [
     }),
     ("forgotten requests", 2, forgotten::job),
     ("traffic", 1, any_traffic),
-    ("bench job", 7, bench_job),
+    ("bench job", 5, bench_job),
     // Right ones of every size, damaged ones and garbage.
     ("as for check", 25, as_for_check),
 ];

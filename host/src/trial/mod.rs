@@ -17,7 +17,7 @@ use crate::compare::{self, Call, Outcome};
 use crate::desk::Desk;
 use crate::judge::{self, Needs};
 use crate::random::Random;
-use crate::requests_left;
+use crate::{probes, requests_left};
 use jamturret::lent::Answer;
 
 pub use counts::Counts;
@@ -63,8 +63,15 @@ impl Trial<'_> {
         let Some(needs) = judge::needs(self.sheet) else {
             return self.refused_sheet();
         };
-        if alike::applies(self.sheet) && self.random.chance(40) {
+        let against = alike::against(self.sheet);
+        if against.nothing() && self.random.chance(40) {
             return self.orders_end_alike();
+        }
+        if let Some(which) = against
+            .probes_or_queries()
+            .filter(|_| self.random.chance(60))
+        {
+            return self.orders_may_differ(which);
         }
         match self.random.chance(30) {
             true => self.run(&needs),
@@ -98,15 +105,25 @@ impl Trial<'_> {
     }
 
     /// Puts a call to all three, asks the outcome for No-request-left and
-    /// counts it.
+    /// Probe-then-receive, and counts it.
     fn ask(&mut self, call: &Call, before: &Desk) -> Result<Outcome, String> {
         let outcome = compare::all(self.sheet, call, before, &mut self.random)
             .map_err(|text| format!("{call}: {text}"))?;
         if outcome.answer == Answer::SUCCESS {
-            requests_left::no_request_left(self.sheet, &outcome.desk.report)
+            self.promises(call, &outcome)
                 .map_err(|text| format!("{call}: {text}"))?;
         }
         self.counts.call(self.kind, self.sheet, call, &outcome);
         Ok(outcome)
+    }
+
+    /// What is promised of every report.
+    fn promises(&mut self, call: &Call, outcome: &Outcome) -> Result<(), String> {
+        let report = &outcome.desk.report;
+        requests_left::no_request_left(self.sheet, report)?;
+        let order = call.order(outcome);
+        let pairs = probes::probe_then_receive(self.sheet, order, report)?;
+        self.counts.pairs += pairs as u64;
+        Ok(())
     }
 }

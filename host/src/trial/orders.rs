@@ -1,18 +1,20 @@
 //! Orders for *follow*. All of them are for sheets that *check* accepts.
 
 use crate::judge;
-use crate::layout::{header, word};
+use crate::layout::kind;
 use crate::random::Random;
+use crate::sheet::{boards, kind_of};
 
 type Maker = fn(&[u8], &mut Random) -> Vec<u8>;
 
-pub const ORDERS: [(&str, Maker); 8] = [
+pub const ORDERS: [(&str, Maker); 9] = [
     ("whole, any able ranks", whole),
     ("whole, as run chooses", as_run),
     ("a beginning", beginning),
     ("rank above P-1 at an index", above),
     ("rank not able at an index", not_able),
     ("goes on after the end", beyond),
+    ("goes on at a probe or a query", beyond_at_probe),
     ("any ranks", any_ranks),
     ("any bytes", |_, random| any_bytes(random)),
 ];
@@ -51,10 +53,6 @@ fn beginning(sheet: &[u8], random: &mut Random) -> Vec<u8> {
     order
 }
 
-fn boards(sheet: &[u8]) -> usize {
-    usize::from(word(sheet, header::BOARDS))
-}
-
 /// A right order with a rank of no board at a chosen index, also at the end.
 fn above(sheet: &[u8], random: &mut Random) -> Vec<u8> {
     let mut order = whole(sheet, random);
@@ -69,7 +67,7 @@ fn above(sheet: &[u8], random: &mut Random) -> Vec<u8> {
 /// one there; what stands after it is nothing, any ranks or any bytes.
 fn not_able(sheet: &[u8], random: &mut Random) -> Vec<u8> {
     let mut order = beginning(sheet, random);
-    let able = judge::able_after(sheet, &order);
+    let able = judge::after(sheet, &order).able;
     let others: Vec<u8> = (0..boards(sheet) as u8)
         .filter(|rank| !able.contains(rank))
         .collect();
@@ -81,6 +79,21 @@ fn not_able(sheet: &[u8], random: &mut Random) -> Vec<u8> {
         1 => order.extend(any_ranks(sheet, random)),
         _ => order.extend(any_bytes(random)),
     }
+    order
+}
+
+/// At the end a rank steps that has come to a probe or a query (document 02,
+/// K9), if there is one: nothing fits it, or the job has stopped.
+fn beyond_at_probe(sheet: &[u8], random: &mut Random) -> Vec<u8> {
+    let mut order = whole(sheet, random);
+    let came_to = judge::after(sheet, &order).at;
+    let asks = |&at: &usize| [kind::PROBE, kind::QUERY].contains(&kind_of(sheet, at));
+    let ranks = (0..boards(sheet)).filter(|&rank| came_to[rank].as_ref().is_some_and(asks));
+    let ranks: Vec<usize> = ranks.collect();
+    if ranks.is_empty() {
+        return beyond(sheet, random);
+    }
+    order.push(random.pick(&ranks) as u8);
     order
 }
 

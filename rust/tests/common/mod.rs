@@ -1,5 +1,5 @@
 //! What the tests share: a seeded generator of numbers, random parts of
-//! sheets, and the sample sheets of the repository.
+//! sheets, the sample sheets of the repository, and a sheet's CRC.
 
 // Each test program uses a part of it.
 #![allow(dead_code)]
@@ -8,6 +8,7 @@ pub mod parts;
 #[path = "../../../host/src/random.rs"]
 pub mod random;
 
+use jamturret::lent;
 use std::fs;
 use std::path::Path;
 
@@ -17,4 +18,12 @@ pub fn sample(name: &str) -> Vec<u8> {
     let folder = Path::new(env!("CARGO_MANIFEST_DIR")).join("../sheets");
     let file = folder.join(name).with_extension("sheet");
     fs::read(&file).unwrap_or_else(|error| panic!("{}: {error}", file.display()))
+}
+
+/// Writes the right CRC, if there is room for one.
+pub fn mend_crc(bytes: &mut [u8]) {
+    let crc = lent::crc(bytes);
+    if let Some(place) = bytes.get_mut(14..16) {
+        place.copy_from_slice(&crc.to_le_bytes());
+    }
 }

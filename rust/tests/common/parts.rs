@@ -4,7 +4,8 @@
 use super::random::Random;
 use jamturret::limits::{MOST_SLOT, MOST_TAG};
 use jamturret::{
-    Board, BuildError, Mode, Operation, ReceiveOperation, SendOperation, Sheet, Source, Tag,
+    Board, BuildError, Mode, Operation, ProbeOperation, ReceiveOperation, SendOperation, Sheet,
+    Source, Tag,
 };
 
 const MODES: [Mode; 4] = [
@@ -60,9 +61,11 @@ fn sheet(random: &mut Random, forgets: usize) -> Result<Sheet, BuildError> {
 fn script(random: &mut Random, sizes: &Sizes, forgets: usize) -> Vec<Operation> {
     let mut held = Held::new();
     let length = random.below(6);
-    let operations = (0..length).filter_map(|_| match random.below(5) {
-        0 | 1 => Some(send(random, sizes, &mut held)),
-        2 | 3 => receive(random, sizes, &mut held),
+    let operations = (0..length).filter_map(|_| match random.below(12) {
+        0..=3 => Some(send(random, sizes, &mut held)),
+        4..=7 => receive(random, sizes, &mut held),
+        8 => Some(probe(random, sizes)),
+        9 => query(random, &held),
         _ => wait(random, &mut held),
     });
     let mut operations: Vec<Operation> = operations.collect();
@@ -117,19 +120,42 @@ fn receive(random: &mut Random, sizes: &Sizes, held: &mut Held) -> Option<Operat
     let slot = slot(random, held);
     held.extend(slot.map(|slot| (slot, Some(area))));
     Some(Operation::Receive(ReceiveOperation {
-        from: match random.chance(20) {
-            true => Source::Any,
-            false => Source::Rank(random.below(sizes.boards)),
-        },
+        from: source(random, sizes),
         communicator: random.below(sizes.communicators),
-        tag: match random.chance(30) {
-            true => Tag::Any,
-            false => Tag::Is(tag(random)),
-        },
+        tag: asked_tag(random),
         offset,
         capacity,
         slot,
     }))
+}
+
+fn source(random: &mut Random, sizes: &Sizes) -> Source {
+    match random.chance(20) {
+        true => Source::Any,
+        false => Source::Rank(random.below(sizes.boards)),
+    }
+}
+
+fn asked_tag(random: &mut Random) -> Tag {
+    match random.chance(30) {
+        true => Tag::Any,
+        false => Tag::Is(tag(random)),
+    }
+}
+
+fn probe(random: &mut Random, sizes: &Sizes) -> Operation {
+    Operation::Probe(ProbeOperation {
+        from: source(random, sizes),
+        communicator: random.below(sizes.communicators),
+        tag: asked_tag(random),
+    })
+}
+
+/// None where no slot is held.
+fn query(random: &mut Random, held: &Held) -> Option<Operation> {
+    let at = (!held.is_empty()).then(|| random.below(held.len()))?;
+    let (slot, _) = held[at];
+    Some(Operation::StatusQuery { slot })
 }
 
 /// None where no slot is held.

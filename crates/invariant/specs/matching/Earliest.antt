@@ -1,5 +1,6 @@
 -- A new match took the earliest on both sides: the search found the earliest on one side, and stability of what was before
 -- gives the other.
+--   found-first          where the search of an operation found a message: those before it that fit had been taken
 --   first-for-receive    where a receive enters
 --   first-for-message    where a message enters
 -- Assumes nothing.
@@ -14,7 +15,7 @@ use Rattle.rules.specs.Job.{Job}
 use Rattle.rules.specs.Step.{next-op, fits-with}
 use Rattle.invariant.specs.sheet.Kinds.{fit-one-board, send-receive-differ}
 use Rattle.laws.specs.WaitingLists.{Holds, Found}
-use Rattle.invariant.specs.Invariant.{Entered, state-at, partner-at, reach, Pending-message, Pending-receive, Matched-pair, Stable, Placed}
+use Rattle.invariant.specs.Invariant.{Entered, state-at, partner-at, reach, Pending-message, Pending-receive, Matched-pair, First-sent, Stable, Placed}
 use Rattle.invariant.specs.Invariant.{Posted-before, Arrived-before}
 use Rattle.invariant.specs.matching.RowChanges.{Grows, Matches, state-same, partner-same, state-name, matches-grows}
 use Rattle.invariant.specs.matching.Stable.{Later, First}
@@ -25,19 +26,44 @@ reach-least : (s : Sheet) (x : Job) (r : ℕ) → next-op s x r ≤ reach s x r
 unfolding reach
 reach-least s x r = omega arith
 
+-- what is not matched is pending
+pending-message : (s : Sheet) (x : Job) (k : ℕ) → is-send (op s k) ≡ true → Entered x k → state-at x k ≢ 3 → Pending-message s x k
+pending-message s x k a b c =
+    record {
+      sends = a;
+      entered = b;
+      unmatched = c;
+    }
+
+-- OPERATION i IS NOT ENTERED, and m is the earliest message that fits it
+module _ {s : Sheet} {x : Job} {arrival : ℕ → ℕ} (X : Stable s arrival x) (p : Placed s x) (i : ℕ) (fresh : state-at x i ≡ 0) where
+  -- an operation of i's board that is entered comes before i
+  pub entered-earlier : (o : ℕ) → Entered x o → rank-of s o ≡ rank-of s i → o < i
+  entered-earlier o a e = go (decLt o i) (decLt i o)
+    where
+      go : Dec (o < i) → Dec (i < o) → o < i
+      go (yes l) _ = l
+      go (no l) (yes k) = absurd (omega (arith, fresh, prefix s x p i o a k (sym e)))
+      go (no l) (no k) = absurd (let c : o ≡ i = omega arith in omega (arith, fresh, state-name x c))
+
+  -- messages that came before m and fit i had been taken, by receives before i
+  pub found-first : (m : ℕ) → Holds (Arrived-before arrival) (Pending-message s x) (x .messages) →
+      Found (Arrived-before arrival) (λ k. fits-with s k i) (x .messages) m → First-sent s arrival x m i
+  found-first m H F k a there l f = go (ℕ-discrete (state-at x k) 3)
+    where
+      go : Dec (state-at x k ≡ 3) → (state-at x k ≡ 3) × (partner-at x k < i)
+      go (yes e) =
+          let met = X .message-pair k a e in
+          (e, entered-earlier (partner-at x k) (omega (arith, met .receive-matched)) (fit-one-board s k (partner-at x k) i (met .fit) f))
+      go (no d) =
+          absurd
+          (let late = F .earliest k (H .whole k (pending-message s x k a there d)) f (λ e. omega (arith, l, ap arrival e)) in
+          omega (arith, late, l))
+
 module _ {s : Sheet} {x y : Job} {m q i : ℕ} {arrival now : ℕ → ℕ} (X : Stable s arrival x) (p : Placed s x) (L : Later arrival now x i)
     (M : Matches s x y m q i) where
   abbrev G : Grows x y i
   G = matches-grows M
-
-  -- what is not matched in x is pending there
-  pending-message : (k : ℕ) → is-send (op s k) ≡ true → Entered x k → state-at x k ≢ 3 → Pending-message s x k
-  pending-message k a b c =
-      record {
-        sends = a;
-        entered = b;
-        unmatched = c;
-      }
 
   pending-receive : (k : ℕ) → is-receive (op s k) ≡ true → Entered x k → state-at x k ≢ 3 → Pending-receive s x k
   pending-receive k a b c =
@@ -63,37 +89,21 @@ module _ {s : Sheet} {x y : Job} {m q i : ℕ} {arrival now : ℕ → ℕ} (X : 
       Found (Arrived-before arrival) (λ k. fits-with s k i) (x .messages) m → First s now y m q
   first-for-receive new r n mine H F =
       record {
-        sent = λ k a there l f. matched-on k (sent k a there l f (ℕ-discrete (state-at x k) 3));
+        sent = λ k a there l f. matched-on k (sent k a there l f);
         posted = λ o a l f. posted o a l f (ℕ-discrete (state-at x o) 3);
       }
     where
       m-old : m ≢ i
       m-old e = send-receive-differ s m q (M .sends) (M .receives) (e ∙ sym new)
 
-      fits-new : (k : ℕ) → fits-with s k q ≡ true → fits-with s k i ≡ true
-      fits-new k f = ap (λ (z : ℕ). fits-with s k z) (sym new) ∙ f
-
-      -- a receive of q's board that is entered comes before q
-      earlier : (o : ℕ) → Entered x o → rank-of s o ≡ rank-of s q → Dec (o < q) → Dec (q < o) → o < q
-      earlier o a e (yes l) _ = l
-      earlier o a e (no l) (yes k) = absurd (omega (arith, M .fresh, state-name x new, prefix s x p q o a k (sym e)))
-      earlier o a e (no l) (no k) = absurd (let c : o ≡ q =
-          omega arith in omega (arith, M .fresh, state-name x new, state-name x c))
-
-      sent : (k : ℕ) → is-send (op s k) ≡ true → Entered y k → now k < now m → fits-with s k q ≡ true → Dec (state-at x k ≡ 3) →
+      -- what came before m in y came before it in x
+      sent : (k : ℕ) → is-send (op s k) ≡ true → Entered y k → now k < now m → fits-with s k q ≡ true →
           (state-at x k ≡ 3) × (partner-at x k < q)
-      sent k a there l f (yes e) =
-          let met = X .message-pair k a e in (
-            e,
-            earlier (partner-at x k) (omega (arith, met .receive-matched)) (fit-one-board s k (partner-at x k) q (met .fit) f)
-                (decLt (partner-at x k) q) (decLt q (partner-at x k)),
-          )
-      sent k a there l f (no d) =
+      sent k a there l f =
           let b = before k there l m-old in
-          absurd
-          (let late = F .earliest k (H .whole k (pending-message k a (G .back k (b .0) there) d)) (fits-new k f)
-          (λ e. omega (arith, b .1, ap arrival e)) in
-          omega (arith, late, b .1))
+          let taken = found-first X p i (M .fresh) m H F k a (G .back k (b .0) there) (b .1)
+          (ap (λ (z : ℕ). fits-with s k z) (sym new) ∙ f) in
+          (taken .0, omega (arith, taken .1))
 
       posted : (o : ℕ) → is-receive (op s o) ≡ true → o < q → fits-with s m o ≡ true → Dec (state-at x o ≡ 3) → state-at y o ≡ 3
       posted o a l f (yes e) = state-same (G .kept o e) ∙ e
@@ -102,7 +112,7 @@ module _ {s : Sheet} {x y : Job} {m q i : ℕ} {arrival now : ℕ → ℕ} (X : 
           ∙ n .ranked in
           let there : Entered x o = p .entered-if o (omega (arith, n .inside))
           (omega (arith, ap (λ (z : ℕ). reach s x z) mine-too, reached)) in
-          absurd (X .none-fit m o (pending-message m (M .sends) (M .message-there m-old) (M .message-free))
+          absurd (X .none-fit m o (pending-message s x m (M .sends) (M .message-there m-old) (M .message-free))
           (pending-receive o a there d) f)
         where
           reached : next-op s x r ≤ reach s x r
@@ -127,7 +137,7 @@ module _ {s : Sheet} {x y : Job} {m q i : ℕ} {arrival now : ℕ → ℕ} (X : 
           (state-at x k ≡ 3) × (partner-at x k < q)
       sent k a there l f (no d) =
           let k-old : k ≢ i = λ e. omega (arith, ap now (e ∙ sym new)) in
-          absurd (X .none-fit k q (pending-message k a (G .back k k-old there) d) q-pending f)
+          absurd (X .none-fit k q (pending-message s x k a (G .back k k-old there) d) q-pending f)
       sent k a there l f (yes e) = (e, least (decLt (partner-at x k) q) (decLt q (partner-at x k)))
         where
           met : Matched-pair s x k (partner-at x k)

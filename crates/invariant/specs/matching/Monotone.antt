@@ -1,6 +1,6 @@
 -- A stable matching only grows. Let y have entered whatever x has, and let messages that one receive could take have come in
 -- the same order: then what is matched in x is matched alike in y. This is why a job is determined by where its boards stand.
---   Same-order           messages that one receive could take came in the same order
+--   Same-order           messages that one receive could take, or one probe tell, came in the same order
 --   Within               y has entered whatever x has, and the order is the same
 --   Prefix               on one board everything before an entered operation is entered
 --   pair-receive-same, pair-message-same    pairs are one to one
@@ -12,16 +12,16 @@ use mathlib.Core.Bool.{true}
 use Prim.Native.Nat.{ℕ, zero, suc, _<_}
 use native.Mathlib.Omega.{arith}
 use native.Mathlib.Decide.{ℕ-discrete, decLt}
-use Rattle.rules.specs.Sheet.{Sheet, op, rank-of, is-send, is-receive}
+use Rattle.rules.specs.Sheet.{Sheet, op, rank-of, is-send, selects}
 use Rattle.rules.specs.Job.{Job}
 use Rattle.rules.specs.Step.{fits-with}
-use Rattle.invariant.specs.sheet.Kinds.{fit-one-board}
+use Rattle.invariant.specs.sheet.Kinds.{fit-one-board, receive-selects}
 use Rattle.invariant.specs.Invariant.{Entered, state-at, partner-at, Matched-pair, Stable, Arrived}
 
--- of messages that one receive could take, what came before one of x's messages in y came before it in x
+-- of messages that one receive could take, or one probe tell, what came before one of x's messages in y came before it in x
 abbrev pub Same-order : Sheet → (ℕ → ℕ) → Job → (ℕ → ℕ) → Job → Type 0
 Same-order s cx x cy y =
-    (k m r : ℕ) → is-send (op s k) ≡ true → is-send (op s m) ≡ true → is-receive (op s r) ≡ true → fits-with s k r ≡ true →
+    (k m r : ℕ) → is-send (op s k) ≡ true → is-send (op s m) ≡ true → selects (op s r) ≡ true → fits-with s k r ≡ true →
     fits-with s m r ≡ true →
     Entered x m → Entered y k → cy k < cy m → Entered x k × (cx k < cx m)
 
@@ -72,7 +72,7 @@ module _ (s : Sheet) (cx : ℕ → ℕ) (x : Job) (cy : ℕ → ℕ) (y : Job) (
           let t = Y .first-sent k r m b (a .sends) (W .entered m m-there) l (a .fit) in
           stays-no-earlier m r (partner-at y m) below a (Y .message-pair m (a .sends) (t .0)) (t .1)
       go (no n) (yes l) =
-          let w = W .order k m r (b .sends) (a .sends) (a .receives) (b .fit) (a .fit) m-there k-there l in
+          let w = W .order k m r (b .sends) (a .sends) (receive-selects (op s r) (a .receives)) (b .fit) (a .fit) m-there k-there l in
           let t = X .first-sent m r k a (b .sends) (w .0) (w .1) (b .fit) in
           let e : partner-at x k ≡ r = pair-receive-same
           (below k (partner-at x k) (t .1) (X .message-pair k (b .sends) (t .0))) b in

@@ -2,7 +2,7 @@
 -- half, enters its operation i: unmatched (`Enters`), or matched with a pending one (`Matches`). Either way the rows grow
 -- (`Grows`), which is what most proofs ask.
 --   Grows              matched rows stay, i enters, nothing else does; grows-pair, grows-message, grows-receive
---   Enters             operation i enters unmatched; enters-state, enters-differ, enters-grows
+--   Enters             operation i enters unmatched; enters-differ, enters-grows
 --   Matches            message m and receive q are matched; one of them is i, which enters; matches-pair, matches-grows, matches-split
 --   state-same, partner-same, state-name, pair-same    rows that are equal, and one row under two names
 -- Assumes nothing.
@@ -14,7 +14,7 @@ use native.Mathlib.Omega.{arith}
 use native.Mathlib.Decide.{ℕ-discrete}
 use Rattle.rules.specs.Limits.{absent}
 use Rattle.rules.specs.Sheet.{Sheet, op, rank-of, is-send, is-receive}
-use Rattle.rules.specs.Job.{Job, Entry, entry, bare-entry, entry-at}
+use Rattle.rules.specs.Job.{Job, Entry, entry, entry-at}
 use Rattle.rules.specs.Step.{fits-with, is-cut}
 use Rattle.invariant.specs.sheet.Kinds.{send-receive-differ}
 use Rattle.invariant.specs.Invariant.{Entered, state-at, partner-at, Pending-message, Pending-receive, Matched-pair}
@@ -34,7 +34,7 @@ pub record Grows (x y : Job) (i : ℕ) : Type 0 where
 -- operation i enters unmatched, in state v
 pub record Enters (x y : Job) (i v : ℕ) : Type 0 where
   pub fresh : state-at x i ≡ 0
-  pub row : entry-at y i ≡ bare-entry v
+  pub state : state-at y i ≡ v
   pub other : (j : ℕ) → j ≢ i → entry-at y j ≡ entry-at x j
   pub some-state : 1 ≤ v
   pub no-match : v ≢ 3
@@ -102,13 +102,9 @@ module _ {s : Sheet} {x y : Job} {i : ℕ} (G : Grows x y i) where
 
 -- ENTERS
 module _ {x y : Job} {i v : ℕ} (E : Enters x y i v) where
-  pub enters-state : state-at y i ≡ v
-  unfolding bare-entry entry
-  enters-state = state-same (E .row)
-
   -- a row that says matched, or entered before, is not i's
   pub enters-differ-now : (j : ℕ) → state-at y j ≡ 3 → j ≢ i
-  enters-differ-now j h e = E .no-match (sym enters-state ∙ state-name y (sym e) ∙ h)
+  enters-differ-now j h e = E .no-match (sym (E .state) ∙ state-name y (sym e) ∙ h)
 
   pub enters-differ : (j : ℕ) → Entered x j → j ≢ i
   enters-differ j h e = omega (arith, E .fresh, state-name x e)
@@ -117,7 +113,7 @@ module _ {x y : Job} {i v : ℕ} (E : Enters x y i v) where
   enters-grows =
       record {
         fresh = E .fresh;
-        enters = omega (arith, enters-state, E .some-state);
+        enters = omega (arith, E .some-state);
         on = λ j h. omega (arith, state-same (E .other j (enters-differ j h)));
         kept = λ j h. E .other j (enters-differ j (omega arith));
         complete-on = λ j h. omega (arith, state-same (E .other j (enters-differ j (omega arith))));

@@ -1,7 +1,7 @@
 -- A step keeps the matching stable. What was first stays first, since the operation that enters came last; so all there is
 -- to show is that no fitting pair is left pending, and that a new pair took the earliest on both sides (`First`).
 --   Later           the new operation came after all that were entered
---   First           a pair took the earliest on both sides
+--   First           a pair took the earliest on both sides; grow-sent: the half of it that speaks of messages, after a step
 --   grow-stable     the law; enter-stable and match-stable are its two cases
 -- Assumes nothing.
 use mathlib.Core.Path.{_≡_, sym, ap, subst, _∙_}
@@ -14,7 +14,7 @@ use Rattle.rules.specs.Sheet.{Sheet, op, is-send, is-receive}
 use Rattle.rules.specs.Job.{Job}
 use Rattle.rules.specs.Step.{fits-with}
 use Rattle.invariant.specs.sheet.Kinds.{send-receive-differ}
-use Rattle.invariant.specs.Invariant.{Entered, state-at, partner-at, Pending-message, Pending-receive, Matched-pair, Stable}
+use Rattle.invariant.specs.Invariant.{Entered, state-at, partner-at, Pending-message, Pending-receive, Matched-pair, First-sent, Stable}
 use Rattle.invariant.specs.matching.RowChanges.{Grows, Enters, Matches, state-same, partner-same, state-name, grows-pair, grows-message}
 use Rattle.invariant.specs.matching.RowChanges.{grows-receive, enters-grows, enters-differ-now, matches-grows, matches-split}
 use Rattle.invariant.specs.matching.RowChanges.{matches-message-state, matches-receive-state, matches-pair, pair-same}
@@ -26,33 +26,30 @@ pub record Later (arrival now : ℕ → ℕ) (x : Job) (i : ℕ) : Type 0 where
 
 -- the pair of message and receive took the earliest on both sides
 pub record First (s : Sheet) (arrival : ℕ → ℕ) (y : Job) (m r : ℕ) : Type 0 where
-  pub sent : (k : ℕ) → is-send (op s k) ≡ true → Entered y k → arrival k < arrival m → fits-with s k r ≡ true → (state-at y k ≡ 3)
-      × (partner-at y k < r)
+  pub sent : First-sent s arrival y m r
   pub posted : (q : ℕ) → is-receive (op s q) ≡ true → q < r → fits-with s m q ≡ true → state-at y q ≡ 3
+
+-- what came before an entered message and fits was taken, in y as in x
+pub grow-sent : (s : Sheet) {x y : Job} {i : ℕ} {arrival now : ℕ → ℕ} → Later arrival now x i → Grows x y i → (m r : ℕ) → Entered x m →
+    First-sent s arrival x m r → First-sent s now y m r
+grow-sent s {x} {y} {i} {arrival} {now} L G m r m-there was k p there l f =
+    let k-old : k ≢ i = λ e. omega (arith, L .new m m-there, ap now e) in
+    let m-old : m ≢ i = λ e. omega (arith, G .fresh, state-name x e) in
+    let old = was k p (G .back k k-old there) (omega (arith, L .old k k-old, L .old m m-old)) f in
+    let same = G .kept k (old .0) in
+    (state-same same ∙ old .0, omega (arith, old .1, partner-same same))
 
 module _ {s : Sheet} {x y : Job} {i : ℕ} {arrival now : ℕ → ℕ} (X : Stable s arrival x) (L : Later arrival now x i) (G : Grows x y i) where
   -- a pair of x is first in y as it was in x
   grow-first : (m r : ℕ) → Matched-pair s x m r → First s now y m r
   grow-first m r h =
       record {
-        sent = λ k p there l f. sent k p there l f;
+        sent = grow-sent s L G m r (omega (arith, h .message-matched)) (λ k. X .first-sent m r k h);
         posted =
             λ q p l f.
             let old = X .first-posted m r q h p l f in
             state-same (G .kept q old) ∙ old;
       }
-    where
-      m-there : Entered x m
-      m-there = omega (arith, h .message-matched)
-
-      sent : (k : ℕ) → is-send (op s k) ≡ true → Entered y k → now k < now m → fits-with s k r ≡ true → (state-at y k ≡ 3)
-          × (partner-at y k < r)
-      sent k p there l f =
-          let k-old : k ≢ i = λ e. omega (arith, L .new m m-there, ap now e) in
-          let m-old : m ≢ i = λ e. omega (arith, G .fresh, state-name x e) in
-          let old = X .first-sent m r k h p (G .back k k-old there) (omega (arith, L .old k k-old, L .old m m-old)) f in
-          let same = G .kept k (old .0) in
-          (state-same same ∙ old .0, omega (arith, old .1, partner-same same))
 
   grow-stable : ((m : ℕ) → is-send (op s m) ≡ true → state-at y m ≡ 3 → Matched-pair s y m (partner-at y m)) →
       ((r : ℕ) → is-receive (op s r) ≡ true → state-at y r ≡ 3 → Matched-pair s y (partner-at y r) r) →

@@ -18,7 +18,7 @@ use Rattle.laws.specs.Tests.{true-not-false}
 use Rattle.laws.specs.Sums.{sum-below, sum-same, sum-change}
 use Rattle.invariant.specs.Invariant.{state-at, unmatched-state, charge-in, Shaped}
 use Rattle.invariant.specs.matching.UnmatchedState.{unmatched-send, unmatched-receive}
-use Rattle.invariant.specs.matching.RowChanges.{Enters, Matches, state-same, state-name, enters-state, matches-message-state, matches-receive-state}
+use Rattle.invariant.specs.matching.RowChanges.{Enters, Matches, state-same, state-name, matches-message-state, matches-receive-state}
 use Rattle.invariant.specs.step.BufferUse.{use-charged, use-released}
 
 pub charge-none : (s : Sheet) (x : Job) (r j : ℕ) → state-at x j ≢ 2 → charge-in s x r j ≡ 0
@@ -43,7 +43,7 @@ charging-other s {x} {y} {i} {v} E d r = sum-same (N-of s) (charge-in s x r) (ch
     at : (j : ℕ) → Dec (j ≡ i) → charge-in s x r j ≡ charge-in s y r j
     at j (yes e) =
         charge-none s x r j (λ c. omega (arith, E .fresh, state-name x e))
-        ∙ sym (charge-none s y r j (λ c. d (sym (enters-state E) ∙ state-name y (sym e) ∙ c)))
+        ∙ sym (charge-none s y r j (λ c. d (sym (E .state) ∙ state-name y (sym e) ∙ c)))
     at j (no c) = charge-same s x y r j (state-same (E .other j c))
 
 -- the charge of an operation by its two tests
@@ -73,7 +73,7 @@ charging-enters s {x} {y} {i} r q n E l mine e answers =
     (charge-none s x q i (λ c. omega (arith, E .fresh)))
   where
     state : (b : Bool) → is-buffered (op s i) ≡ b → state-at y i ≡ cond b 2 1
-    state b c = enters-state E ∙ unmatched-send s i e ∙ ap (λ (z : Bool). cond z 2 1) c
+    state b c = E .state ∙ unmatched-send s i e ∙ ap (λ (z : Bool). cond z 2 1) c
 
     rank-test : (b : Bool) → eqb q r ≡ b → eqb (rank-of s i) q ≡ b
     rank-test true c = eq-eqb (rank-of s i) q (mine ∙ sym (eqb-true q r c))

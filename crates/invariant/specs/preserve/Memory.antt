@@ -23,9 +23,9 @@ use Rattle.rules.specs.Step.{next-op, delivered, half-complete, complete, compl
 use Rattle.laws.specs.Tests.{true-not-false}
 use Rattle.invariant.specs.sheet.Valid.{Valid}
 use Rattle.invariant.specs.deliveries.Laws.{Delivery-laws, Pair, Areas-apart}
-use Rattle.invariant.specs.sheet.Kinds.{is-true, send-not-receive, receive-not-frees, receive-no-half-takes, frees-not-no-half}
+use Rattle.invariant.specs.sheet.Kinds.{is-true, send-not-receive, receive-not-frees, receive-not-tells, receive-no-half-takes, frees-not-no-half, frees-not-tells}
 use Rattle.invariant.specs.Invariant.{Entered, state-at, partner-at, replay, replayed, reach, Placed, Shaped, Stable}
-use Rattle.invariant.specs.matching.RowChanges.{Enters, Matches, state-name, enters-state, matches-pair, matches-receive-state}
+use Rattle.invariant.specs.matching.RowChanges.{Enters, Matches, state-name, matches-pair, matches-receive-state}
 use Rattle.invariant.specs.preserve.Places.{prefix}
 use Rattle.invariant.specs.matching.UnmatchedState.{unmatched-receive}
 
@@ -94,7 +94,7 @@ replayed-enters s {x} {y} {i} {v} n bs E = replayed-same s x y n bs (λ j cs l. 
     at : (j : ℕ) (cs : List ℕ) → Dec (j ≡ i) → replay s y j cs ≡ replay s x j cs
     at j cs (no d) = replay-same s x y j cs (E .other j d)
     at j cs (yes e) =
-        replay-none s y j cs (λ a b. E .no-match (sym (enters-state E) ∙ state-name y (sym e) ∙ b))
+        replay-none s y j cs (λ a b. E .no-match (sym (E .state) ∙ state-name y (sym e) ∙ b))
         ∙ sym (replay-none s x j cs (λ a b. omega (arith, E .fresh, state-name x e)))
 
 -- A JOB whose matching is stable and whose boards are placed
@@ -168,7 +168,7 @@ module _ {s : Sheet} (g : Valid s) (A : Delivery-laws s) {arrival : ℕ → ℕ}
           (A .held-apart r q l (only .0) e receives-r receives-q
           (receive-no-half-takes (op s r) receives-r
           (is-true (no-half (op s r)) (λ b. unmatched-half r receives-r free there
-          (p .passed-complete r inside (passed r refl l) b))))
+          (p .passed-complete r inside (passed r refl l) b (receive-not-tells (op s r) receives-r)))))
           (λ w a b c f o. waits w a b c f o there (passed w c b) (only .0)))
         where
           waits : (w : ℕ) → r < w → w < q → rank-of s w ≡ rank-of s r → frees-slot (op s w) ≡ true → waited s w ≡ some r →
@@ -177,7 +177,7 @@ module _ {s : Sheet} (g : Valid s) (A : Delivery-laws s) {arrival : ℕ → ℕ}
           waits w a b c f o there passed k =
               let inside-w : w < N-of s = omega arith in
               unmatched-waited r receives-r free there w f o
-              (p .passed-complete w inside-w passed (frees-not-no-half s g w inside-w f))
+              (p .passed-complete w inside-w passed (frees-not-no-half s g w inside-w f) (frees-not-tells (op s w) f))
 
   -- A MATCH replays one delivery more
   module _ {y : Job} {m r i : ℕ} (M : Matches s x y m r i) (inside-m : m < N-of s) (inside-r : r < N-of s) where

@@ -15,7 +15,7 @@ use Rattle.laws.specs.Tests.{true-not-false}
 use Rattle.invariant.specs.Invariant.{Entered, steps-of, reach, Placed}
 use Rattle.invariant.specs.matching.RowChanges.{Grows, state-same}
 use Rattle.invariant.specs.step.Places.{Next, Moved}
-use Rattle.invariant.specs.preserve.Places.{Advances, Ongoing}
+use Rattle.invariant.specs.preserve.Places.{Advances, Ongoing, ends-complete}
 
 -- ADVANCES
 pub advances-grows : {x y : Job} {i : ℕ} → Grows x y i → Advances x y i
@@ -52,7 +52,7 @@ ongoing-initiating {s} {x} {y} {r} n m G w e =
       moved = m;
       advances = advances-grows G;
       goes-waiting = λ b. (b, e, w);
-      finishes = λ a b. true-not-false a b;
+      finishes = λ a b t. true-not-false a b;
       steps-left = λ a. ap (λ (b : Bool). cond b 1 0 + 1) w ∙ sym (steps-one s (next-op s x r) (inl a));
     }
 
@@ -66,7 +66,8 @@ ongoing-only-half {s} {x} {y} {r} n m G w e =
       moved = m;
       advances = advances-grows G;
       goes-waiting = λ b. true-not-false refl b;
-      finishes = λ a b. n .complete (ap (λ (c : Bool). c || only-half (op s (next-op s x r))) w ∙ e);
+      finishes =
+          λ a b t. ends-complete s x (next-op s x r) t (n .ends (ap (λ (c : Bool). c || only-half (op s (next-op s x r))) w ∙ e));
       steps-left = λ a. ap (λ (b : Bool). cond b 1 0 + 1) w ∙ sym (steps-one s (next-op s x r) (inr e));
     }
 
@@ -87,7 +88,8 @@ ongoing-half {s} {x} {y} {r} p n m same w =
             complete-on = λ j h. omega (arith, state-same (same j));
           };
       goes-waiting = λ b. true-not-false refl b;
-      finishes = λ a b. n .complete (ap (λ (c : Bool). c || only-half (op s (next-op s x r))) w);
+      finishes =
+          λ a b t. ends-complete s x (next-op s x r) t (n .ends (ap (λ (c : Bool). c || only-half (op s (next-op s x r))) w));
       steps-left =
           λ a.
           ap (λ (b : Bool). cond b 1 0 + 1) w

@@ -37,7 +37,7 @@ module _ {s : Sheet} (g : Valid s) (lent : List ℕ) where
   abbrev pub x₀ : Job
   x₀ = started s lent
 
-  start-entry : (j : ℕ) → entry-at x₀ j ≡ bare-entry 0
+  pub start-entry : (j : ℕ) → entry-at x₀ j ≡ bare-entry 0
   unfolding entry-at started job
   start-entry j = getD-replicate-same (N-of s) j (bare-entry 0)
 
@@ -119,11 +119,17 @@ module _ {s : Sheet} (g : Valid s) (lent : List ℕ) where
         shaped =
             record {
               row =
-                  λ j.
+                  λ j t.
                   start-entry j ∙ sym (row-bare s j 0 (partner-at x₀ j) (omega arith))
                   ∙ ap (λ (v : ℕ). row-of s j v (partner-at x₀ j)) (sym (start-state j));
+              row-new = λ j e. start-entry j;
               unmatched = λ j h. none-entered j h;
               only-half-unmatched = λ j w c. omega (arith, start-state j);
+            };
+        told =
+            record {
+              probes = λ p t h. none-entered p h;
+              queries = λ p t h. none-entered p h;
             };
         messages-held =
             record {

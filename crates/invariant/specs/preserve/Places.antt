@@ -1,24 +1,23 @@
 -- A step moves its board on by one, and keeps `Placed`.
 --   Advances            what becomes entered by a step of operation i
 --   Ongoing             a step that goes on: where its board goes, and why it may
---   half-complete-on    complete stays complete
+--   half-complete-on    complete stays complete; ends-complete: where a waiting half can end
 --   prefix              on one board everything before an entered operation is entered
 --   next-here, reach-here, next-other ..    the operations that are next and reached after the step
 --   placed-step         the places stay right
 -- Assumes nothing.
 use mathlib.Core.Path.{_≡_, refl, sym, ap, subst, _∙_}
 use mathlib.Core.Logic.{_≢_}
-use mathlib.Core.Bool.{Bool, true, false, not, cond}
+use mathlib.Core.Bool.{Bool, true, false, _||_, not, cond}
 use mathlib.Core.Option.{Option, none, some}
 use Prim.Native.Nat.{ℕ, suc, _+_, _≤_, _<_}
 use native.Mathlib.Omega.{arith}
 use native.Mathlib.Decide.{ℕ-discrete}
-use lib.Dec.{leb}
 use borrow.Author.Tests.{leb-true, le-leb}
-use Rattle.rules.specs.Sheet.{Sheet, op, board, P-of, N-of, rank-of, only-half, no-half, frees-slot}
+use Rattle.rules.specs.Sheet.{Sheet, op, board, P-of, N-of, rank-of, only-half, no-half, frees-slot, tells-message, tells-completion, tells}
 use Rattle.rules.specs.Job.{Job, place-at}
-use Rattle.rules.specs.Step.{next-op, half-complete, complete, complete-if, waited}
-use Rattle.laws.specs.Tests.{true-not-false}
+use Rattle.rules.specs.Step.{next-op, half-complete, half-ends, first-message, is-none, complete, complete-if, waited}
+use Rattle.laws.specs.Tests.{true-not-false, or-false-left, or-false-right}
 use Rattle.invariant.specs.sheet.Valid.{Valid}
 use Rattle.invariant.specs.Invariant.{Entered, state-at, Placed, reach, steps-of}
 use Rattle.invariant.specs.step.Places.{Next, Moved, moved-finished, moved-waiting, moved-finished-other, moved-waiting-other}
@@ -38,23 +37,39 @@ pub record Ongoing (s : Sheet) (x y : Job) (r : ℕ) (last : Bool) : Type 0 wher
   -- an operation that is not finished by this step has a waiting half; one that is had been in it, or has none
   pub goes-waiting : last ≡ false → (no-half (op s (next-op s x r)) ≡ false) × (only-half (op s (next-op s x r)) ≡ false)
       × (place-at x r .waiting ≡ false)
-  pub finishes : last ≡ true → no-half (op s (next-op s x r)) ≡ false → half-complete s x (next-op s x r) ≡ true
+  pub finishes : last ≡ true → no-half (op s (next-op s x r)) ≡ false → tells (op s (next-op s x r)) ≡ false →
+      half-complete s x (next-op s x r) ≡ true
   pub steps-left : last ≡ true → cond (place-at x r .waiting) 1 0 + 1 ≡ steps-of (op s (next-op s x r))
 
 -- complete stays complete
+pub complete-if-on : (x y : Job) → ((j : ℕ) → 2 ≤ state-at x j → 2 ≤ state-at y j) → (o : Option ℕ) →
+    complete-if x o ≡ true → complete-if y o ≡ true
+unfolding complete complete-if
+complete-if-on x y on none e = e
+complete-if-on x y on (some j) e = le-leb 2 (state-at y j) (on j (leb-true 2 (state-at x j) e))
+
 pub half-complete-on : (s : Sheet) (x y : Job) → ((j : ℕ) → 2 ≤ state-at x j → 2 ≤ state-at y j) → (i : ℕ) →
     half-complete s x i ≡ true → half-complete s y i ≡ true
-unfolding half-complete complete complete-if
-half-complete-on s x y on i = go (frees-slot (op s i)) (waited s i)
+unfolding half-complete complete-if
+half-complete-on s x y on i = go (frees-slot (op s i))
   where
-    one : (j : ℕ) → leb 2 (state-at x j) ≡ true → leb 2 (state-at y j) ≡ true
-    one j e = le-leb 2 (state-at y j) (on j (leb-true 2 (state-at x j) e))
+    go : (b : Bool) → cond b (complete-if x (waited s i)) (complete x i) ≡ true →
+        cond b (complete-if y (waited s i)) (complete y i) ≡ true
+    go true e = complete-if-on x y on (waited s i) e
+    go false e = complete-if-on x y on (some i) e
 
-    go : (b : Bool) (o : Option ℕ) → cond b (complete-if x o) (complete x i) ≡ true →
-        cond b (complete-if y o) (complete y i) ≡ true
-    go true none e = e
-    go true (some j) e = one j e
-    go false o e = one i e
+-- a waiting half that can end, of an operation that does not tell, has what it waits for complete
+pub ends-complete : (s : Sheet) (x : Job) (i : ℕ) → tells (op s i) ≡ false → half-ends s x i ≡ true → half-complete s x i ≡ true
+unfolding tells half-ends
+ends-complete s x i t e =
+    go (tells-message (op s i)) (or-false-left (tells-message (op s i)) (tells-completion (op s i)) t) (tells-completion (op s i))
+    (or-false-right (tells-message (op s i)) (tells-completion (op s i)) t) e
+  where
+    go : (a : Bool) → a ≡ false → (b : Bool) → b ≡ false →
+        cond a (not (is-none (first-message s i (x .messages)))) (b || half-complete s x i) ≡ true → half-complete s x i ≡ true
+    go true p b q h = true-not-false refl p
+    go false p true q h = true-not-false refl q
+    go false p false q h = h
 
 -- on one board everything before an entered operation is entered
 pub prefix : (s : Sheet) (x : Job) → Placed s x → (j i : ℕ) → Entered x i → j < i → rank-of s j ≡ rank-of s i → Entered x j
@@ -138,7 +153,7 @@ module _ {s : Sheet} {x y : Job} {r : ℕ} {last : Bool} (g : Valid s) (p : Plac
         waiting-not-only-half = λ q l w. no-wait q l w (ℕ-discrete q r);
         entered-if = λ j l h. entered-if j l h (ℕ-discrete (rank-of s j) r) (ℕ-discrete j here);
         entered-only = λ j h. entered-only j h (ℕ-discrete j here) (ℕ-discrete (rank-of s j) r);
-        passed-complete = λ j l h b. passed j l h b (ℕ-discrete (rank-of s j) r) last refl;
+        passed-complete = λ j l h b t. passed j l h b t (ℕ-discrete (rank-of s j) r) last refl;
       }
     where
       -- at the board that stepped: waiting means that the step did not finish its operation
@@ -216,24 +231,24 @@ module _ {s : Sheet} {x y : Job} {r : ℕ} {last : Bool} (g : Valid s) (p : Plac
           let only = p .entered-only j (T .advances .back j d h) in
           (only .0, omega (arith, only .1, reach-other (rank-of s j) c))
 
-      passed : (j : ℕ) → j < N-of s → j < next-op s y (rank-of s j) → no-half (op s j) ≡ false → Dec (rank-of s j ≡ r) →
-          (b : Bool) → last ≡ b →
+      passed : (j : ℕ) → j < N-of s → j < next-op s y (rank-of s j) → no-half (op s j) ≡ false → tells (op s j) ≡ false →
+          Dec (rank-of s j ≡ r) → (b : Bool) → last ≡ b →
           half-complete s y j ≡ true
-      passed j l h b (no c) _ _ =
+      passed j l h b t (no c) _ _ =
           half-complete-on s x y (T .advances .complete-on) j
-          (p .passed-complete j l (omega (arith, next-other (rank-of s j) c)) b)
-      passed j l h b (yes e) c q = go (ℕ-discrete j here) c q (next-mine j e)
+          (p .passed-complete j l (omega (arith, next-other (rank-of s j) c)) b t)
+      passed j l h b t (yes e) c q = go (ℕ-discrete j here) c q (next-mine j e)
         where
           go : Dec (j ≡ here) → (c : Bool) → last ≡ c → next-op s y (rank-of s j) ≡ cond last (suc here) here →
               half-complete s y j ≡ true
           go (yes a) true q k =
               half-complete-on s x y (T .advances .complete-on) j
               (subst (λ (z : ℕ). half-complete s x z ≡ true) (sym a)
-              (T .finishes q (ap (λ (z : ℕ). no-half (op s z)) (sym a) ∙ b)))
+              (T .finishes q (ap (λ (z : ℕ). no-half (op s z)) (sym a) ∙ b) (ap (λ (z : ℕ). tells (op s z)) (sym a) ∙ t)))
           go (yes a) false q k = absurd (omega (arith, k, ap (λ (c : Bool). cond c (suc here) here) q))
           go (no a) true q k =
               half-complete-on s x y (T .advances .complete-on) j
-              (p .passed-complete j l (omega (arith, k, ap (λ (c : Bool). cond c (suc here) here) q, next-mine-before j e)) b)
+              (p .passed-complete j l (omega (arith, k, ap (λ (c : Bool). cond c (suc here) here) q, next-mine-before j e)) b t)
           go (no a) false q k =
               half-complete-on s x y (T .advances .complete-on) j
-              (p .passed-complete j l (omega (arith, k, ap (λ (c : Bool). cond c (suc here) here) q, next-mine-before j e)) b)
+              (p .passed-complete j l (omega (arith, k, ap (λ (c : Bool). cond c (suc here) here) q, next-mine-before j e)) b t)

@@ -15,17 +15,17 @@ use native.Mathlib.Decide.{ℕ-discrete}
 use lib.Dec.{eqb}
 use lib.ListN.{length}
 use borrow.Author.Tests.{eqb-true, leb-true}
-use Rattle.rules.specs.Sheet.{Sheet, op, board, P-of, N-of, rank-of, inbox-total, is-send, is-receive, only-half, is-buffered, no-half}
-use Rattle.rules.specs.Job.{Job, Stop, place-at}
-use Rattle.rules.specs.Step.{able, step, next-op, first-message, first-receive, fits-with, delivered, is-none, fits-buffer, charge-of}
-use Rattle.laws.specs.Tests.{not-so, true-not-false}
+use Rattle.rules.specs.Sheet.{Sheet, op, board, P-of, N-of, rank-of, inbox-total, is-send, is-receive, only-half, is-buffered, no-half, tells}
+use Rattle.rules.specs.Job.{Job, Stop, bare-entry, entry-at, place-at}
+use Rattle.rules.specs.Step.{able, step, next-op, in-waiting-half, half-ends, half-row, first-message, first-receive, fits-with, delivered, is-none, fits-buffer, charge-of}
+use Rattle.laws.specs.Tests.{not-so, or-right, true-not-false}
 use Rattle.invariant.specs.sheet.Valid.{Valid}
 use Rattle.invariant.specs.deliveries.Laws.{Delivery-laws}
-use Rattle.invariant.specs.sheet.Kinds.{send-not-only-half, receive-not-only-half, receive-not-send, send-not-receive}
+use Rattle.invariant.specs.sheet.Kinds.{send-not-only-half, receive-not-only-half, receive-not-send, send-not-receive, send-not-tells, receive-not-tells}
 use Rattle.laws.specs.Sums.{sum-below, sum-same}
 use Rattle.laws.specs.WaitingLists.{Holds, first-by-none, first-by-some}
 use Rattle.invariant.specs.Invariant.{Entered, state-at, unmatched-state, steps-done, charge-in, replayed, Pending-message, Pending-receive}
-use Rattle.invariant.specs.Invariant.{Stable, Arrived, Placed, Shaped, Posted-before, Arrived-before, Reached, Extended}
+use Rattle.invariant.specs.Invariant.{Stable, Arrived, Placed, Shaped, Telling, Posted-before, Arrived-before, Reached, Extended}
 use Rattle.invariant.specs.matching.RowChanges.{Grows, Enters, Matches, state-same, state-name, enters-grows, matches-grows}
 use Rattle.invariant.specs.matching.Stable.{Later, First, enter-stable, match-stable}
 use Rattle.invariant.specs.step.Places.{Next, moved-peak, able-next}
@@ -41,6 +41,7 @@ use Rattle.invariant.specs.preserve.Charges.{charge-same, charging-other
 use Rattle.invariant.specs.matching.UnmatchedState.{unmatched-receive, unmatched-only-half}
 use Rattle.invariant.specs.preserve.Memory.{replayed-length, replayed-rows, replayed-enters, replayed-matches}
 use Rattle.invariant.specs.preserve.SameRows.{Same-rows, rows-same, stable-same, arrived-same, messages-same, receives-same}
+use Rattle.invariant.specs.preserve.Told.{plain-row-is, telling-same, telling-enters, matches-tells-none, telling-matches, told-step}
 use Rattle.invariant.specs.matching.Earliest.{first-for-receive, first-for-message}
 use Rattle.invariant.specs.preserve.Stop.{stops-extended}
 use Rattle.invariant.specs.preserve.OngoingSteps.{ongoing-initiating, ongoing-only-half, ongoing-half}
@@ -52,6 +53,8 @@ record Parts {s : Sheet} {lent : List ℕ} {x : Job} (R : Reached s lent x) (y :
   stable : Stable s arrival y
   arrived : Arrived s arrival y
   shaped : Shaped s y
+  telling : Telling s (R .arrival) x arrival y i
+  tells-ends : tells (op s i) ≡ true → Entered y i → (Entered x i → ⊥) → half-ends s x i ≡ true
   messages : Holds (Arrived-before arrival) (Pending-message s y) (y .messages)
   receives : Holds (Posted-before s) (Pending-receive s y) (y .receives)
   in-use-sum : (q : ℕ) → q < P-of s → place-at y q .in-use ≡ sum-below (N-of s) (charge-in s y q)
@@ -71,6 +74,7 @@ module _ {s : Sheet} (g : Valid s) (A : Delivery-laws s) {lent : List ℕ} (room
               arrived = parts .arrived;
               placed = placed;
               shaped = parts .shaped;
+              told = told-step (R .told) (parts .telling) (T .advances .back) (T .advances .complete-on) (parts .tells-ends);
               messages-held = parts .messages;
               receives-held = parts .receives;
               in-use-sum = parts .in-use-sum;
@@ -90,6 +94,7 @@ module _ {s : Sheet} (g : Valid s) (A : Delivery-laws s) {lent : List ℕ} (room
         back = T .advances .back;
         old = parts .old;
         new = parts .new;
+        telling = parts .telling;
       }
     where
       placed : Placed s y
@@ -131,6 +136,8 @@ module _ {s : Sheet} (g : Valid s) (A : Delivery-laws s) {lent : List ℕ} (room
           stable = stable-same same (R .stable);
           arrived = arrived-same same (omega (arith, h .moved .steps-more)) (R .arrived);
           shaped = shaped-same y (R .shaped) (h .entries);
+          telling = telling-same i same;
+          tells-ends = λ t now-in out. absurd (out (omega (arith, state-same (same i))));
           messages = messages-are (h .messages) (messages-same same (R .messages-held));
           receives = receives-are (h .receives) (receives-same same (R .receives-held));
           in-use-sum =
@@ -152,21 +159,25 @@ module _ {s : Sheet} (g : Valid s) (A : Delivery-laws s) {lent : List ℕ} (room
       later : Later (R .arrival) now x i
       later = arrives-later (R .arrived) (enters-grows E)
 
-      sound-enters : v ≡ unmatched-state (op s i) →
+      sound-enters : v ≡ unmatched-state (op s i) → (tells (op s i) ≡ false → entry-at y i ≡ bare-entry v) →
+          (tells (op s i) ≡ true → (half-ends s x i ≡ true) × (entry-at y i ≡ half-row s x i)) →
           (is-send (op s i) ≡ true → (q : ℕ) → Pending-receive s x q → fits-with s i q ≡ true → ⊥) →
           (is-receive (op s i) ≡ true → (m : ℕ) → Pending-message s x m → fits-with s m i ≡ true → ⊥) →
           Holds (Arrived-before now) (Pending-message s y) (y .messages) →
           Holds (Posted-before s) (Pending-receive s y) (y .receives) →
           ((q : ℕ) → q < P-of s → place-at y q .in-use ≡ sum-below (N-of s) (charge-in s y q)) →
           ((q : ℕ) → q < P-of s → place-at y q .in-use ≤ board s q .attached) → Extended R y i
-      sound-enters state no-receive no-message messages receives uses attached =
+      sound-enters state bare here no-receive no-message messages receives uses attached =
           extended-ongoing T
           (record {
             old = arrival-old (enters-grows E);
             new = λ now-in out. later .new;
             stable = enter-stable (R .stable) later E no-receive no-message;
             arrived = arrived-step (R .arrived) (enters-grows E) (R .placed) (T .moved .steps-more);
-            shaped = shaped-enters (R .shaped) E state;
+            shaped = shaped-enters (R .shaped) E state bare;
+            telling =
+                telling-enters (R .stable) (R .placed) (R .messages-held) later E (λ t. here t .1);
+            tells-ends = λ t now-in out. here t .0;
             messages = messages;
             receives = receives;
             in-use-sum = uses;
@@ -179,8 +190,10 @@ module _ {s : Sheet} (g : Valid s) (A : Delivery-laws s) {lent : List ℕ} (room
       uses-other d uses q l = uses q ∙ R .in-use-sum q l ∙ charging-other s E d q
 
     sound-only-half : Ends-only-half s x y r i → Extended R y i
+    unfolding in-waiting-half
     sound-only-half h =
-        sound-enters T E (h .memory) (sym (unmatched-only-half s i (h .waits))) (λ a. true-not-false a no-send)
+        sound-enters T E (h .memory) (sym (unmatched-only-half s i (h .waits))) (λ t. h .row ∙ plain-row-is s x i t)
+        (λ t. (n .ends half, h .row)) (λ a. true-not-false a no-send)
         (λ a. true-not-false a no-receive)
         (messages-are (h .messages) (queue-message-other E (later T E (h .memory)) no-send (R .messages-held)))
         (receives-are (h .receives) (queue-receive-other E no-receive (R .receives-held)))
@@ -192,6 +205,9 @@ module _ {s : Sheet} (g : Valid s) (A : Delivery-laws s) {lent : List ℕ} (room
         T : Ongoing s x y r true
         T = ongoing-only-half n (h .moved) (enters-grows E) (h .not-waiting) (h .waits)
 
+        half : in-waiting-half s x r ≡ true
+        half = or-right (place-at x r .waiting) (only-half (op s i)) (h .waits)
+
         no-send : is-send (op s i) ≡ false
         no-send = not-so (is-send (op s i)) (λ a. true-not-false (h .waits) (send-not-only-half (op s i) a))
 
@@ -201,7 +217,8 @@ module _ {s : Sheet} (g : Valid s) (A : Delivery-laws s) {lent : List ℕ} (room
     sound-posts : Posts s x y r i → Extended R y i
     unfolding first-message
     sound-posts h =
-        sound-enters T E (h .memory) (sym (unmatched-receive s i (h .is-one))) (λ a. true-not-false a no-send)
+        sound-enters T E (h .memory) (sym (unmatched-receive s i (h .is-one))) (λ t. h .row)
+        (λ t. true-not-false t (receive-not-tells (op s i) (h .is-one))) (λ a. true-not-false a no-send)
         (λ a k p f. true-not-false f (first-by-none (λ k. fits-with s k i) (x .messages) (h .none-fits) k
         (R .messages-held .whole k p)))
         (messages-are (h .messages) (queue-message-other E (later T E (h .memory)) no-send (R .messages-held)))
@@ -220,7 +237,7 @@ module _ {s : Sheet} (g : Valid s) (A : Delivery-laws s) {lent : List ℕ} (room
     sound-pends : Pends s x y r i → Extended R y i
     unfolding first-receive use-charged fits-buffer
     sound-pends h =
-        sound-enters T E (h .memory) refl
+        sound-enters T E (h .memory) refl (λ t. h .row) (λ t. true-not-false t (send-not-tells (op s i) (h .is-one)))
         (λ a q p f. true-not-false f (first-by-none (λ q. fits-with s i q) (x .receives) (h .none-fits) q
         (R .receives-held .whole q p)))
         (λ a. true-not-false a no-receive)
@@ -262,6 +279,8 @@ module _ {s : Sheet} (g : Valid s) (A : Delivery-laws s) {lent : List ℕ} (room
           stable = match-stable (R .stable) L M (first (h .finds));
           arrived = arrived-step (R .arrived) G (R .placed) (h .moved .steps-more);
           shaped = shaped-matches (R .shaped) M;
+          telling = telling-matches (R .stable) (R .placed) L M;
+          tells-ends = λ t now-in out. true-not-false t (matches-tells-none M);
           messages = messages-are (h .messages) (queue-message-match M L (R .messages-held));
           receives = receives-are (h .receives) (queue-receive-match M (R .receives-held));
           in-use-sum = λ o l. h .uses o ∙ charging-matches o (place-at x o .in-use) M (R .shaped) inside-m (R .in-use-sum o l);

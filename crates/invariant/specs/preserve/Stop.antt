@@ -17,6 +17,7 @@ use Rattle.invariant.specs.step.Places.{Next, next-fresh}
 use Rattle.invariant.specs.preserve.Places.{half-complete-on}
 use Rattle.invariant.specs.preserve.Rows.{shaped-same}
 use Rattle.invariant.specs.preserve.Memory.{replayed-rows}
+use Rattle.invariant.specs.preserve.Told.{telling-same, told-step}
 use Rattle.invariant.specs.preserve.SameRows.{Same-rows, stable-same, arrived-same, messages-same, receives-same}
 
 -- a stopping step keeps the invariant
@@ -42,9 +43,11 @@ stops-extended {s} {lent} {x} R v r n reason w =
                   waiting-not-only-half = R .placed .waiting-not-only-half;
                   entered-if = R .placed .entered-if;
                   entered-only = R .placed .entered-only;
-                  passed-complete = λ j l h b. half-complete-on s x y (λ k c. c) j (R .placed .passed-complete j l h b);
+                  passed-complete = λ j l h b t. half-complete-on s x y (λ k c. c) j (R .placed .passed-complete j l h b t);
                 };
             shaped = shaped-same y (R .shaped) refl;
+            told =
+                told-step (R .told) (telling-same (next-op s x r) same) (λ j d h. h) (λ j h. h) (λ t inn out. absurd (out inn));
             messages-held = messages-same same (R .messages-held);
             receives-held = receives-same same (R .receives-held);
             in-use-sum = R .in-use-sum;
@@ -62,6 +65,7 @@ stops-extended {s} {lent} {x} R v r n reason w =
       back = λ j d h. h;
       old = λ j h. refl;
       new = λ inn out j h. absurd (out inn);
+      telling = telling-same (next-op s x r) same;
     }
   where
     y : Job

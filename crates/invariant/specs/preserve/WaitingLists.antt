@@ -17,7 +17,7 @@ use Rattle.laws.specs.Tests.{true-not-false}
 use Rattle.invariant.specs.sheet.Kinds.{send-receive-differ}
 use Rattle.laws.specs.WaitingLists.{Holds, holds-more, holds-less, holds-same}
 use Rattle.invariant.specs.Invariant.{Entered, state-at, Pending-message, Pending-receive, Placed, Posted-before, Arrived-before}
-use Rattle.invariant.specs.matching.RowChanges.{Grows, Enters, Matches, state-same, state-name, enters-state, enters-grows, enters-differ}
+use Rattle.invariant.specs.matching.RowChanges.{Grows, Enters, Matches, state-same, state-name, enters-grows, enters-differ}
 use Rattle.invariant.specs.matching.RowChanges.{matches-grows, matches-message-state, matches-receive-state, grows-message, grows-receive}
 use Rattle.invariant.specs.matching.Stable.{Later}
 use Rattle.invariant.specs.preserve.Places.{prefix}
@@ -74,7 +74,7 @@ module _ {s : Sheet} {x y : Job} {i v : ℕ} (E : Enters x y i v) where
       (record {
         sends = e;
         entered = enters-grows E .enters;
-        unmatched = λ c. E .no-match (sym (enters-state E) ∙ c);
+        unmatched = λ c. E .no-match (sym (E .state) ∙ c);
       })
       (λ k p. message-back k p (ℕ-discrete k i))
 
@@ -95,7 +95,7 @@ module _ {s : Sheet} {x y : Job} {i v : ℕ} (E : Enters x y i v) where
       (record {
         receives = e;
         entered = enters-grows E .enters;
-        unmatched = λ c. E .no-match (sym (enters-state E) ∙ c);
+        unmatched = λ c. E .no-match (sym (E .state) ∙ c);
       })
       (λ q o. receive-back q o (ℕ-discrete q i))
     where

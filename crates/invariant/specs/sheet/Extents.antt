@@ -3,6 +3,7 @@
 --   send-inside, receive-inside     a send or a receive is an operation of the sheet
 --   takes-inside                    so is what takes a slot
 --   send-extent, receive-extent     offset plus length stays inside payload or inbox
+--   send-tag                        a send names one tag
 --   area-inside                     an area lies inside the inbox memory
 --   areas-disjoint                  areas that share no byte, or of different boards
 -- Assumes nothing.
@@ -13,13 +14,14 @@ use native.Mathlib.Omega.{arith}
 use native.Mathlib.Decide.{decLt, ℕ-discrete}
 use lib.ListN.{length, List·getD-eq-default}
 use borrow.Author.Tests.{lt-ltb}
+use Rattle.rules.specs.Limits.{tag-limit}
 use Rattle.rules.specs.Sheet.{Sheet, Op, op, no-op, board, P-of, N-of, rank-of, inbox-start, inbox-total, is-send, is-receive, is-nonblocking, takes-slot}
 use Rattle.rules.specs.Refusal.{op-good, room-for, share}
 use Rattle.rules.specs.Step.{area-start}
 use Rattle.laws.specs.Tests.{and-both, cond-true, cond-false, true-not-false}
-use Rattle.laws.specs.Fields.{fields-end}
+use Rattle.laws.specs.Fields.{fields-end, fields-one-tag}
 use Rattle.invariant.specs.sheet.Valid.{Valid}
-use Rattle.invariant.specs.sheet.Kinds.{send-not-receive, send-kind, receive-kind}
+use Rattle.invariant.specs.sheet.Kinds.{send-not-receive, send-not-names, send-not-selects, send-kind, receive-kind}
 use Rattle.laws.specs.SpliceOrder.{Disjoint}
 
 -- INSIDE THE SHEET: past the table stands an operation of kind 0, which is blocking
@@ -64,6 +66,13 @@ send-extent s g m h =
     subst (λ (k : ℕ). op s m .offset + op s m .long ≤ k)
     (cond-false (is-receive (op s m)) (board s (rank-of s m) .inbox) (length (s .payload)) (send-not-receive (op s m) h))
     (op-extent s g m (send-inside s m h))
+
+-- a send names one tag
+pub send-tag : (s : Sheet) → Valid s → (m : ℕ) → is-send (op s m) ≡ true → op s m .tag < tag-limit
+unfolding op-good
+send-tag s g m e =
+    fields-one-tag (P-of s) (s .comms) (room-for s m) (op s m) (g .ops-good m (send-inside s m e)) (send-not-names (op s m) e)
+    (send-not-selects (op s m) e)
 
 pub receive-extent : (s : Sheet) → Valid s → (r : ℕ) → is-receive (op s r) ≡ true →
     op s r .offset + op s r .long ≤ board s (rank-of s r) .inbox

@@ -1,6 +1,7 @@
 -- Who waits for whom. The first operation of a script that frees the slot which r took waits for r, since rule 7 lets nobody retake
 -- a slot that is held. In a valid sheet there is one for each operation that takes a slot: every request is waited for.
 --   between-ranked          what lies between two operations of a board is of that board
+--   waited-before           who holds the slot that an operation names stands before it
 --   waited-some             what an operation that frees a slot waits for
 --   freed-none, freed-first a slot that nothing frees is not freed; where it is freed, the first that does
 --   unfreed-holds, none-frees-holds   a slot is held as long as it is not freed, as long as nothing frees it
@@ -36,6 +37,16 @@ between-ranked s g r j q a b inside same =
 -- operation j took the slot that operation i names
 abbrev pub takes-slot-of : Sheet → (j i : ℕ) → Bool
 takes-slot-of s j i = eqb (rank-of s j) (rank-of s i) && (takes-slot (op s j) && eqb (op s j .slot) (op s i .slot))
+
+-- who holds the slot that an operation names stands before it
+pub waited-before : (s : Sheet) (n i k : ℕ) → waited-below n s i ≡ some k → k < n
+unfolding waited-below
+waited-before s zero i k e = absurd (let z : _≡_ {A = ℕ} 0 1 = cc in omega arith)
+waited-before s (suc n) i k e = go (eqb (rank-of s n) (rank-of s i) && (takes-slot (op s n) && eqb (op s n .slot) (op s i .slot))) e (λ q. waited-before s n i k q)
+  where
+    go : (b : Bool) → cond b (some n) (waited-below n s i) ≡ some k → (waited-below n s i ≡ some k → k < n) → k < suc n
+    go true q ih = let z : n ≡ k = cc in omega arith
+    go false q ih = let z = ih q in omega arith
 
 -- the operation waited for is the latest that took the slot
 pub waited-some : (s : Sheet) (i j r : ℕ) → r < j → takes-slot-of s r i ≡ true →

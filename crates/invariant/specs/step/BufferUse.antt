@@ -5,7 +5,7 @@
 --   Used                    a list of places in which only bytes in use changed; used-kept, used-charged, used-uncharged,
 --                           used-released
 --   stepped-moved           and then a board steps
---   set-enters              and an operation enters unmatched
+--   set-enters              and an operation enters unmatched, with its row
 -- Assumes nothing.
 use mathlib.Core.Path.{_≡_, refl, sym, ap, _∙_}
 use mathlib.Core.Logic.{_≢_}
@@ -256,16 +256,21 @@ stepped-moved {x} {ps} {change} y U r last l are long stop steps = (M, λ q. mov
         }
 
 -- ROWS
-pub set-enters : (x y : Job) (i v : ℕ) → state-at x i ≡ 0 → i < length (x .entries) → 1 ≤ v → v ≢ 3 →
-    y .entries ≡ set (x .entries) i (bare-entry v) → Enters x y i v
+pub set-enters : (x y : Job) (i v : ℕ) (new : Entry) → new .state ≡ v → state-at x i ≡ 0 → i < length (x .entries) → 1 ≤ v → v ≢ 3 →
+    y .entries ≡ set (x .entries) i new → Enters x y i v × (entry-at y i ≡ new)
 unfolding entry-at
-set-enters x y i v fresh l some-v no-match are =
-    record {
-      fresh = fresh;
-      row = ap (λ (e : List Entry). getD e i (bare-entry 0)) are ∙ getD-set-same (x .entries) i (bare-entry v) (bare-entry 0) l;
-      other =
-          λ j d. ap (λ (e : List Entry). getD e j (bare-entry 0)) are
-          ∙ getD-set-other (x .entries) i j (bare-entry v) (bare-entry 0) d;
-      some-state = some-v;
-      no-match = no-match;
-    }
+set-enters x y i v new state fresh l some-v no-match are = (
+  record {
+    fresh = fresh;
+    state = ap (λ (e : Entry). e .state) row ∙ state;
+    other =
+        λ j d. ap (λ (e : List Entry). getD e j (bare-entry 0)) are
+        ∙ getD-set-other (x .entries) i j new (bare-entry 0) d;
+    some-state = some-v;
+    no-match = no-match;
+  },
+  row,
+)
+  where
+    row : getD (y .entries) i (bare-entry 0) ≡ new
+    row = ap (λ (e : List Entry). getD e i (bare-entry 0)) are ∙ getD-set-same (x .entries) i new (bare-entry 0) l

@@ -12,8 +12,8 @@ use mathlib.Core.List.{[], _∷_, _++_}
 use mathlib.Core.Option.{none, some}
 use Prim.Native.Nat.{ℕ, suc}
 use Rattle.rules.specs.Sheet.{Sheet, op, is-send, is-receive, only-half, is-buffered, is-ready, no-half}
-use Rattle.rules.specs.Job.{Job, place-at, with-steps}
-use Rattle.rules.specs.Step.{first-message, first-receive, without, delivered, stopped, fits-buffer}
+use Rattle.rules.specs.Job.{Job, bare-entry, entry-at, place-at, with-steps}
+use Rattle.rules.specs.Step.{first-message, first-receive, without, delivered, stopped, fits-buffer, half-row}
 use Rattle.invariant.specs.Invariant.{unmatched-state}
 use Rattle.invariant.specs.matching.RowChanges.{Enters, Matches}
 use Rattle.invariant.specs.step.Places.{Moved}
@@ -31,13 +31,14 @@ pub record Ends-half (s : Sheet) (x y : Job) (r i : ℕ) : Type 0 where
   pub receives : y .receives ≡ x .receives
   pub memory : y .memory ≡ x .memory
 
--- the only half of an operation ends: its row says so
+-- the only half of an operation ends: its row says so, and what the operation tells
 pub record Ends-only-half (s : Sheet) (x y : Job) (r i : ℕ) : Type 0 where
   pub not-waiting : place-at x r .waiting ≡ false
   pub waits : only-half (op s i) ≡ true
   pub moved : Moved x y r true
   pub uses : Use x y use-kept
   pub enters : Enters x y i 5
+  pub row : entry-at y i ≡ half-row s x i
   pub messages : y .messages ≡ x .messages
   pub receives : y .receives ≡ x .receives
   pub memory : y .memory ≡ x .memory
@@ -50,6 +51,7 @@ pub record Posts (s : Sheet) (x y : Job) (r i : ℕ) : Type 0 where
   pub moved : Moved x y r (no-half (op s i))
   pub uses : Use x y use-kept
   pub enters : Enters x y i 1
+  pub row : entry-at y i ≡ bare-entry 1
   pub messages : y .messages ≡ x .messages
   pub receives : y .receives ≡ x .receives ++ (i ∷ [])
   pub memory : y .memory ≡ x .memory
@@ -63,6 +65,7 @@ pub record Pends (s : Sheet) (x y : Job) (r i : ℕ) : Type 0 where
   pub moved : Moved x y r (no-half (op s i))
   pub uses : Use x y (use-charged s r i)
   pub enters : Enters x y i (unmatched-state (op s i))
+  pub row : entry-at y i ≡ bare-entry (unmatched-state (op s i))
   pub messages : y .messages ≡ x .messages ++ (i ∷ [])
   pub receives : y .receives ≡ x .receives
   pub memory : y .memory ≡ x .memory

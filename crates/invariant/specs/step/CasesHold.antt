@@ -7,27 +7,41 @@ use mathlib.Core.Logic.{_⊎_, inl, inr, _≢_}
 use mathlib.Core.Bool.{Bool, true, false, _||_, cond}
 use mathlib.Core.List.{List, [], _∷_, _++_}
 use mathlib.Core.Option.{Option, none, some}
-use Prim.Native.Nat.{ℕ, suc, _<_}
+use Prim.Native.Nat.{ℕ, suc, _≤_, _<_}
 use native.Mathlib.Omega.{arith}
 use lib.ListN.{length, set, length-set}
 use lib.Seq.{getD-set-same, getD-set-other}
 use Rattle.rules.specs.Limits.{absent}
-use Rattle.rules.specs.Sheet.{Sheet, op, N-of, rank-of, is-send, is-receive, only-half, is-ready, is-buffered, no-half}
+use Rattle.rules.specs.Sheet.{Sheet, op, N-of, rank-of, is-send, is-receive, only-half, is-ready, is-buffered, no-half, tells-message, tells-completion}
 use Rattle.rules.specs.Job.{Job, Entry, job, entry, bare-entry, entry-at, place-at, with-entries, with-places, with-messages, with-receives, with-steps}
 use Rattle.rules.specs.Step.{step, next-op, in-waiting-half, one-finished, first-message, first-receive, fits-with, is-cut, without, delivered}
 use Rattle.rules.specs.Step.{with-place, charge, matched, with-state, pend-message, pend-receive, stopped, initiated, fits-buffer, unmatched, sent}
-use Rattle.rules.specs.Step.{received, initiating, ended}
+use Rattle.rules.specs.Step.{received, initiating, ended, with-row, probe-row, query-row, half-row, complete-if, waited}
 use Rattle.laws.specs.Tests.{true-not-false}
 use Rattle.invariant.specs.sheet.Valid.{Valid}
 use Rattle.invariant.specs.sheet.Kinds.{kind-send, send-receive-differ}
 use Rattle.laws.specs.WaitingLists.{Found, first-by-some}
-use Rattle.invariant.specs.Invariant.{Entered, state-at, Posted-before, Arrived-before, Reached}
+use Rattle.invariant.specs.Invariant.{Entered, state-at, unmatched-state, Posted-before, Arrived-before, Reached}
 use Rattle.invariant.specs.matching.UnmatchedState.{unmatched-send}
 use Rattle.invariant.specs.matching.RowChanges.{Enters, Matches}
 use Rattle.invariant.specs.step.Places.{Next, next-fresh, Moved}
 use Rattle.invariant.specs.step.BufferUse.{Use, use-kept, use-charged, use-released, used-kept, used-released, used-charged, used-uncharged}
 use Rattle.invariant.specs.step.BufferUse.{released-places, matched-is, stepped-places, stepped-moved, set-enters}
 use Rattle.invariant.specs.step.Cases.{Finds, Cause, Outcome, ends-half, ends-only-half, posts, pends, matches, stops}
+
+-- the row of an operation that is only a waiting half says that it is finished
+half-row-state : (s : Sheet) (x : Job) (i : ℕ) → half-row s x i .state ≡ 5
+unfolding half-row probe-row query-row bare-entry entry
+half-row-state s x i = go (tells-message (op s i)) (tells-completion (op s i)) (first-message s i (x .messages))
+  where
+    probed : (o : Option ℕ) → probe-row s o .state ≡ 5
+    probed none = refl
+    probed (some m) = refl
+
+    go : (a b : Bool) (o : Option ℕ) → cond a (probe-row s o) (cond b (query-row (complete-if x (waited s i))) (bare-entry 5)) .state ≡ 5
+    go true b o = probed o
+    go false true o = refl
+    go false false o = refl
 
 -- OUTCOMES of a step of board r, which is able, of a job that keeps the invariant
 module _ (s : Sheet) (g : Valid s) (lent : List ℕ) (x : Job) (R : Reached s lent x) (r : ℕ) (n : Next s x r) where
@@ -44,6 +58,16 @@ module _ (s : Sheet) (g : Valid s) (lent : List ℕ) (x : Job) (R : Reached s le
   abbrev counted : Job → Job
   counted y = with-steps (suc (x .steps)) y
 
+  -- the next operation enters unmatched in y, with a row that has neither partner nor status
+  abbrev Entered-bare : (y : Job) → (v : ℕ) → Type 0
+  Entered-bare y v = Enters x y here v × (entry-at y here ≡ bare-entry v)
+
+  entered-bare : (y : Job) → place-at x r .waiting ≡ false → (v : ℕ) → 1 ≤ v → v ≢ 3 → y .entries ≡ set (x .entries) here (bare-entry v) →
+      Entered-bare y v
+  unfolding bare-entry entry
+  entered-bare y w v some-v no-match are =
+      set-enters x y here v (bare-entry v) refl (next-fresh s x r (R .placed) n w) entries-inside some-v no-match are
+
   -- a waiting half ends
   outcome-half : place-at x r .waiting ≡ true → Outcome s x (counted (ended s r here x)) r here
   unfolding ended with-place with-places with-steps job place-at
@@ -56,7 +80,7 @@ module _ (s : Sheet) (g : Valid s) (lent : List ℕ) (x : Job) (R : Reached s le
       m = stepped-moved y (used-kept s x (R .in-use-peak)) r true places-inside refl refl refl refl
 
       go : (b : Bool) → b ≡ false →
-          Outcome s x (counted (with-place r (one-finished (place-at x r)) (cond b (with-state here 5 x) x))) r here
+          Outcome s x (counted (with-place r (one-finished (place-at x r)) (cond b (with-row here (half-row s x here) x) x))) r here
       go true e = true-not-false refl e
       go false e =
           ends-half
@@ -72,19 +96,24 @@ module _ (s : Sheet) (g : Valid s) (lent : List ℕ) (x : Job) (R : Reached s le
 
   -- the only half of an operation ends
   outcome-only-half : place-at x r .waiting ≡ false → only-half (op s here) ≡ true → Outcome s x (counted (ended s r here x)) r here
-  unfolding ended with-place with-places with-steps with-state with-entries job place-at
+  unfolding ended with-place with-places with-steps with-entries job place-at
   outcome-only-half w e = go (only-half (op s here)) e
     where
       y : Job
-      y = counted (with-place r (one-finished (place-at x r)) (with-state here 5 x))
+      y = counted (with-place r (one-finished (place-at x r)) (with-row here (half-row s x here) x))
+
+      entered : Enters x y here 5 × (entry-at y here ≡ half-row s x here)
+      entered =
+          set-enters x y here 5 (half-row s x here) (half-row-state s x here) (next-fresh s x r (R .placed) n w) entries-inside
+          (omega arith) (omega arith) refl
 
       m : Moved x y r true × Use x y use-kept
       m =
           stepped-moved y (used-kept s x (R .in-use-peak)) r true places-inside refl
-          (length-set (x .entries) here (bare-entry 5)) refl refl
+          (length-set (x .entries) here (half-row s x here)) refl refl
 
       go : (b : Bool) → b ≡ true →
-          Outcome s x (counted (with-place r (one-finished (place-at x r)) (cond b (with-state here 5 x) x))) r here
+          Outcome s x (counted (with-place r (one-finished (place-at x r)) (cond b (with-row here (half-row s x here) x) x))) r here
       go false c = true-not-false c refl
       go true c =
           ends-only-half
@@ -93,7 +122,8 @@ module _ (s : Sheet) (g : Valid s) (lent : List ℕ) (x : Job) (R : Reached s le
             waits = e;
             moved = m .0;
             uses = m .1;
-            enters = set-enters x y here 5 (next-fresh s x r (R .placed) n w) entries-inside (omega arith) (omega arith) refl;
+            enters = entered .0;
+            row = entered .1;
             messages = refl;
             receives = refl;
             memory = refl;
@@ -111,7 +141,8 @@ module _ (s : Sheet) (g : Valid s) (lent : List ℕ) (x : Job) (R : Reached s le
         none-fits = none-fits;
         moved = m .0;
         uses = m .1;
-        enters = set-enters x y here 1 (next-fresh s x r (R .placed) n w) entries-inside (omega arith) (omega arith) refl;
+        enters = entered .0;
+        row = entered .1;
         messages = refl;
         receives = refl;
         memory = refl;
@@ -119,6 +150,9 @@ module _ (s : Sheet) (g : Valid s) (lent : List ℕ) (x : Job) (R : Reached s le
     where
       y : Job
       y = counted (initiated s r here (pend-receive here x))
+
+      entered : Enters x y here 1 × (entry-at y here ≡ bare-entry 1)
+      entered = entered-bare y w 1 (omega arith) (omega arith) refl
 
       m : Moved x y r (no-half (op s here)) × Use x y use-kept
       m =
@@ -129,9 +163,9 @@ module _ (s : Sheet) (g : Valid s) (lent : List ℕ) (x : Job) (R : Reached s le
   outcome-pends : (y : Job) → place-at x r .waiting ≡ false → is-send (op s here) ≡ true →
       first-receive s here (x .receives) ≡ none → (is-buffered (op s here) ≡ true → fits-buffer s r here x ≡ true) →
       Moved x y r (no-half (op s here)) × Use x y (use-charged s r here) →
-      Enters x y here (cond (is-buffered (op s here)) 2 1) →
+      Entered-bare y (cond (is-buffered (op s here)) 2 1) →
       y .messages ≡ x .messages ++ (here ∷ []) → y .receives ≡ x .receives → y .memory ≡ x .memory → Outcome s x y r here
-  outcome-pends y w e none-fits room m enters messages receives memory =
+  outcome-pends y w e none-fits room m entered messages receives memory =
       pends
       (record {
         not-waiting = w;
@@ -140,11 +174,15 @@ module _ (s : Sheet) (g : Valid s) (lent : List ℕ) (x : Job) (R : Reached s le
         room = room;
         moved = m .0;
         uses = m .1;
-        enters = subst (λ (v : ℕ). Enters x y here v) (sym (unmatched-send s here e)) enters;
+        enters = now .0;
+        row = now .1;
         messages = messages;
         receives = receives;
         memory = memory;
       })
+    where
+      now : Entered-bare y (unmatched-state (op s here))
+      now = subst (λ (v : ℕ). Entered-bare y v) (sym (unmatched-send s here e)) entered
 
   outcome-standard : place-at x r .waiting ≡ false → is-send (op s here) ≡ true → is-buffered (op s here) ≡ false →
       first-receive s here (x .receives) ≡ none → Outcome s x (counted (initiated s r here (pend-message here 1 x))) r here
@@ -153,8 +191,7 @@ module _ (s : Sheet) (g : Valid s) (lent : List ℕ) (x : Job) (R : Reached s le
       outcome-pends y w e none-fits (λ c. true-not-false c b)
       (stepped-moved y (used-uncharged s x (R .in-use-peak) r here b) r (no-half (op s here)) places-inside refl
       (length-set (x .entries) here (bare-entry 1)) refl refl)
-      (subst (λ (c : Bool). Enters x y here (cond c 2 1)) (sym b)
-      (set-enters x y here 1 (next-fresh s x r (R .placed) n w) entries-inside (omega arith) (omega arith) refl))
+      (subst (λ (c : Bool). Entered-bare y (cond c 2 1)) (sym b) (entered-bare y w 1 (omega arith) (omega arith) refl))
       refl refl refl
     where
       y : Job
@@ -168,8 +205,7 @@ module _ (s : Sheet) (g : Valid s) (lent : List ℕ) (x : Job) (R : Reached s le
       outcome-pends y w e none-fits (λ c. room)
       (stepped-moved y (used-charged s x (R .in-use-peak) r here places-inside b) r (no-half (op s here)) places-inside
       refl (length-set (x .entries) here (bare-entry 2)) refl refl)
-      (subst (λ (c : Bool). Enters x y here (cond c 2 1)) (sym b)
-      (set-enters x y here 2 (next-fresh s x r (R .placed) n w) entries-inside (omega arith) (omega arith) refl))
+      (subst (λ (c : Bool). Entered-bare y (cond c 2 1)) (sym b) (entered-bare y w 2 (omega arith) (omega arith) refl))
       refl refl refl
     where
       y : Job

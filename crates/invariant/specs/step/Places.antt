@@ -18,7 +18,7 @@ use lib.Seq.{getD-set-same, getD-set-other}
 use borrow.Author.Tests.{ltb-true, leb-false, not-true, eq-eqb, ne-eqb}
 use Rattle.rules.specs.Sheet.{Sheet, board, P-of, N-of, rank-of}
 use Rattle.rules.specs.Job.{Job, Place, place, place-at}
-use Rattle.rules.specs.Step.{able, next-op, is-finished, in-waiting-half, half-complete, is-none, one-finished, now-waiting}
+use Rattle.rules.specs.Step.{able, next-op, is-finished, in-waiting-half, half-ends, is-none, one-finished, now-waiting}
 use Rattle.laws.specs.Tests.{and-left, and-right, or-cases, true-not-false}
 use Rattle.invariant.specs.sheet.Valid.{Valid}
 use Rattle.invariant.specs.Invariant.{state-at, Placed, reach}
@@ -36,7 +36,7 @@ pub record Next (s : Sheet) (x : Job) (r : ℕ) : Type 0 where
   pub unfinished : place-at x r .finished < board s r .count
   pub inside : next-op s x r < N-of s
   pub ranked : rank-of s (next-op s x r) ≡ r
-  pub complete : in-waiting-half s x r ≡ true → half-complete s x (next-op s x r) ≡ true
+  pub ends : in-waiting-half s x r ≡ true → half-ends s x (next-op s x r) ≡ true
 
 pub able-next : (s : Sheet) → Valid s → (x : Job) (r : ℕ) → able s x r ≡ true → Next s x r
 unfolding able is-finished next-op
@@ -47,9 +47,9 @@ able-next s g x r a =
       unfinished = left;
       inside = omega (arith, left, g .script-inside r small);
       ranked = g .script-ranked r (board s r .first + place-at x r .finished) small (omega arith) (omega (arith, left));
-      complete =
+      ends =
           λ w. half w (or-cases (not (in-waiting-half s x r))
-          (half-complete s x (board s r .first + place-at x r .finished)) (and-right (going && small-unfinished) last-part a));
+          (half-ends s x (board s r .first + place-at x r .finished)) (and-right (going && small-unfinished) last-part a));
     }
   where
     going : Bool
@@ -59,7 +59,7 @@ able-next s g x r a =
     small-unfinished = ltb r (P-of s) && not (leb (board s r .count) (place-at x r .finished))
 
     last-part : Bool
-    last-part = not (in-waiting-half s x r) || half-complete s x (board s r .first + place-at x r .finished)
+    last-part = not (in-waiting-half s x r) || half-ends s x (board s r .first + place-at x r .finished)
 
     first-part : going && small-unfinished ≡ true
     first-part = and-left (going && small-unfinished) last-part a
@@ -76,9 +76,9 @@ able-next s g x r a =
         (and-right (ltb r (P-of s)) (not (leb (board s r .count) (place-at x r .finished)))
         (and-right going small-unfinished first-part)))
 
-    half : in-waiting-half s x r ≡ true → (not (in-waiting-half s x r) ≡ true) ⊎ (half-complete s x
+    half : in-waiting-half s x r ≡ true → (not (in-waiting-half s x r) ≡ true) ⊎ (half-ends s x
         (board s r .first + place-at x r .finished) ≡ true) →
-        half-complete s x (board s r .first + place-at x r .finished) ≡ true
+        half-ends s x (board s r .first + place-at x r .finished) ≡ true
     half w (inl e) = true-not-false w (not-true (in-waiting-half s x r) e)
     half w (inr e) = e
 

@@ -15,7 +15,7 @@ use Rattle.rules.specs.Claims.{left-by}
 use Rattle.laws.specs.Tests.{not-so}
 use Rattle.promises.specs.Statements.{told-by, No-pair-left, None-fit, Sends-in-order, No-overtaking, Receives-in-order, No-overtaking-receives}
 use Rattle.promises.specs.Statements.{Status, Matched-receives, Statuses, Matched-sends, Send-statuses}
-use Rattle.invariant.specs.sheet.Kinds.{send-not-receive}
+use Rattle.invariant.specs.sheet.Kinds.{send-not-receive, send-not-tells, receive-not-tells}
 use Rattle.invariant.specs.Invariant.{Entered, state-at, partner-at, row-of, Matched-pair, Reached}
 use Rattle.invariant.specs.preserve.Places.{prefix}
 use Rattle.invariant.specs.preserve.Rows.{row-message, row-receive}
@@ -80,7 +80,7 @@ module _ {s : Sheet} {lent : List ℕ} {x : Job} (R : Reached s lent x) where
       earlier same (no d) (no a) = omega arith
 
   -- the rows of a matched pair
-  status : (m q : ℕ) → Matched-pair s x m q → Status s (told-by s x) m q
+  pub status : (m q : ℕ) → Matched-pair s x m q → Status s (told-by s x) m q
   unfolding told-by
   status m q met =
       record {
@@ -88,11 +88,11 @@ module _ {s : Sheet} {lent : List ℕ} {x : Job} (R : Reached s lent x) where
         receives = met .receives;
         fit = met .fit;
         message-row =
-            R .shaped .row m ∙ ap (λ (v : ℕ). row-of s m v (partner-at x m)) (met .message-matched)
+            R .shaped .row m (send-not-tells (op s m) (met .sends)) ∙ ap (λ (v : ℕ). row-of s m v (partner-at x m)) (met .message-matched)
             ∙ ap (λ (z : ℕ). row-of s m 3 z) (met .to-receive)
             ∙ row-message s m q (send-not-receive (op s m) (met .sends));
         receive-row =
-            R .shaped .row q ∙ ap (λ (v : ℕ). row-of s q v (partner-at x q)) (met .receive-matched)
+            R .shaped .row q (receive-not-tells (op s q) (met .receives)) ∙ ap (λ (v : ℕ). row-of s q v (partner-at x q)) (met .receive-matched)
             ∙ ap (λ (z : ℕ). row-of s q 3 z) (met .to-message)
             ∙ row-receive s q m (met .receives);
       }

@@ -32,10 +32,12 @@ use Rattle.promises.specs.Statements.{Delivered, Deliveries, Exact, Verd
 use Rattle.promises.specs.Statements.{Counted, Counts, In-use, Peaks, Buffers-hold, Ends, Run-ends}
 use Rattle.promises.specs.Statements.{No-pair-left, Sends-in-order, Receives-in-order, Matched-receives}
 use Rattle.promises.specs.Statements.{Matched-sends, Why-stopped, Charged, Within-attached}
+use Rattle.promises.specs.ProbeStatements.{Probes, Probes-told, Queries, Queries-told, Told-then-received, Receives-told}
 use Rattle.promises.specs.ServiceStatements.{Follow-call, Run-call, told-in, Reported}
 use Rattle.promises.specs.ServiceStatements.{Followed-steps, Ran-order, Follow-reports, Run-reports, Follow-by-arrival}
 use Rattle.promises.specs.claims.OneJob.{lent-valid, lent-reached, deliveries, verdicts, no-request-left, steps, counts, in-use, peaks, buffers-hold}
 use Rattle.promises.specs.claims.Matching.{none-fit, no-overtaking, no-overtaking-receives, statuses, send-statuses}
+use Rattle.promises.specs.claims.Telling.{probes, queries, told-then-received}
 use Rattle.promises.specs.claims.Stops.{stop-reasons}
 use Rattle.promises.specs.claims.Arrivals.{by-arrival}
 use Rattle.promises.specs.compare.SamePositions.{positions-rows}
@@ -64,8 +66,8 @@ module _ {bs i : List ℕ} (h : Lent bs i) (rs : List ℕ) {inbox out : List ℕ
   of-report C c = subst C (sym tells) c
 
   pub reported : Reported (sheet-in bs) i inbox out
-  unfolding None-fit No-overtaking No-overtaking-receives Statuses Send-statuses Deliveries Verdicts No-request-left Stop-reasons
-      Counts In-use Buffers-hold
+  unfolding None-fit No-overtaking No-overtaking-receives Statuses Send-statuses Probes Queries Told-then-received Deliveries
+      Verdicts No-request-left Stop-reasons Counts In-use Buffers-hold
   reported =
       record {
         none-fit = of-report (No-pair-left (sheet-in bs)) (none-fit bs i rs h);
@@ -73,6 +75,9 @@ module _ {bs i : List ℕ} (h : Lent bs i) (rs : List ℕ) {inbox out : List ℕ
         receives-in-order = of-report (Receives-in-order (sheet-in bs)) (no-overtaking-receives bs i rs h);
         matched-receives = of-report (Matched-receives (sheet-in bs)) (statuses bs i rs h);
         matched-sends = of-report (Matched-sends (sheet-in bs)) (send-statuses bs i rs h);
+        probes-told = of-report (Probes-told (sheet-in bs)) (probes bs i rs h);
+        queries-told = of-report (Queries-told (sheet-in bs)) (queries bs i rs h);
+        receives-told = of-report (Receives-told (sheet-in bs)) (told-then-received bs i rs h);
         delivered =
             of-report (λ t. Delivered (sheet-in bs) t i inbox)
             (subst (λ (z : List ℕ). Delivered (sheet-in bs) (told-by (sheet-in bs) x) i z) (sym memory) (deliveries bs i rs h));

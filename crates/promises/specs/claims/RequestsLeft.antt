@@ -13,13 +13,14 @@ use native.Mathlib.Omega.{arith}
 use native.Mathlib.Decide.{ℕ-discrete}
 use lib.Dec.{eqb}
 use borrow.Author.Tests.{leb-true, ne-eqb}
-use Rattle.rules.specs.Sheet.{Sheet, op, board, P-of, N-of, rank-of, is-send, is-receive, is-buffered, no-half, takes-slot, frees-slot}
+use Rattle.rules.specs.Sheet.{Sheet, op, board, P-of, N-of, rank-of, is-send, is-receive, is-buffered, no-half, takes-slot, frees-slot, tells}
 use Rattle.rules.specs.Job.{Job, place-at}
 use Rattle.rules.specs.Step.{next-op, is-finished, complete, complete-if, waited, half-complete}
 use Rattle.rules.specs.Report.{count-from, is-pending-receive, pending-receives}
 use Rattle.laws.specs.Tests.{cond-true, cond-false}
 use Rattle.invariant.specs.sheet.Valid.{Valid}
-use Rattle.invariant.specs.sheet.Kinds.{send-not-frees, send-no-half-takes, receive-not-frees, receive-no-half-takes, frees-only-half, frees-not-no-half}
+use Rattle.invariant.specs.sheet.Kinds.{send-not-frees, send-not-tells, send-no-half-takes, receive-not-frees, receive-not-tells, receive-no-half-takes}
+use Rattle.invariant.specs.sheet.Kinds.{frees-only-half, frees-not-no-half, frees-not-tells}
 use Rattle.invariant.specs.sheet.Extents.{send-inside, receive-inside, takes-inside}
 use Rattle.invariant.specs.sheet.Waits.{Waiter, request-waited}
 use Rattle.invariant.specs.Invariant.{Entered, state-at, reach, Reached}
@@ -48,8 +49,8 @@ module _ {s : Sheet} (g : Valid s) {lent : List ℕ} {x : Job} (R : Reached s le
   unfolding reach
   entered j l = R .placed .entered-if j l (omega (arith, passed j l))
 
-  half : (j : ℕ) → j < N-of s → no-half (op s j) ≡ false → half-complete s x j ≡ true
-  half j l h = R .placed .passed-complete j l (passed j l) h
+  half : (j : ℕ) → j < N-of s → no-half (op s j) ≡ false → tells (op s j) ≡ false → half-complete s x j ≡ true
+  half j l h t = R .placed .passed-complete j l (passed j l) h t
 
   -- REQUESTS: one that takes a slot was waited for, and so it is complete
   waited-by : (i : ℕ) → takes-slot (op s i) ≡ true → Waiter s i
@@ -64,22 +65,22 @@ module _ {s : Sheet} (g : Valid s) {lent : List ℕ} {x : Job} (R : Reached s le
   unfolding half-complete complete-if complete
   request-complete i t =
       let w = waited-by i t in
-      let ended = half (w .by) (w .inside) (frees-not-no-half s g (w .by) (w .inside) (w .frees-it)) in
+      let ended = half (w .by) (w .inside) (frees-not-no-half s g (w .by) (w .inside) (w .frees-it)) (frees-not-tells (op s (w .by)) (w .frees-it)) in
       leb-true 2 (state-at x i)
       (sym (ap (λ (o : Option ℕ). complete-if x o) (w .waits))
       ∙ (sym (cond-true (frees-slot (op s (w .by))) (complete-if x (waited s (w .by))) (complete x (w .by)) (w .frees-it)) ∙ ended))
 
   -- SENDS AND RECEIVES: complete by their own waiting half, or as requests
-  finished-complete : (j : ℕ) → j < N-of s → frees-slot (op s j) ≡ false → (no-half (op s j) ≡ true → takes-slot (op s j) ≡ true) →
-      2 ≤ state-at x j
+  finished-complete : (j : ℕ) → j < N-of s → frees-slot (op s j) ≡ false → tells (op s j) ≡ false →
+      (no-half (op s j) ≡ true → takes-slot (op s j) ≡ true) → 2 ≤ state-at x j
   unfolding half-complete complete
-  finished-complete j l f takes = go (no-half (op s j)) refl
+  finished-complete j l f t takes = go (no-half (op s j)) refl
     where
       go : (b : Bool) → no-half (op s j) ≡ b → 2 ≤ state-at x j
       go true e = request-complete j (takes e)
       go false e =
           leb-true 2 (state-at x j)
-          (sym (cond-false (frees-slot (op s j)) (complete-if x (waited s j)) (complete x j) f) ∙ half j l e)
+          (sym (cond-false (frees-slot (op s j)) (complete-if x (waited s j)) (complete x j) f) ∙ half j l e t)
 
   receive-matched : (q : ℕ) → is-receive (op s q) ≡ true → state-at x q ≡ 3
   receive-matched q e = go (ℕ-discrete (state-at x q) 3)
@@ -91,7 +92,7 @@ module _ {s : Sheet} (g : Valid s) {lent : List ℕ} {x : Job} (R : Reached s le
           absurd
           (omega (
             arith,
-            finished-complete q l (receive-not-frees (op s q) e) (receive-no-half-takes (op s q) e),
+            finished-complete q l (receive-not-frees (op s q) e) (receive-not-tells (op s q) e) (receive-no-half-takes (op s q) e),
             R .shaped .unmatched q (entered q l) d,
             unmatched-receive s q e,
           ))
@@ -108,7 +109,7 @@ module _ {s : Sheet} (g : Valid s) {lent : List ℕ} {x : Job} (R : Reached s le
       buffered : (b : Bool) → is-buffered (op s m) ≡ b → state-at x m ≡ cond b 2 1 → (state-at x m ≡ 2) × (is-buffered (op s m) ≡ true)
       buffered true b v = (v, b)
       buffered false b v =
-          absurd (omega (arith, finished-complete m l (send-not-frees (op s m) e) (send-no-half-takes (op s m) e)))
+          absurd (omega (arith, finished-complete m l (send-not-frees (op s m) e) (send-not-tells (op s m) e) (send-no-half-takes (op s m) e)))
 
       go : Dec (state-at x m ≡ 3) → (state-at x m ≡ 3) ⊎ ((state-at x m ≡ 2) × (is-buffered (op s m) ≡ true))
       go (yes q) = inl q

@@ -11,11 +11,11 @@ use Prim.Native.Nat.{ℕ, suc}
 use lib.ListN.{length}
 use Rattle.rules.specs.Sheet.{Sheet, sheet-in}
 use Rattle.rules.specs.Job.{Job}
-use Rattle.rules.specs.Step.{able, step}
+use Rattle.rules.specs.Step.{able, step, next-op}
 use Rattle.rules.specs.Order.{Followed, follow, follow-from}
 use Rattle.rules.specs.Claims.{accepts, left-by, calm, Alike}
 use Rattle.laws.specs.Tests.{true-not-false}
-use Rattle.promises.specs.Statements.{Lent, Harmless, Swap-general, Swap-same}
+use Rattle.promises.specs.Statements.{Lent, Tells-same, Harmless, Swap-general, Swap-same}
 use Rattle.promises.specs.ServiceStatements.{Follow-swaps}
 use Rattle.invariant.specs.sheet.Valid.{Valid}
 use Rattle.invariant.specs.deliveries.Laws.{Delivery-laws}
@@ -23,7 +23,7 @@ use Rattle.invariant.specs.Invariant.{Reached}
 use Rattle.invariant.specs.deliveries.Commute.{delivery-laws}
 use Rattle.promises.specs.compare.WholeOrders.{Left-same-positions, positions-follow, follow-join, follow-two}
 use Rattle.promises.specs.compare.Exchange.{E, swap-able, able-p, able-q, swap-same-positions}
-use Rattle.promises.specs.compare.CalmSheets.{calm-going, calm-not-any-source}
+use Rattle.promises.specs.compare.CalmSheets.{calm-going, calm-not-any-source, calm-no-query}
 use Rattle.promises.specs.compare.SamePositionsAlike.{positions-alike}
 use Rattle.promises.specs.claims.Services.{follow-swaps}
 use Rattle.promises.specs.claims.OneJob.{lent-valid, lent-reached}
@@ -73,18 +73,21 @@ module _ {bs i : List ℕ} (h : Lent bs i) (before : List ℕ) (p q : ℕ) (d : 
       L : Left-same-positions s i i (follow-from n s after (step s q (step s p x))) (follow-from n s after (step s p (step s q x)))
       L = positions-follow g A (h .room) (h .room) n after (swap-same-positions g A (h .room) X p q d a b H)
 
-  -- on a calm sheet no step stops the job, and no receive takes from any source
+  -- on a calm sheet no step stops the job, no receive or probe is from any source, and nothing is queried
   calm-on : calm s ≡ true → (j k : ℕ) → j ≢ k → able s x j ≡ true → able s x k ≡ true → step s k (step s j x) .stop ≡ none
   calm-on c j k e a b =
       let going = calm-going g c X j a in
       calm-going g c (E g A (h .room) X j a going .reached) k (swap-able g A (h .room) X j a going k (λ f. e (sym f)) b)
 
   calm-harmless : calm s ≡ true → able s x p ≡ true → able s x q ≡ true → Harmless s x p q
+  unfolding Tells-same
   calm-harmless c a b =
       record {
         goes-on = calm-on c p q d a b;
         goes-on-swapped = calm-on c q p (λ e. d (sym e)) b a;
         no-race = λ r half other sends receives wild fits too. true-not-false wild (calm-not-any-source s c r);
+        tells-same = λ t. true-not-false t (calm-no-query s c (next-op s x p));
+        tells-same-swapped = λ t. true-not-false t (calm-no-query s c (next-op s x q));
       }
 
 pub swap-general : Swap-general

@@ -16,7 +16,7 @@ use native.Mathlib.Omega.{arith}
 use Rattle.rules.specs.Sheet.{Sheet, op, board, is-receive, only-half, is-ready, is-buffered, no-half}
 use Rattle.rules.specs.Job.{Job, Stop, Place, place, job, place-at, with-entries, with-places, with-messages, with-receives, with-stop, with-steps}
 use Rattle.rules.specs.Step.{able, step, next-op, in-waiting-half, is-none, first-message, first-receive, matched, with-place, with-state, charge}
-use Rattle.rules.specs.Step.{pend-message, pend-receive, stopped, initiated, fits-buffer, unmatched, sent, received, initiating, ended}
+use Rattle.rules.specs.Step.{pend-message, pend-receive, stopped, initiated, fits-buffer, unmatched, sent, received, initiating, ended, with-row, half-row}
 use Rattle.invariant.specs.sheet.Valid.{Valid}
 use Rattle.invariant.specs.sheet.Kinds.{send-not-only-half, receive-not-only-half}
 use Rattle.invariant.specs.Invariant.{Reached}
@@ -48,10 +48,10 @@ module _ (s : Sheet) (r i : ℕ) (x : Job) where
   matched-stop m q = ap (λ (z : Job). z .stop) (matched-is s m q x)
 
   ended-stop : ended s r i x .stop ≡ x .stop
-  unfolding ended with-place with-places with-state with-entries job
+  unfolding ended with-place with-places with-entries job
   ended-stop = go (only-half (op s i))
     where
-      go : (b : Bool) → cond b (with-state i 5 x) x .stop ≡ x .stop
+      go : (b : Bool) → cond b (with-row i (half-row s x i) x) x .stop ≡ x .stop
       go true = refl
       go false = refl
 

@@ -12,7 +12,7 @@ use mathlib.Core.List.{List}
 use Prim.Native.Nat.{ℕ, _<_}
 use native.Mathlib.Omega.{arith}
 use native.Mathlib.Decide.{ℕ-discrete, decLe}
-use Rattle.rules.specs.Sheet.{Sheet, op, is-send, is-receive}
+use Rattle.rules.specs.Sheet.{Sheet, op, is-send, selects}
 use Rattle.rules.specs.Job.{Job}
 use Rattle.rules.specs.Step.{fits-with}
 use Rattle.invariant.specs.Invariant.{Entered, state-at, Reached, Extended}
@@ -76,7 +76,7 @@ module _ {s : Sheet} {i j : List ℕ} {x y x-now y-now : Job} {X : Reached s i x
   pub arrivals-order : ((k : ℕ) → Entered x k → Entered y k) → ((k : ℕ) → Entered y k → Entered x k) →
       ((k : ℕ) → Entered y-now k → Entered x-now k) →
       Same-order s (X .arrival) x (Y .arrival) y →
-      ((k m r : ℕ) → is-send (op s k) ≡ true → is-send (op s m) ≡ true → is-receive (op s r) ≡ true → fits-with s k r ≡ true →
+      ((k m r : ℕ) → is-send (op s k) ≡ true → is-send (op s m) ≡ true → selects (op s r) ≡ true → fits-with s k r ≡ true →
       fits-with s m r ≡ true →
       Entered y-now k → Entered x-now m → (Entered x k → ⊥) → (Entered x m → ⊥) → k ≢ m → ⊥) →
       Same-order s (X-now .arrival) x-now (Y-now .arrival) y-now

@@ -1,7 +1,7 @@
--- Calm sheets never stop, and messages that one receive could take come in script order. The charges in use on a board are
--- of its buffered sends that are entered, so together with the one that enters they come to at most the charges of all of
--- them, which the attached buffer covers.
---   calm-not-any-source   no receive from any source, also past the operations
+-- Calm sheets never stop, and messages that one receive could take, or one probe tell, come in script order. The charges in
+-- use on a board are of its buffered sends that are entered, so together with the one that enters they come to at most the
+-- charges of all of them, which the attached buffer covers.
+--   calm-not-any-source   no receive or probe from any source, also past the operations; calm-no-query: nor a query
 --   calm-going            an able step goes on
 --   calm-order            one order of arrival
 -- Assumes nothing.
@@ -17,7 +17,7 @@ use lib.Dec.{eqb}
 use lib.ListN.{List·getD-eq-default}
 use borrow.Author.Tests.{le-leb, eq-eqb, ne-eqb, eqb-true}
 use Rattle.rules.specs.Limits.{any}
-use Rattle.rules.specs.Sheet.{Sheet, op, board, no-op, P-of, N-of, rank-of, is-receive, only-half, is-ready, is-buffered}
+use Rattle.rules.specs.Sheet.{Sheet, op, board, no-op, P-of, N-of, rank-of, is-receive, is-probe, is-query, tells-message, tells-completion, selects, only-half, is-ready, is-buffered}
 use Rattle.rules.specs.Job.{Job, place-at}
 use Rattle.rules.specs.Step.{able, step, next-op, in-waiting-half, is-none, first-receive, fits-buffer, fits-with, charge-of}
 use Rattle.rules.specs.Claims.{calm, is-any-source, all-charges, script}
@@ -35,14 +35,22 @@ use Rattle.promises.specs.compare.AfterStep.{stop-after, step-stop}
 
 -- TAME
 module _ (s : Sheet) (c : calm s ≡ true) where
-  -- past the operations there is no receive
+  -- past the operations there is neither receive, probe nor query
   pub calm-not-any-source : (k : ℕ) → is-any-source (op s k) ≡ false
-  unfolding is-any-source is-receive op N-of no-op
+  unfolding is-any-source selects is-receive tells-message is-probe op N-of no-op
   calm-not-any-source k = go (decLt k (N-of s))
     where
       go : Dec (k < N-of s) → is-any-source (op s k) ≡ false
       go (yes l) = calm-op s c k l .0
       go (no d) = ap is-any-source (List·getD-eq-default (s .ops) no-op {n = k} (omega arith))
+
+  pub calm-no-query : (k : ℕ) → tells-completion (op s k) ≡ false
+  unfolding tells-completion is-query op N-of no-op
+  calm-no-query k = go (decLt k (N-of s))
+    where
+      go : Dec (k < N-of s) → tells-completion (op s k) ≡ false
+      go (yes l) = calm-op s c k l .2
+      go (no d) = ap tells-completion (List·getD-eq-default (s .ops) no-op {n = k} (omega arith))
 
 -- CHARGES of a script, as a sum over operations
 -- what operation j would be charged on board r, were it not matched

@@ -29,7 +29,7 @@ use Rattle.promises.specs.compare.Behind.{Behind, still-able}
 use Rattle.promises.specs.compare.AfterStep.{finishing, position-on, moved-position, moved-position-other}
 use Rattle.promises.specs.compare.Exchange.{step-moved}
 use Rattle.promises.specs.compare.SamePositions.{Same-positions}
-use Rattle.promises.specs.compare.CalmSheets.{calm-going, calm-order}
+use Rattle.promises.specs.compare.CalmSheets.{calm-going, calm-order, calm-no-query}
 
 -- x is reached, and behind y
 record Reached-behind (s : Sheet) (i : List ℕ) (y x : Job) : Type 0 where
@@ -167,6 +167,7 @@ ends-same-positions {s} g A c a b lent room end-a end-b X Y =
       places = places;
       order = calm-order c X Y;
       order-back = calm-order c Y X;
+      queries = λ k t. true-not-false t (calm-no-query s c k);
     }
   where
     x : Job

@@ -1,6 +1,7 @@
 -- Two neighbouring able steps of different boards may be exchanged, on any sheet: where neither stops the job in either
--- order, and they do not enter two messages that one any-source receive fits. After both orders the boards stand alike and
--- the messages that one receive could take came in the same order, so the jobs are alike.
+-- order, they do not enter two messages that one any-source receive or probe fits, and a query tells the same first and second.
+-- After both orders the boards stand alike and the messages that one receive could take, or one probe tell, came in the same
+-- order, so the jobs are alike.
 --   step-moved             where the boards stand after a step that goes on
 --   swap-able              the second step is able after the first
 --   swap-same-positions    the law
@@ -12,20 +13,22 @@ use mathlib.Core.List.{List}
 use mathlib.Core.Option.{none}
 use Prim.Native.Nat.{ℕ, suc, _+_, _≤_}
 use native.Mathlib.Omega.{arith}
-use native.Mathlib.Decide.{ℕ-discrete}
+use native.Mathlib.Decide.{ℕ-discrete, decLe}
 use lib.ListN.{length}
 use borrow.Author.Tests.{eq-eqb}
 use Rattle.rules.specs.Limits.{any}
-use Rattle.rules.specs.Sheet.{Sheet, op, rank-of, inbox-total, is-send, is-receive, only-half}
-use Rattle.rules.specs.Job.{Job, place-at}
-use Rattle.rules.specs.Step.{able, step, next-op, in-waiting-half, fits-with}
+use Rattle.rules.specs.Sheet.{Sheet, op, rank-of, inbox-total, is-send, only-half, selects, tells-completion, tells}
+use Rattle.rules.specs.Job.{Job, entry-at, place-at}
+use Rattle.rules.specs.Step.{able, step, next-op, in-waiting-half, fits-with, complete-if, waited, query-row, half-row}
 use Rattle.rules.specs.Claims.{is-any-source}
 use Rattle.laws.specs.Tests.{and-both}
-use Rattle.promises.specs.Statements.{Harmless}
+use Rattle.promises.specs.Statements.{Harmless, Tells-same}
 use Rattle.invariant.specs.sheet.Valid.{Valid}
 use Rattle.invariant.specs.deliveries.Laws.{Delivery-laws}
-use Rattle.invariant.specs.sheet.Kinds.{send-not-only-half, fit-source}
-use Rattle.invariant.specs.Invariant.{Entered, reach, Reached, Extended}
+use Rattle.invariant.specs.sheet.Kinds.{send-not-only-half, fit-source, completion-tells}
+use Rattle.invariant.specs.Invariant.{Entered, state-at, reach, Reached, Extended}
+use Rattle.invariant.specs.matching.RowChanges.{state-name}
+use Rattle.invariant.specs.preserve.Told.{query-row-is}
 use Rattle.invariant.specs.matching.Monotone.{Same-order}
 use Rattle.invariant.specs.step.Places.{Next, Moved, able-next}
 use Rattle.invariant.specs.preserve.Step.{step-sound}
@@ -162,9 +165,9 @@ module _ {s : Sheet} (g : Valid s) (A : Delivery-laws s) {lent : List ℕ} (room
           (X .placed .entered-if (next-op s x r) (n .inside)
           (omega (arith, ap (λ (z : ℕ). reach s x z) (n .ranked), ap (λ (w : Bool). next-op s x r + cond w 1 0) h)))))
 
-  -- the two messages do not both fit one receive w
+  -- the two messages do not both fit one receive or probe w
   no-race-in : (k m w : ℕ) → k ≡ next-op s x p → m ≡ next-op s x q → is-send (op s k) ≡ true → is-send (op s m) ≡ true →
-      is-receive (op s w) ≡ true →
+      selects (op s w) ≡ true →
       fits-with s k w ≡ true → fits-with s m w ≡ true → (Entered x k → ⊥) → (Entered x m → ⊥) → ⊥
   unfolding is-any-source
   no-race-in k m w ek em sk sm rr fk fm out gone = go (fit-source s k w fk) (fit-source s m w fm)
@@ -186,7 +189,7 @@ module _ {s : Sheet} (g : Valid s) (A : Delivery-laws s) {lent : List ℕ} (room
       go (inr e) (inl f) = race f
       go (inr e) (inr f) = d (sym rank-k ∙ sym e ∙ f ∙ rank-m)
 
-  no-races : (k m w : ℕ) → is-send (op s k) ≡ true → is-send (op s m) ≡ true → is-receive (op s w) ≡ true →
+  no-races : (k m w : ℕ) → is-send (op s k) ≡ true → is-send (op s m) ≡ true → selects (op s w) ≡ true →
       fits-with s k w ≡ true → fits-with s m w ≡ true →
       Entered (step s q (step s p x)) k → Entered (step s q (step s p x)) m → (Entered x k → ⊥) → (Entered x m → ⊥) → k ≢ m → ⊥
   no-races k m w sk sm rr fk fm hk hm out gone c = go (entered-since k hk out) (entered-since m hm gone)
@@ -196,6 +199,71 @@ module _ {s : Sheet} (g : Valid s) (A : Delivery-laws s) {lent : List ℕ} (room
       go (inl e) (inr f) = no-race-in k m w e f sk sm rr fk fm out gone
       go (inr e) (inl f) = no-race-in m k w f e sm sk rr fm fk gone out
       go (inr e) (inr f) = c (e ∙ sym f)
+
+  -- QUERIES tell the same in both orders
+  -- in a step of board r from z, where query k is r's next operation: what it tells
+  told-by-step : {z : Job} {Z : Reached s lent z} (r k : ℕ) → Extended Z (step s r z) (next-op s z r) → k ≡ next-op s z r →
+      tells-completion (op s k) ≡ true → Entered (step s r z) k → (Entered z k → ⊥) →
+      entry-at (step s r z) k ≡ query-row (complete-if z (waited s k))
+  told-by-step {z} r k F e t inn out =
+      ap (λ (v : ℕ). entry-at (step s r z) v) e
+      ∙ F .telling .row (ap (λ (v : ℕ). tells (op s v)) (sym e) ∙ completion-tells (op s k) t) (omega (arith, state-name (step s r z) e))
+      (λ h. out (omega (arith, state-name z e)))
+      ∙ ap (λ (v : ℕ). half-row s z v) (sym e) ∙ query-row-is s z k t
+
+  swap-queries : (on : (k : ℕ) → Entered (step s q (step s p x)) k → Entered (step s p (step s q x)) k) →
+      (back : (k : ℕ) → Entered (step s p (step s q x)) k → Entered (step s q (step s p x)) k) → (k : ℕ) → tells-completion (op s k) ≡ true →
+      entry-at (step s p (step s q x)) k ≡ entry-at (step s q (step s p x)) k
+  unfolding Tells-same
+  swap-queries on back k t = go (decLe 1 (state-at x k)) (decLe 1 (state-at (step s q (step s p x)) k))
+    where
+      told : tells (op s k) ≡ true
+      told = completion-tells (op s k) t
+
+      go : Dec (Entered x k) → Dec (Entered (step s q (step s p x)) k) →
+          entry-at (step s p (step s q x)) k ≡ entry-at (step s q (step s p x)) k
+      go (yes h) _ =
+          EQP .telling .kept k told (EQ .on k h) ∙ EQ .telling .kept k told h
+          ∙ sym (EPQ .telling .kept k told (EP .on k h) ∙ EP .telling .kept k told h)
+      go (no out) (no not-now) =
+          EQP .reached .shaped .row-new k (fresh (decLe 1 (state-at (step s p (step s q x)) k)))
+          ∙ sym (EPQ .reached .shaped .row-new k (omega arith))
+        where
+          fresh : Dec (Entered (step s p (step s q x)) k) → state-at (step s p (step s q x)) k ≡ 0
+          fresh (yes h) = absurd (not-now (back k h))
+          fresh (no c) = omega arith
+      go (no out) (yes inn) = new (entered-since k inn out)
+        where
+          -- p's step, first or second
+          of-p : k ≡ next-op s x p → entry-at (step s p (step s q x)) k ≡ entry-at (step s q (step s p x)) k
+          of-p e =
+              let not-q : k ≢ next-op s x q = λ f. d (sym (able-next s g x p a .ranked) ∙ ap (λ (z : ℕ). rank-of s z) (sym e ∙ f)
+              ∙ able-next s g x q b .ranked) in
+              let here : k ≡ next-op s (step s q x) p = e ∙ position-next s x (step s q x) p second-p in
+              let first-in : Entered (step s p x) k = EPQ .back k (λ f. not-q (f ∙ sym (position-next s x (step s p x) q second-q))) inn in
+              told-by-step p k EQP here t (on k inn) (λ h. out (EQ .back k not-q h))
+              ∙ ap (λ (z : Bool). query-row z)
+              (ap (λ (z : ℕ). complete-if (step s q x) (waited s z)) e
+              ∙ H .tells-same (ap (λ (z : ℕ). tells-completion (op s z)) (sym e) ∙ t)
+              ∙ ap (λ (z : ℕ). complete-if x (waited s z)) (sym e))
+              ∙ sym (EPQ .telling .kept k told first-in ∙ told-by-step p k EP e t first-in out)
+
+          of-q : k ≡ next-op s x q → entry-at (step s p (step s q x)) k ≡ entry-at (step s q (step s p x)) k
+          of-q e =
+              let not-p : k ≢ next-op s x p = λ f. d (sym (able-next s g x p a .ranked) ∙ ap (λ (z : ℕ). rank-of s z) (sym f ∙ e)
+              ∙ able-next s g x q b .ranked) in
+              let here : k ≡ next-op s (step s p x) q = e ∙ position-next s x (step s p x) q second-q in
+              let first-in : Entered (step s q x) k = EQP .back k (λ f. not-p (f ∙ sym (position-next s x (step s q x) p second-p))) (on k inn) in
+              EQP .telling .kept k told first-in ∙ told-by-step q k EQ e t first-in out
+              ∙ sym (told-by-step q k EPQ here t inn (λ h. out (EP .back k not-p h))
+              ∙ ap (λ (z : Bool). query-row z)
+              (ap (λ (z : ℕ). complete-if (step s p x) (waited s z)) e
+              ∙ H .tells-same-swapped (ap (λ (z : ℕ). tells-completion (op s z)) (sym e) ∙ t)
+              ∙ ap (λ (z : ℕ). complete-if x (waited s z)) (sym e)))
+
+          new : (k ≡ next-op s x p) ⊎ (k ≡ next-op s x q) → entry-at (step s p (step s q x)) k ≡ entry-at (step s q (step s p x)) k
+          new (inl e) = of-p e
+          new (inr e) = of-q e
 
   -- after both orders the boards stand at the same places
   pub swap-same-positions : Same-positions (EPQ .reached) (EQP .reached)
@@ -212,6 +280,7 @@ module _ {s : Sheet} (g : Valid s) (A : Delivery-laws s) {lent : List ℕ} (room
         order-back =
             arrivals-order grown-qp grown-pq (λ k h. h) (λ k h. h) on same
             (λ k m w sk sm rr fk fm hk hm. no-races k m w sk sm rr fk fm hk (back m hm));
+        queries = swap-queries on back;
       }
     where
       grown-pq : Arrivals-grew X (EPQ .reached)

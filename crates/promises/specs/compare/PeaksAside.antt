@@ -1,6 +1,6 @@
--- Two jobs that differ in peaks, waiting lists and memory at most: the same boards are able, and the reports without peaks
--- are equal.
---   Equal-but-peaks    the same rows, stop, steps and places, peaks aside
+-- Two jobs that differ in peaks, in the order of their waiting lists and in memory at most: the same boards are able, and the
+-- reports without peaks are equal.
+--   Equal-but-peaks    the same rows, stop, steps and places, peaks aside, and the same that can be found
 --   equal-able         the same boards are able; equal-none-able: and none is in both
 --   equal-report       the reports without peaks are equal
 --   equal-alike        with equal memory the jobs are alike
@@ -18,7 +18,7 @@ use lib.ListN.{getD}
 use borrow.Author.Tests.{le-ltb}
 use Rattle.rules.specs.Sheet.{Sheet, op, board, P-of, N-of, frees-slot, is-send, is-receive}
 use Rattle.rules.specs.Job.{Job, Entry, Stop, bare-entry, entry-at, place-at}
-use Rattle.rules.specs.Step.{able, is-finished, next-op, in-waiting-half, half-complete, complete, complete-if, waited, is-none}
+use Rattle.rules.specs.Step.{able, is-finished, next-op, in-waiting-half, half-complete, half-ends, complete, complete-if, waited, is-none, first-message}
 use Rattle.rules.specs.Order.{lowest-able, next-rank, none-able}
 use Rattle.rules.specs.Report.{count-from, is-pending-message, is-pending-receive, pending-messages, pending-receives, cut-messages, all-finished}
 use Rattle.rules.specs.Report.{verdict-of, header-bytes, board-state, board-row, board-rows, report}
@@ -33,6 +33,8 @@ pub record Equal-but-peaks (s : Sheet) (x y : Job) : Type 0 where
   pub finished : (r : ℕ) → r < P-of s → place-at x r .finished ≡ place-at y r .finished
   pub waiting : (r : ℕ) → r < P-of s → place-at x r .waiting ≡ place-at y r .waiting
   pub in-use : (r : ℕ) → r < P-of s → place-at x r .in-use ≡ place-at y r .in-use
+  -- a pending message fits an operation in both or in neither (probes)
+  pub found : (i : ℕ) → is-none (first-message s i (x .messages)) ≡ is-none (first-message s i (y .messages))
 
 -- equal counts
 count-same : (k i : ℕ) (f g : ℕ → Bool) → ((j : ℕ) → f j ≡ g j) → count-from k i f ≡ count-from k i g
@@ -59,6 +61,10 @@ module _ (s : Sheet) (x y : Job) (e : Equal-but-peaks s x y) where
       go none = ap (λ (b : Bool). cond (frees-slot (op s i)) false b) (equal-complete i)
       go (some j) = cc (equal-complete i, equal-complete j)
 
+  equal-ends : (i : ℕ) → half-ends s x i ≡ half-ends s y i
+  unfolding half-ends
+  equal-ends i = cc (e .found i, equal-half i)
+
   pub equal-finished : (r : ℕ) → r < P-of s → is-finished s x r ≡ is-finished s y r
   unfolding is-finished
   equal-finished r l = ap (λ (n : ℕ). leb (board s r .count) n) (e .finished r l)
@@ -69,13 +75,13 @@ module _ (s : Sheet) (x y : Job) (e : Equal-but-peaks s x y) where
 
   equal-able-small : (r : ℕ) → r < P-of s → able s x r ≡ able s y r
   unfolding able in-waiting-half
-  equal-able-small r l = cc (e .stop, equal-finished r l, e .waiting r l, equal-next r l, equal-half (next-op s x r))
+  equal-able-small r l = cc (e .stop, equal-finished r l, e .waiting r l, equal-next r l, equal-ends (next-op s x r))
 
   able-big : (z : Job) (r : ℕ) → P-of s ≤ r → able s z r ≡ false
   unfolding able
   able-big z r l =
       go (is-none (z .stop)) (ltb r (P-of s)) (le-ltb r (P-of s) l) (not (is-finished s z r))
-      (not (in-waiting-half s z r) || half-complete s z (next-op s z r))
+      (not (in-waiting-half s z r) || half-ends s z (next-op s z r))
     where
       go : (a b : Bool) → b ≡ false → (c d : Bool) → (a && (b && c)) && d ≡ false
       go true true h c d = absurd (let z : _≡_ {A = ℕ} 0 1 = cc in omega arith)

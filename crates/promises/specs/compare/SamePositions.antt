@@ -1,5 +1,5 @@
--- Jobs whose boards stand at the same places, and in which messages that one receive could take came in the same order: the
--- same rows, use and ables; a step of one board keeps them so.
+-- Jobs whose boards stand at the same places, in which messages that one receive could take, or one probe tell, came in the same
+-- order, and in which queries told the same: the same rows, use and ables; a step of one board keeps them so.
 --   Same-positions                                      the relation
 --   positions-rows, positions-in-use, positions-able    what is equal in both; positions-equal: all but peaks and memory
 --   positions-step                                      one step
@@ -11,55 +11,44 @@ use mathlib.Core.List.{List}
 use mathlib.Core.Option.{Option, none, some}
 use Prim.Native.Nat.{ℕ, suc, _+_, _≤_, _<_}
 use native.Mathlib.Omega.{arith}
-use native.Mathlib.Decide.{ℕ-discrete}
+use native.Mathlib.Decide.{ℕ-discrete, decLe}
 use lib.Dec.{leb}
 use lib.ListN.{length}
 use lib.Seq.{ext-getD}
-use Rattle.rules.specs.Sheet.{Sheet, op, board, P-of, N-of, inbox-total}
+use Rattle.rules.specs.Sheet.{Sheet, op, board, P-of, N-of, inbox-total, tells-completion, tells}
 use Rattle.rules.specs.Job.{Job, Stop, bare-entry, entry-at, place-at}
-use Rattle.rules.specs.Step.{able, step, next-op, is-none, first-by, first-receive, fits-with, fits-buffer, charge-of}
-use Rattle.laws.specs.Tests.{true-not-false}
+use Rattle.rules.specs.Step.{able, step, next-op, is-none, first-message, first-receive, fits-with, fits-buffer, charge-of, complete, complete-if}
+use Rattle.rules.specs.Step.{waited, query-row, half-row}
 use Rattle.invariant.specs.sheet.Valid.{Valid}
 use Rattle.invariant.specs.deliveries.Laws.{Delivery-laws}
 use Rattle.laws.specs.Sums.{sum-same}
-use Rattle.laws.specs.WaitingLists.{first-by-none, first-by-some}
-use Rattle.invariant.specs.Invariant.{Entered, charge-in, Pending-receive, Reached, Extended}
+use Rattle.laws.specs.WaitingLists.{holds-found}
+use Rattle.invariant.specs.sheet.Kinds.{completion-tells}
+use Rattle.invariant.specs.Invariant.{Entered, state-at, charge-in, Reached, Extended}
 use Rattle.invariant.specs.matching.Monotone.{Same-order}
-use Rattle.invariant.specs.matching.RowChanges.{state-same}
+use Rattle.invariant.specs.matching.RowChanges.{state-same, state-name}
 use Rattle.invariant.specs.preserve.Charges.{charge-same}
-use Rattle.invariant.specs.preserve.WaitingLists.{pending-receive-same}
+use Rattle.invariant.specs.preserve.WaitingLists.{pending-message-same, pending-receive-same}
+use Rattle.invariant.specs.preserve.Told.{query-row-is}
 use Rattle.invariant.specs.step.Places.{Moved, able-next}
 use Rattle.invariant.specs.preserve.Step.{step-sound}
 use Rattle.promises.specs.compare.PeaksAside.{Equal-but-peaks, equal-able}
 use Rattle.promises.specs.compare.ArrivalGrowth.{arrivals-step, arrivals-order}
 use Rattle.invariant.specs.step.Position.{position, position-finished, position-waiting}
-use Rattle.promises.specs.compare.Behind.{Behind, both-behind-rows, places-entered, behind-entered}
+use Rattle.promises.specs.compare.Behind.{Behind, places-entered, behind-entered}
+use Rattle.promises.specs.compare.BothBehind.{both-behind-rows}
 use Rattle.promises.specs.compare.AfterStep.{stop-after, step-stop, After, continues, stops-job, step-after, step-counted, finishing}
 use Rattle.promises.specs.compare.AfterStep.{moved-position-other, places-position, position-next, position-half, position-moved}
 
--- the boards of x and y stand at the same places, and messages that one receive could take came in the same order
+-- the boards of x and y stand at the same places, messages that one receive could take, or one probe tell, came in the same
+-- order, and queries told the same
 pub record Same-positions {s : Sheet} {i j : List ℕ} {x y : Job} (X : Reached s i x) (Y : Reached s j y) : Type 0 where
   pub stop : x .stop ≡ y .stop
   pub steps : x .steps ≡ y .steps
   pub places : (r : ℕ) → r < P-of s → position x r ≡ position y r
   pub order : Same-order s (X .arrival) x (Y .arrival) y
   pub order-back : Same-order s (Y .arrival) y (X .arrival) x
-
--- a search finds nothing in both lists, or something in both
-none-found : (f : ℕ → Bool) (a b : List ℕ) → ((v : ℕ) → first-by f b ≡ some v → first-by f a ≡ none → ⊥) → first-by f a ≡ none →
-    first-by f b ≡ none
-none-found f a b h e = go (first-by f b) refl
-  where
-    go : (o : Option ℕ) → first-by f b ≡ o → o ≡ none
-    go none q = refl
-    go (some v) q = absurd (h v q e)
-
-is-none-same : (a b : Option ℕ) → (a ≡ none → b ≡ none) → (b ≡ none → a ≡ none) → is-none a ≡ is-none b
-unfolding is-none
-is-none-same none none f h = refl
-is-none-same none (some v) f h = absurd (let z : some v ≡ none = f refl in let y : _≡_ {A = ℕ} 0 1 = cc in omega arith)
-is-none-same (some v) none f h = absurd (let z : some v ≡ none = h refl in let y : _≡_ {A = ℕ} 0 1 = cc in omega arith)
-is-none-same (some v) (some w) f h = refl
+  pub queries : (k : ℕ) → tells-completion (op s k) ≡ true → entry-at y k ≡ entry-at x k
 
 module _ {s : Sheet} (g : Valid s) {i j : List ℕ} {x y : Job} {X : Reached s i x} {Y : Reached s j y} (K : Same-positions X Y) where
   pub positions-behind : Behind X Y
@@ -77,13 +66,20 @@ module _ {s : Sheet} (g : Valid s) {i j : List ℕ} {x y : Job} {X : Reached s i
       }
 
   pub positions-rows : (k : ℕ) → entry-at y k ≡ entry-at x k
-  positions-rows = both-behind-rows g X Y positions-behind positions-ahead
+  positions-rows = both-behind-rows g X Y positions-behind positions-ahead (K .queries)
 
   pub positions-in-use : (r : ℕ) → r < P-of s → place-at x r .in-use ≡ place-at y r .in-use
   positions-in-use r l =
       X .in-use-sum r l
       ∙ sum-same (N-of s) (charge-in s x r) (charge-in s y r) (λ k h. charge-same s x y r k (state-same (positions-rows k)))
       ∙ sym (Y .in-use-sum r l)
+
+  -- a pending message fits an operation in both, or in neither
+  same-message : (k : ℕ) → is-none (first-message s k (x .messages)) ≡ is-none (first-message s k (y .messages))
+  unfolding first-message
+  same-message k =
+      holds-found (λ m. fits-with s m k) (X .messages-held) (Y .messages-held)
+      (λ v. pending-message-same y (state-same (positions-rows v))) (λ v. pending-message-same x (sym (state-same (positions-rows v))))
 
   -- rows, stop, steps and places are equal, peaks aside
   pub positions-equal : Equal-but-peaks s x y
@@ -98,6 +94,7 @@ module _ {s : Sheet} (g : Valid s) {i j : List ℕ} {x y : Job} {X : Reached s i
         finished = λ r l. position-finished x y r (K .places r l);
         waiting = λ r l. position-waiting x y r (K .places r l);
         in-use = positions-in-use;
+        found = same-message;
       }
 
   pub positions-able : (r : ℕ) → able s x r ≡ able s y r
@@ -118,26 +115,8 @@ module _ {s : Sheet} (g : Valid s) {i j : List ℕ} {x y : Job} {X : Reached s i
   same-found : (m : ℕ) → is-none (first-receive s m (x .receives)) ≡ is-none (first-receive s m (y .receives))
   unfolding first-receive
   same-found m =
-      is-none-same (first-by f (x .receives)) (first-by f (y .receives))
-      (none-found f (x .receives) (y .receives)
-      (λ v e c. true-not-false (found-y v e .1)
-      (first-by-none f (x .receives) c v (X .receives-held .whole v
-      (pending-receive-same x (sym (state-same (positions-rows v))) (found-y v e .0))))))
-      (none-found f (y .receives) (x .receives)
-      (λ v e c. true-not-false (found-x v e .1)
-      (first-by-none f (y .receives) c v (Y .receives-held .whole v
-      (pending-receive-same y (state-same (positions-rows v)) (found-x v e .0))))))
-    where
-      f : ℕ → Bool
-      f = λ q. fits-with s m q
-
-      found-x : (v : ℕ) → first-by f (x .receives) ≡ some v → Pending-receive s x v × (f v ≡ true)
-      found-x v e = let h = first-by-some f (x .receives) (X .receives-held .sorted) v e in
-          (X .receives-held .sound v (h .member), h .passes)
-
-      found-y : (v : ℕ) → first-by f (y .receives) ≡ some v → Pending-receive s y v × (f v ≡ true)
-      found-y v e = let h = first-by-some f (y .receives) (Y .receives-held .sorted) v e in
-          (Y .receives-held .sound v (h .member), h .passes)
+      holds-found (λ q. fits-with s m q) (X .receives-held) (Y .receives-held)
+      (λ v. pending-receive-same y (state-same (positions-rows v))) (λ v. pending-receive-same x (sym (state-same (positions-rows v))))
 
   pub positions-stop : (r : ℕ) → r < P-of s → step s r x .stop ≡ step s r y .stop
   unfolding stop-after
@@ -200,6 +179,49 @@ module _ {s : Sheet} (g : Valid s) {i j : List ℕ} {x y : Job} {X : Reached s i
         go (yes c) (no e) = gone (EX .back m e hm)
         go (yes c) (yes e) = d (c ∙ sym e)
 
+    -- what holds the slot of query k is complete in both, or in neither
+    same-complete : (o : Option ℕ) → complete-if x o ≡ complete-if y o
+    unfolding complete-if complete
+    same-complete none = refl
+    same-complete (some v) = ap (λ (n : ℕ). leb 2 n) (sym (state-same (positions-rows v)))
+
+    -- a query that this step entered told the same; another keeps its row, or is entered in neither
+    step-queries : (k : ℕ) → tells-completion (op s k) ≡ true → entry-at (step s r y) k ≡ entry-at (step s r x) k
+    step-queries k t = go (decLe 1 (state-at x k)) (decLe 1 (state-at (step s r x) k))
+      where
+        told : tells (op s k) ≡ true
+        told = completion-tells (op s k) t
+
+        not-there : (Entered x k → ⊥) → Entered y k → ⊥
+        not-there out h = out (behind-entered g Y X positions-ahead k h)
+
+        -- the row of a query is what the rule gives
+        answered : {l : List ℕ} {z : Job} {Z : Reached s l z} {n : ℕ} → Extended Z (step s r z) n → Entered (step s r z) k → (Entered z k → ⊥) →
+            entry-at (step s r z) k ≡ query-row (complete-if z (waited s k))
+        answered {l} {z} {Z} {n} E inn out = at (ℕ-discrete k n)
+          where
+            at : Dec (k ≡ n) → entry-at (step s r z) k ≡ query-row (complete-if z (waited s k))
+            at (no d) = absurd (out (E .back k d inn))
+            at (yes e) =
+                ap (λ (v : ℕ). entry-at (step s r z) v) e
+                ∙ E .telling .row (ap (λ (v : ℕ). tells (op s v)) (sym e) ∙ told) (omega (arith, state-name (step s r z) e))
+                (λ h. out (omega (arith, state-name z e)))
+                ∙ ap (λ (v : ℕ). half-row s z v) (sym e) ∙ query-row-is s z k t
+
+        go : Dec (Entered x k) → Dec (Entered (step s r x) k) → entry-at (step s r y) k ≡ entry-at (step s r x) k
+        go (yes h) _ =
+            EY .telling .kept k told (behind-entered g X Y positions-behind k h) ∙ K .queries k t ∙ sym (EX .telling .kept k told h)
+        go (no out) (yes inn) =
+            answered EY (entered-on k inn) (not-there out) ∙ ap (λ (b : Bool). query-row b) (sym (same-complete (waited s k)))
+            ∙ sym (answered EX inn out)
+        go (no out) (no not-now) =
+            EY .reached .shaped .row-new k (omega (arith, fresh (decLe 1 (state-at (step s r y) k))))
+            ∙ sym (EX .reached .shaped .row-new k (omega arith))
+          where
+            fresh : Dec (Entered (step s r y) k) → state-at (step s r y) k ≡ 0
+            fresh (yes h) = absurd (not-now (entered-back k h))
+            fresh (no d) = omega arith
+
     -- a step of one board in both keeps them so
     pub positions-step : Same-positions (EX .reached) (EY .reached)
     positions-step =
@@ -217,4 +239,5 @@ module _ {s : Sheet} (g : Valid s) {i j : List ℕ} {x y : Job} {X : Reached s i
               (λ k m q sk sm rq fk fm hk hm out gone d.
               one-entered k m hk (entered-back m hm) (λ h. out (behind-entered g X Y positions-behind k h))
               (λ h. gone (behind-entered g X Y positions-behind m h)) d);
+          queries = step-queries;
         }

@@ -20,7 +20,7 @@ use Rattle.invariant.specs.Invariant.{state-at, partner-at, replay, replayed, R
 use Rattle.invariant.specs.matching.Monotone.{Same-order}
 use Rattle.laws.specs.SpliceOrder.{Near, splice-near}
 use Rattle.invariant.specs.preserve.Memory.{replayed-rows}
-use Rattle.invariant.specs.preserve.Orders.{start-reached, start-position, none-entered}
+use Rattle.invariant.specs.preserve.Orders.{start-reached, start-entry, start-position, none-entered}
 use Rattle.laws.specs.Tests.{true-not-false}
 use Rattle.promises.specs.Statements.{most-in-use}
 use Rattle.promises.specs.compare.SamePositions.{Same-positions, positions-rows, positions-in-use, positions-able, positions-step}
@@ -34,13 +34,14 @@ start-order g i j k m q sk sm rr fk fm there-m = none-entered g i m there-m
 
 pub start-same-positions : {s : Sheet} (g : Valid s) (i j : List ℕ) → Same-positions (start-reached g i) (start-reached g j)
 unfolding started job
-start-same-positions g i j =
+start-same-positions {s} g i j =
     record {
       stop = refl;
       steps = refl;
       places = λ r l. start-position g i r ∙ sym (start-position g j r);
       order = start-order g i j;
       order-back = start-order g j i;
+      queries = λ k t. start-entry g j k ∙ sym (start-entry g i k);
     }
 
 pub rooms-same-positions : {s : Sheet} → Valid s → Delivery-laws s → {i j : List ℕ} → inbox-total s ≤ length i → inbox-total s ≤ length j →

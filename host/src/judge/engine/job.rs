@@ -1,4 +1,5 @@
-//! A job in lent scratch, and its steps (document 01, How a board steps).
+//! A job in lent scratch, and its steps (document 01, How a board steps; probes
+//! and queries: document 02, K9).
 
 use super::list::List;
 use super::scratch::{Place, Row, Scratch, BARE};
@@ -9,7 +10,8 @@ pub mod state {
     pub const PENDING: u8 = 1;
     pub const BUFFERED: u8 = 2;
     pub const MATCHED: u8 = 3;
-    pub const WAIT_FINISHED: u8 = 5;
+    /// A wait, a probe or a query is finished.
+    pub const FINISHED: u8 = 5;
 }
 
 /// Places in a board's place.
@@ -43,6 +45,20 @@ pub fn set_word(bytes: &mut [u8], place: usize, value: u16) {
     bytes[place..place + 2].copy_from_slice(&value.to_le_bytes());
 }
 
+/// Whether a message fits a receive or a probe of a rank.
+fn fitting<'a>(
+    view: &'a View,
+    ranks: &'a [u8],
+    rank: usize,
+    index: usize,
+) -> impl Fn(usize) -> bool + 'a {
+    let asked = &view.operations[index];
+    move |message| {
+        let sent = &view.operations[message];
+        fits(sent, ranks[message], asked, rank as u8)
+    }
+}
+
 /// What a buffered message is charged.
 fn cost(sent: &[u8]) -> u16 {
     word(sent, at::LENGTH) + BSEND_OVERHEAD as u16
@@ -72,8 +88,8 @@ impl<'a> Job<'a> {
         job
     }
 
-    /// The rank of each operation of a board, and what its waits wait for:
-    /// the operation that took the slot last.
+    /// The rank of each operation of a board, and what its waits and queries
+    /// ask for: the operation that took the slot last.
     fn note_script(&mut self, rank: usize) {
         let mut holders = [[0; 2]; SLOTS];
         let first = self.view.first(rank);
@@ -81,7 +97,7 @@ impl<'a> Job<'a> {
             self.ranks[index] = rank as u8;
             let operation = &self.view.operations[index];
             let slot = usize::from(word(operation, at::SLOT));
-            if operation[at::KIND] == kind::WAIT {
+            if [kind::WAIT, kind::QUERY].contains(&operation[at::KIND]) {
                 self.awaited[index] = holders[slot];
             } else if operation[at::FLAG] == 1 {
                 holders[slot] = (index as u16).to_le_bytes();
@@ -90,6 +106,7 @@ impl<'a> Job<'a> {
     }
 
     /// False also for a rank above P-1.
+    #[inline]
     pub fn able(&self, rank: usize) -> bool {
         if self.stop.is_some() || rank >= self.places.len() {
             return false;
@@ -100,10 +117,30 @@ impl<'a> Job<'a> {
             return false;
         }
         let index = self.view.first(rank) + finished;
-        if self.view.operations[index][at::KIND] == kind::WAIT {
-            return self.complete(usize::from(u16::from_le_bytes(self.awaited[index])));
+        match self.view.operations[index][at::KIND] {
+            kind::WAIT => self.complete(self.awaited(index)),
+            kind::PROBE | kind::QUERY => self.able_to_ask(rank, index),
+            _ => place[WAITING] == 0 || self.complete(index),
         }
-        place[WAITING] == 0 || self.complete(index)
+    }
+
+    /// At a probe or a query. Not inlined: `able` is asked of every rank before
+    /// every step of a run, and mostly finds neither.
+    #[inline(never)]
+    fn able_to_ask(&self, rank: usize, index: usize) -> bool {
+        let query = self.view.operations[index][at::KIND] == kind::QUERY;
+        query || self.earliest_message(rank, index).is_some()
+    }
+
+    /// The operation that a wait or a query asks for.
+    fn awaited(&self, index: usize) -> usize {
+        usize::from(u16::from_le_bytes(self.awaited[index]))
+    }
+
+    /// The earliest pending message that fits a probe.
+    fn earliest_message(&self, rank: usize, index: usize) -> Option<usize> {
+        self.messages
+            .find(fitting(self.view, self.ranks, rank, index))
     }
 
     fn complete(&self, index: usize) -> bool {
@@ -117,9 +154,9 @@ impl<'a> Job<'a> {
         let finished = word(place, FINISHED);
         let index = self.view.first(rank) + usize::from(finished);
         let operation = &self.view.operations[index];
-        if operation[at::KIND] == kind::WAIT {
-            self.rows[index][0] = state::WAIT_FINISHED;
+        if operation[at::KIND] >= kind::WAIT {
             set_word(place, FINISHED, finished + 1);
+            self.only_step(rank, index, operation[at::KIND]);
         } else if place[WAITING] == 1 {
             place[WAITING] = 0;
             set_word(place, FINISHED, finished + 1);
@@ -132,16 +169,35 @@ impl<'a> Job<'a> {
         }
     }
 
+    /// The row of a wait, a probe or a query. A probe takes nothing.
+    fn only_step(&mut self, rank: usize, index: usize, kind: u8) {
+        self.rows[index][0] = state::FINISHED;
+        if kind == kind::QUERY {
+            let complete = self.complete(self.awaited(index));
+            set_word(&mut self.rows[index], 8, u16::from(complete));
+        } else if kind == kind::PROBE {
+            let message = self.earliest_message(rank, index);
+            self.tell(message.expect("the rank is able"), index);
+        }
+    }
+
+    /// The status of a message, told to a receive or a probe.
+    fn tell(&mut self, message: usize, index: usize) {
+        let sent = &self.view.operations[message];
+        let row = &mut self.rows[index];
+        set_word(row, 4, u16::from(self.ranks[message]));
+        set_word(row, 6, word(sent, at::TAG));
+        set_word(row, 8, word(sent, at::LENGTH));
+    }
+
     /// False if the job stops.
     fn initiate(&mut self, rank: usize, index: usize) -> bool {
         if self.view.operations[index][at::KIND] != kind::RECEIVE {
             return self.send(rank, index);
         }
-        let (view, ranks) = (self.view, &*self.ranks);
-        let asked = &view.operations[index];
         let earliest = self
             .messages
-            .take(|m| fits(&view.operations[m], ranks[m], asked, rank as u8));
+            .take(fitting(self.view, self.ranks, rank, index));
         match earliest {
             Some(message) => self.match_up(message, index),
             None => {
@@ -204,14 +260,13 @@ impl<'a> Job<'a> {
     /// row has no status.
     fn match_up(&mut self, message: usize, receive: usize) {
         let sent = &self.view.operations[message];
-        let length = word(sent, at::LENGTH);
-        let source = self.ranks[message];
         if self.rows[message][0] == state::BUFFERED {
-            let place = &mut self.places[usize::from(source)];
+            let place = &mut self.places[usize::from(self.ranks[message])];
             let in_use = word(place, IN_USE) - cost(sent);
             set_word(place, IN_USE, in_use);
         }
-        let cut = length > word(&self.view.operations[receive], at::LENGTH);
+        let capacity = word(&self.view.operations[receive], at::LENGTH);
+        let cut = word(sent, at::LENGTH) > capacity;
         self.cut += u16::from(cut);
         let row = &mut self.rows[message];
         row[0] = state::MATCHED;
@@ -220,8 +275,6 @@ impl<'a> Job<'a> {
         row[0] = state::MATCHED;
         row[1] = u8::from(cut);
         set_word(row, 2, message as u16);
-        set_word(row, 4, u16::from(source));
-        set_word(row, 6, word(sent, at::TAG));
-        set_word(row, 8, length);
+        self.tell(message, receive);
     }
 }

@@ -21,13 +21,29 @@ impl<'a> List<'a> {
         self.count += 1;
     }
 
-    /// Takes out the first operation of which `wanted` is true.
+    fn number(&self, place: usize) -> usize {
+        usize::from(u16::from_le_bytes(self.entries[place]))
+    }
+
+    /// Where the first operation stands of which `wanted` is true.
+    #[inline]
+    fn first(&self, wanted: impl Fn(usize) -> bool) -> Option<usize> {
+        let number = |entry: &[u8; 2]| usize::from(u16::from_le_bytes(*entry));
+        let mut entries = self.entries[..self.count].iter();
+        entries.position(|entry| wanted(number(entry)))
+    }
+
+    /// The first operation of which `wanted` is true.
+    #[inline]
+    pub fn find(&self, wanted: impl Fn(usize) -> bool) -> Option<usize> {
+        self.first(wanted).map(|place| self.number(place))
+    }
+
+    /// Takes it out.
     #[inline]
     pub fn take(&mut self, wanted: impl Fn(usize) -> bool) -> Option<usize> {
-        let number = |entry: &[u8; 2]| usize::from(u16::from_le_bytes(*entry));
-        let entries = &self.entries[..self.count];
-        let place = entries.iter().position(|entry| wanted(number(entry)))?;
-        let taken = number(&entries[place]);
+        let place = self.first(wanted)?;
+        let taken = self.number(place);
         self.entries.copy_within(place + 1..self.count, place);
         self.count -= 1;
         Some(taken)

@@ -20,7 +20,7 @@ pub struct Scratch<'a> {
     pub receives: &'a mut [[u8; 2]],
     /// The rank of each operation.
     pub ranks: &'a mut [u8],
-    /// For each wait the operation that it waits for.
+    /// For each wait or query the operation that holds its slot.
     pub awaited: &'a mut [[u8; 2]],
 }
 

@@ -52,7 +52,7 @@ impl<'a> View<'a> {
 }
 
 /// Document 01, How a board steps, Fit: `sent` comes from rank `source`,
-/// `asked` is a receive of rank `receiver`.
+/// `asked` is a receive or a probe (document 02, K9) of rank `receiver`.
 #[inline]
 pub fn fits(sent: &Operation, source: u8, asked: &Operation, receiver: u8) -> bool {
     let from = word(asked, operation::PEER);

@@ -9,8 +9,7 @@ use Rattle.state.specs.declared.Queue.the-variants.{Messages}
 use Rattle.state.specs.Queues.{base-of}
 use Rattle.state.specs.Decoded.{words-in}
 use Rattle.search.specs.Search.{Listed}
-use Rattle.steps.specs.Parts.{holds-reads}
-use Rattle.steps.specs.Initiate.{listed-in}
+use Rattle.search.specs.Held.{holds-reads, listed-in}
 use Rattle.orders.specs.Jobs.{some-inboxes, some-lent}
 use Rattle.orders.specs.Follows.{Answered, refused-at}
 use Rattle.searches.specs.Jobs.{sum-places, found-in-job}

@@ -14,9 +14,10 @@ use Rattle.state.specs.Layout.{word-at}
 use Rattle.state.specs.Queues.{base-of, count-of, list-of}
 use Rattle.state.specs.Decodes.{Decodes, list-length}
 use Rattle.search.specs.Search.{Listed, First, pair-fits}
-use Rattle.steps.specs.Parts.{holds-reads}
+use Rattle.search.specs.Held.{holds-reads, listed-in, found-is, missing-is}
 use Rattle.steps.specs.Pairing.{searched, matched-with}
-use Rattle.steps.specs.Initiate.{Begins, begins-unentered, begins-pairs, listed-in, found-is, missing-is, initiating-found, initiating-posted, initiating-left}
+use Rattle.steps.specs.Initiate.{Begins, begins-unentered, begins-pairs, initiating-found, initiating-posted, initiating-left}
+use Rattle.simulation.specs.Simulates.{holds-for}
 use borrow.Author.Needs.{needs}
 use Rattle.steps.proofs.initiating.begin.Statement.{statement}
 use Rattle.steps.proofs.initiating.begin.Tie as tie
@@ -91,13 +92,7 @@ pair-requires : tie.Need-pair-requires
 pair-requires c κs =
     let p = c .before .before .before .before .before .before .before .before .before .pre in
     let f = c .before .before in (
-      record {
-        laid = p .laid;
-        valid = p .valid;
-        job = p .job;
-        decodes = p .decodes;
-        fine = begins-pairs (p .valid) (p .fine) (list f) (k f) (within f (p .job) (p .decodes) (c .before .if1 .taken));
-      },
+      holds-for p (begins-pairs (p .valid) (p .fine) (list f) (k f) (within f (p .job) (p .decodes) (c .before .if1 .taken))),
       omega (arith, c .before .if1 .taken, c .before .before .before .before .count .ensures),
     )
 
@@ -116,13 +111,7 @@ returns c =
 post-requires : tie.Need-post-requires
 post-requires c κs =
     let p = c .before .before .before .before .before .before .before .before .before .before .pre in
-    record {
-      laid = p .laid;
-      valid = p .valid;
-      job = p .job;
-      decodes = p .decodes;
-      fine = begins-unentered (p .valid) (p .fine);
-    }
+    holds-for p (begins-unentered (p .valid) (p .fine))
 
 returns-2 : tie.Need-returns-2
 returns-2 c =
@@ -141,13 +130,7 @@ returns-2 c =
 leave-requires : tie.Need-leave-requires
 leave-requires c κs =
     let p = c .before .before .before .before .before .before .before .before .before .before .pre in
-    record {
-      laid = p .laid;
-      valid = p .valid;
-      job = p .job;
-      decodes = p .decodes;
-      fine = begins-unentered (p .valid) (p .fine);
-    }
+    holds-for p (begins-unentered (p .valid) (p .fine))
 
 returns-3 : tie.Need-returns-3
 returns-3 c =

@@ -3,13 +3,13 @@ use mathlib.Core.Path.{_≡_, sym, _∙_, ap, subst}
 use Prim.Native.Nat.{ℕ, _<_}
 use native.Mathlib.Omega.{arith}
 use lib.ListN.{getD}
-use Rattle.rules.specs.Sheet.{Sheet, sheet-in, N-of, two}
+use Rattle.rules.specs.Sheet.{sheet-in, N-of, two}
 use Rattle.rules.specs.Job.{Job}
 use Rattle.rules.specs.Step.{initiated, matched-rows, release}
 use Rattle.state.specs.Layout.{word-at}
 use Rattle.state.specs.Queues.{base-of, list-of}
 use Rattle.state.specs.Decodes.{Decodes, few-listed, list-is}
-use Rattle.simulation.specs.Simulates.{Simulates, held-after, in-turn, simulates-as}
+use Rattle.simulation.specs.Simulates.{Simulates, held-after, in-turn, simulates-as, holds-for}
 use Rattle.steps.specs.Pairing.{Pairs, both-read, matched-with, matched-read, paired-can-finish, rows-list, first-at-as}
 use borrow.Author.Needs.{needs}
 use Rattle.steps.proofs.matching.pair.Statement.{statement}
@@ -50,15 +50,7 @@ match-rows-requires c κs =
     let a = c .before .before .before .before .before .before .before .before .args in
     let p = c .before .before .before .before .before .before .before .before .pre .0 in
     let j = c .before .before .before .word-of .result in
-    record {
-      laid = p .laid;
-      valid = p .valid;
-      job = p .job;
-      decodes = p .decodes;
-      fine =
-          both-read (a .list) (a .i) j (c .before .message-in .result) (c .receive-in .result) (sheet-in (a .s .now)) (p .job) (c .before .message-in .ensures)
-          (c .receive-in .ensures) (p .fine .unentered .inside) (inside (c .before .before .before) (p .job) (p .decodes) (p .fine));
-    }
+    holds-for p (both-read (a .list) (a .i) j (c .before .message-in .result) (c .receive-in .result) (sheet-in (a .s .now)) (p .job) (c .before .message-in .ensures) (c .receive-in .ensures) (p .fine .unentered .inside) (inside (c .before .before .before) (p .job) (p .decodes) (p .fine)))
 
 take-requires : tie.Need-take-requires
 take-requires c κs =

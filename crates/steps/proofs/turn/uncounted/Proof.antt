@@ -11,7 +11,9 @@ use Rattle.state.specs.Layout.{seat-at}
 use Rattle.state.specs.Decoded.{place-in}
 use Rattle.state.specs.Decodes.{Decodes, place-is}
 use Rattle.steps.specs.Initiate.{Able-board, able-can-finish, able-inside}
+use Rattle.steps.specs.Parts.{Ends}
 use Rattle.steps.specs.Turn.{moved-half, moved-begins, moved-initiating}
+use Rattle.simulation.specs.Simulates.{holds-for}
 use borrow.Author.Needs.{needs}
 use Rattle.steps.proofs.turn.uncounted.Statement.{statement}
 use Rattle.steps.proofs.turn.uncounted.Tie as tie
@@ -62,6 +64,19 @@ module _ (c : tie.After-waiting-of) where
     inside : i < N-of s
     inside = subst (λ (n : ℕ). n < N-of s) (sym next) (able-inside (z .pre .valid) b)
 
+    -- so a waiting half can be ended
+    ends : Ends (z .args .r) i s x
+    ends =
+        record {
+          looks =
+              record {
+                inside = inside;
+                lent = b .lent;
+                reached = b .reached;
+              };
+          can-finish = able-can-finish (z .pre .valid) b;
+        }
+
     waits : c .waiting-of .result ≡ place-at x (z .args .r) .waiting
     waits = c .waiting-of .ensures ∙ ap (λ (q : Place). q .waiting) at
 
@@ -70,16 +85,8 @@ is-only-half-requires c κs = let p = c .before .before .before .before .before 
 
 end-half-requires : tie.Need-end-half-requires
 end-half-requires c κs =
-    let p = c .before .before .before .before .before .before .before .before .before .before .pre in (
-      record {
-        laid = p .laid;
-        valid = p .valid;
-        job = p .job;
-        decodes = p .decodes;
-        fine = able-can-finish (p .valid) (p .fine);
-      },
-      inside (c .before .before .before) (p .job) (p .decodes) (p .fine),
-    )
+    let p = c .before .before .before .before .before .before .before .before .before .before .pre in
+    holds-for p (ends (c .before .before .before) (p .job) (p .decodes) (p .fine))
 
 returns : tie.Need-returns
 returns c =
@@ -92,7 +99,7 @@ returns c =
           λ x d b.
           subst (λ (y : Job). Decodes (s f) (c .before .before .end-half .last .1 .0) (z f .args .t) y)
           (moved-half (s f) r (i f) x w (half .result) (next f x d b) (waits f x d b) (half .ensures) (c .before .before .before .before .if1 .taken))
-          (c .before .before .end-half .ensures .after x d (able-can-finish (z f .pre .valid) b));
+          (c .before .before .end-half .ensures .after x d (ends f x d b));
     }
 
 begin-requires : tie.Need-begin-requires
@@ -102,15 +109,7 @@ begin-requires c κs =
     let half = c .before .before .is-only-half in
     let n = next f (p .job) (p .decodes) (p .fine) in
     let w = waits f (p .job) (p .decodes) (p .fine) in
-    record {
-      laid = p .laid;
-      valid = p .valid;
-      job = p .job;
-      decodes = p .decodes;
-      fine =
-          moved-begins (s f) (z f .args .r) (i f) (p .job) (f .waiting-of .result) (half .result) n w (half .ensures) (p .fine)
-          (c .before .if1 .left);
-    }
+    holds-for p (moved-begins (s f) (z f .args .r) (i f) (p .job) (f .waiting-of .result) (half .result) n w (half .ensures) (p .fine) (c .before .if1 .left))
 
 returns-2 : tie.Need-returns-2
 returns-2 c =

@@ -1,0 +1,135 @@
+-- Why an exchange of two able steps must be harmless where the sheet is not calm (Statements: Harmless), as to probes and queries
+-- (document 02, K9). Without the condition that a query tells the same before the other step and after it, and where races for
+-- probes are allowed and races for receives are not, there is an exchange that leaves reports which differ in more than peaks.
+-- The exchanges are those of SwapCounterexamples, computed.
+--   Goes-on, No-race, Both-tell-same   the conditions of Harmless
+--   parts-harmless               together they are Harmless
+--   Swap-where                   an exchange leaves jobs alike where a condition holds of it; with Harmless it is promised
+--   harm-refutes                 an exchange that ends apart, and of which the condition holds, refutes Swap-where
+--   query-step-matters, probe-race-matters
+-- Assumes nothing.
+use mathlib.Core.Path.{_≡_, refl}
+use mathlib.Core.Logic.{_≢_}
+use mathlib.Core.Bool.{Bool, true, false, _&&_, not}
+use mathlib.Core.List.{List, [], _∷_, _++_}
+use mathlib.Core.Option.{none}
+use Prim.Native.Nat.{ℕ, zero, suc}
+use lib.ListN.{getD}
+use borrow.Author.Tests.{not-true}
+use Rattle.rules.specs.Sheet.{Sheet, Op, no-op, op, sheet-in, is-send, is-receive}
+use Rattle.rules.specs.Job.{Job}
+use Rattle.rules.specs.Step.{able, step, next-op, in-waiting-half, fits-with}
+use Rattle.rules.specs.Claims.{is-any-source, accepts, left-by, Alike}
+use Rattle.rules.specs.BenchJob.{all}
+use Rattle.rules.specs.Definitions.{definitions}
+use Rattle.laws.specs.Tests.{and-left, and-right, true-not-false}
+use Rattle.promises.specs.Statements.{Lent, Tells-same, Harmless, Swap-general}
+use Rattle.promises.specs.SwapCounterexamples.{Exchange, bytes-of, sheet-of, job-before, swaps-apart, apart-of}
+use Rattle.promises.specs.SwapCounterexamples.{any-probe-exchange, query-exchange}
+
+-- THE CONDITIONS OF HARMLESS, one by one: the steps stop the job in neither order
+unfoldable pub Goes-on : Sheet → Job → (p q : ℕ) → Type 0
+Goes-on s x p q = (step s q (step s p x) .stop ≡ none) × (step s p (step s q x) .stop ≡ none)
+
+-- they do not enter two messages that one operation fits which a test counts
+unfoldable pub No-race : (counts : Op → Bool) → Sheet → Job → (p q : ℕ) → Type 0
+No-race counts s x p q =
+    (r : ℕ) → in-waiting-half s x p ≡ false → in-waiting-half s x q ≡ false →
+    is-send (op s (next-op s x p)) ≡ true → is-send (op s (next-op s x q)) ≡ true → counts (op s r) ≡ true →
+    fits-with s (next-op s x p) r ≡ true → fits-with s (next-op s x q) r ≡ true → ⊥
+
+-- a query among them tells the same before the other step and after it
+unfoldable pub Both-tell-same : Sheet → Job → (p q : ℕ) → Type 0
+Both-tell-same s x p q = Tells-same s x p q × Tells-same s x q p
+
+pub parts-harmless : (s : Sheet) (x : Job) (p q : ℕ) →
+    Goes-on s x p q → No-race is-any-source s x p q → Both-tell-same s x p q → Harmless s x p q
+unfolding Goes-on No-race Both-tell-same
+parts-harmless s x p q g r n =
+    record {
+      goes-on = g .0;
+      goes-on-swapped = g .1;
+      no-race = r;
+      tells-same = n .0;
+      tells-same-swapped = n .1;
+    }
+
+-- Swap-general's claim that what the steps left is alike, where a condition holds of the two steps
+unfoldable pub Swap-where : (Sheet → Job → (p q : ℕ) → Type 0) → Type 0
+Swap-where H =
+    (bs i before after : List ℕ) (p q : ℕ) → Lent bs i →
+    let s = sheet-in bs in
+    accepts s before i ≡ true → p ≢ q → able s (left-by s before i) p ≡ true → able s (left-by s before i) q ≡ true →
+    H s (left-by s before i) p q → Alike s (left-by s (before ++ (p ∷ q ∷ after)) i) (left-by s (before ++ (q ∷ p ∷ after)) i)
+
+pub general-where : Swap-general → Swap-where Harmless
+unfolding Swap-general Swap-where
+general-where g bs i before after p q l a n e f h = g bs i before after p q l a n e f h .1
+
+pub harm-refutes : (H : Sheet → Job → (p q : ℕ) → Type 0) (e : Exchange) → swaps-apart (λ s. true) e ≡ true →
+    H (sheet-of e) (job-before e) (e .one) (e .other) → Swap-where H → ⊥
+unfolding Swap-where
+harm-refutes H e h harm claim =
+    let a = apart-of (λ s. true) e h in
+    a .not-alike (claim (bytes-of e) (e .inbox) (e .before) (e .after) (e .one) (e .other)
+    (record {
+      passing = a .passing-check;
+      room = a .room;
+    })
+    (a .accepted) (a .unlike) (a .able-one) (a .able-other) harm)
+
+-- THE EXCHANGES, as they end on any sheet
+any-probe-apart : swaps-apart (λ s. true) any-probe-exchange ≡ true
+unfolding definitions swaps-apart any-probe-exchange
+any-probe-apart = refl
+
+query-apart : swaps-apart (λ s. true) query-exchange ≡ true
+unfolding definitions swaps-apart query-exchange
+query-apart = refl
+
+-- a query and the receive that completes its send: nothing stops, and the query sends nothing that could race
+query-goes-on : Goes-on (sheet-of query-exchange) (job-before query-exchange) 0 1
+unfolding Goes-on definitions query-exchange
+query-goes-on = (refl, refl)
+
+query-no-race : No-race is-any-source (sheet-of query-exchange) (job-before query-exchange) 0 1
+unfolding No-race definitions query-exchange
+query-no-race r u v m n c f g = true-not-false m refl
+
+-- two sends to a board that probes for any source: nothing stops, no receive is from any source, and neither is a query
+any-probe-goes-on : Goes-on (sheet-of any-probe-exchange) (job-before any-probe-exchange) 0 1
+unfolding Goes-on definitions any-probe-exchange
+any-probe-goes-on = (refl, refl)
+
+any-probe-tells-same : Both-tell-same (sheet-of any-probe-exchange) (job-before any-probe-exchange) 0 1
+unfolding Both-tell-same Tells-same definitions any-probe-exchange
+any-probe-tells-same = (λ t. true-not-false t refl, λ t. true-not-false t refl)
+
+-- what holds of no operation of a list, nor of what stands behind it, holds of none at any place
+nowhere : (f : Op → Bool) (os : List Op) (r : ℕ) → all (λ o. not (f o)) os ≡ true → f no-op ≡ false → f (getD os r no-op) ≡ false
+unfolding all
+nowhere f [] r h n = n
+nowhere f (o ∷ os) zero h n = not-true (f o) (and-left (not (f o)) (all (λ o. not (f o)) os) h)
+nowhere f (o ∷ os) (suc r) h n = nowhere f os r (and-right (not (f o)) (all (λ o. not (f o)) os) h) n
+
+abbrev pub is-any-receive : Op → Bool
+is-any-receive o = is-receive o && is-any-source o
+
+any-probe-no-race : No-race is-any-receive (sheet-of any-probe-exchange) (job-before any-probe-exchange) 0 1
+unfolding No-race definitions any-probe-exchange
+any-probe-no-race r u v m n c f g =
+    true-not-false c (nowhere is-any-receive (sheet-of any-probe-exchange .ops) r refl refl)
+
+-- THE LAWS: with the other conditions of Harmless alone a query's step may not be exchanged
+pub query-step-matters : Swap-where (λ s x p q. Goes-on s x p q × No-race is-any-source s x p q) → ⊥
+unfolding query-exchange
+query-step-matters =
+    harm-refutes (λ s x p q. Goes-on s x p q × No-race is-any-source s x p q) query-exchange query-apart
+    (query-goes-on, query-no-race)
+
+-- nor two sends that race for an any-source probe, though they race for no receive
+pub probe-race-matters : Swap-where (λ s x p q. Goes-on s x p q × No-race is-any-receive s x p q × Both-tell-same s x p q) → ⊥
+unfolding any-probe-exchange
+probe-race-matters =
+    harm-refutes (λ s x p q. Goes-on s x p q × No-race is-any-receive s x p q × Both-tell-same s x p q) any-probe-exchange any-probe-apart
+    (any-probe-goes-on, any-probe-no-race, any-probe-tells-same)

@@ -1,0 +1,15 @@
+-- `refusals::ops::probe_is_good` meets its contract: each part of the test is the definition's. Assumes nothing.
+use Rattle.rules.specs.Refusal.{probe-good}
+use borrow.Author.Needs.{needs}
+use Rattle.refusals.proofs.ops.probe_is_good.Statement.{statement}
+use Rattle.refusals.proofs.ops.probe_is_good.Tie as tie
+
+returns : tie.Need-returns
+unfolding probe-good
+returns c = cc
+
+pub probe-is-good-spec : {M : Type 1} → statement M
+probe-is-good-spec =
+    tie.close
+    (tie.spec
+    (λ c κs. search needs) (λ c κs. search needs) (λ c κs. search needs) (λ c κs. search needs) (λ c κs. search needs) returns)
