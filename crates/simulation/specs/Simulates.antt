@@ -6,6 +6,7 @@
 --   in-turn         one part after another
 --   simulates-as    the same under another name for what is made
 --   simulates-of    the same where more is asked
+--   simulates-change   what changes scratch does, of jobs of which what it asks holds, under another name for what is made
 -- Assumes nothing.
 use mathlib.Core.Path.{_≡_, subst}
 use mathlib.Core.List.{List}
@@ -16,6 +17,7 @@ use Rattle.laws.specs.Laid.{Laid}
 use Rattle.invariant.specs.sheet.Valid.{Valid}
 use Rattle.state.specs.declared.Control.{Control}
 use Rattle.state.specs.Decodes.{Decodes}
+use Rattle.state.specs.Changes.{Becomes}
 
 pub record Holds (bs c : List ℕ) (t : Control) (ok : Sheet → Job → Type 0) : Type 0 where
   pub laid : Laid bs
@@ -66,3 +68,9 @@ module _ {bs c b : List ℕ} {t u : Control} {ok : Sheet → Job → Type 0} {f 
   pub simulates-of : {more : Sheet → Job → Type 0} → ((x : Job) → more (sheet-in bs) x → ok (sheet-in bs) x) →
       Simulates bs c t b u ok f → Simulates bs c t b u more f
   simulates-of w m = record { after = λ x d q. m .after x d (w x q) }
+
+  pub simulates-change : {asks : Sheet → Job → Type 0} {g : Sheet → Job → Job} → Becomes c t b u asks f →
+      ((x : Job) → Decodes (sheet-in bs) c t x → ok (sheet-in bs) x → asks (sheet-in bs) x) →
+      ((x : Job) → Decodes (sheet-in bs) c t x → ok (sheet-in bs) x → f (sheet-in bs) x ≡ g (sheet-in bs) x) → Simulates bs c t b u ok g
+  simulates-change m asked e =
+      record { after = λ x d q. subst (λ (y : Job). Decodes (sheet-in bs) b u y) (e x d q) (m (sheet-in bs) x d (asked x d q)) }

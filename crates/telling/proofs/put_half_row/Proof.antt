@@ -1,10 +1,8 @@
 -- `telling::put_half_row` meets its contract: by the role, each way is the definition's. Assumes nothing.
-use mathlib.Core.Path.{sym, _∙_, subst}
+use mathlib.Core.Path.{sym, _∙_}
 use borrow.Author.Tests.{not-true, not-false}
 use Rattle.rules.specs.Sheet.{sheet-in}
-use Rattle.rules.specs.Job.{Job}
-use Rattle.state.specs.Decodes.{Decodes}
-use Rattle.simulation.specs.Simulates.{simulates-as}
+use Rattle.simulation.specs.Simulates.{simulates-as, simulates-change}
 use Rattle.telling.specs.Telling.{row-plain, row-query, row-probe}
 use borrow.Author.Needs.{needs}
 use Rattle.telling.proofs.put_half_row.Statement.{statement}
@@ -17,13 +15,8 @@ returns : tie.Need-returns
 returns c =
     let a = c .before .before .before .before .before .before .before .before .args in
     let s = sheet-in (a .s .now) in
-    record {
-      after =
-          λ x d o.
-          subst (λ (y : Job). Decodes s (c .before .before .set-state .last .0) (a .t) y)
-          (row-plain s x (a .i) (sym (c .before .before .before .before .before .tells .ensures) ∙ not-true _ (c .before .before .before .before .if1 .taken)))
-          (c .before .before .set-state .ensures (a .t) s x d (o .inside));
-    }
+    simulates-change (c .before .before .set-state .ensures (a .t)) (λ x d o. o .inside)
+    (λ x d o. row-plain s x (a .i) (sym (c .before .before .before .before .before .tells .ensures) ∙ not-true _ (c .before .before .before .before .if1 .taken)))
 
 tells-completion-requires : tie.Need-tells-completion-requires
 tells-completion-requires c κs = let p = c .before .before .before .before .pre in (p .laid, p .fine .inside)

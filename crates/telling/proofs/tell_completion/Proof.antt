@@ -1,5 +1,5 @@
 -- `telling::tell_completion` meets its contract: who holds the slot stands in the table of waits. Assumes nothing.
-use mathlib.Core.Path.{_≡_, sym, _∙_, ap, subst}
+use mathlib.Core.Path.{_≡_, sym, _∙_, ap}
 use mathlib.Core.Bool.{Bool, true, false, cond}
 use mathlib.Core.Option.{some}
 use Prim.Native.Nat.{ℕ, _<_}
@@ -7,9 +7,9 @@ use native.Mathlib.Omega.{arith}
 use lib.Dec.{leb}
 use Rattle.rules.specs.Limits.{absent}
 use Rattle.rules.specs.Sheet.{sheet-in}
-use Rattle.rules.specs.Job.{Job, entry, entry-at}
+use Rattle.rules.specs.Job.{entry, entry-at}
 use Rattle.rules.specs.Step.{waited, with-row}
-use Rattle.state.specs.Decodes.{Decodes}
+use Rattle.simulation.specs.Simulates.{simulates-change}
 use Rattle.telling.specs.Telling.{holder-is, holder-inside, held-state, row-answered}
 use borrow.Author.Needs.{needs}
 use Rattle.telling.proofs.tell_completion.Statement.{statement}
@@ -34,23 +34,20 @@ returns c =
     let s = sheet-in (a .s .now) in
     let j = c .before .before .before .before .before .before .before .waited-at .result in
     let answer = c .before .before .before .before .one-if-complete in
+    simulates-change (c .before .before .set-told .ensures (a .t))
+    (λ x d o.
     record {
-      after =
-          λ x d o.
-          let holds : waited s (a .i) ≡ some j =
-          holder-is s (a .c .now) (a .t) x d (a .i) (o .inside) q ∙ ap some (sym (c .before .before .before .before .before .before .before .waited-at .ensures .is)) in
-          let state = held-state s (a .c .now) (a .t) x d (a .i) (o .inside) q j (c .before .before .before .before .before .state-of .result) (c .before .before .before .before .before .before .before .waited-at .ensures .is) (c .before .before .before .before .before .state-of .ensures .is) in
-          let said : answer .result ≡ cond (leb 2 (entry-at x j .state)) 1 0 = answer .ensures ∙ ap (λ (v : ℕ). cond (leb 2 v) 1 0) state in
-          subst (λ (y : Job). Decodes s (c .before .before .set-told .last .0) (a .t) y)
-          (ap (λ (v : ℕ). with-row (a .i) (entry 5 0 absent absent absent v) x) said ∙ row-answered s x (a .i) j holds)
-          (c .before .before .set-told .ensures (a .t) s x d
-          (record {
-            inside = o .inside;
-            source-fits = omega arith;
-            tag-fits = omega arith;
-            long-fits = omega (arith, one-most (leb 2 (c .before .before .before .before .before .state-of .result)), answer .ensures);
-          }));
-    }
+      inside = o .inside;
+      source-fits = omega arith;
+      tag-fits = omega arith;
+      long-fits = omega (arith, one-most (leb 2 (c .before .before .before .before .before .state-of .result)), answer .ensures);
+    })
+    (λ x d o.
+    let holds : waited s (a .i) ≡ some j =
+    holder-is s (a .c .now) (a .t) x d (a .i) (o .inside) q ∙ ap some (sym (c .before .before .before .before .before .before .before .waited-at .ensures .is)) in
+    let state = held-state s (a .c .now) (a .t) x d (a .i) (o .inside) q j (c .before .before .before .before .before .state-of .result) (c .before .before .before .before .before .before .before .waited-at .ensures .is) (c .before .before .before .before .before .state-of .ensures .is) in
+    let said : answer .result ≡ cond (leb 2 (entry-at x j .state)) 1 0 = answer .ensures ∙ ap (λ (v : ℕ). cond (leb 2 v) 1 0) state in
+    ap (λ (v : ℕ). with-row (a .i) (entry 5 0 absent absent absent v) x) said ∙ row-answered s x (a .i) j holds)
 
 pub tell-completion-spec : {M : Type 1} → statement M
 tell-completion-spec =

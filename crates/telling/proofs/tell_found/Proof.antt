@@ -4,11 +4,11 @@ use Prim.Native.Nat.{ℕ, _<_}
 use native.Mathlib.Omega.{arith}
 use Rattle.rules.specs.Limits.{absent}
 use Rattle.rules.specs.Sheet.{Sheet, sheet-in, op, N-of, rank-of, two}
-use Rattle.rules.specs.Job.{Job, Entry, entry}
+use Rattle.rules.specs.Job.{Entry, entry}
 use Rattle.rules.specs.Step.{with-row}
 use Rattle.state.specs.Layout.{word-at, messages-at}
 use Rattle.state.specs.Queues.{base-of}
-use Rattle.state.specs.Decodes.{Decodes}
+use Rattle.simulation.specs.Simulates.{simulates-change}
 use Rattle.telling.specs.Telling.{row-found}
 use borrow.Author.Needs.{needs}
 use Rattle.telling.proofs.tell_found.Statement.{statement}
@@ -55,22 +55,19 @@ returns c =
     let source = c .before .before .before .before .before .before .rank-at in
     let tag = c .before .before .before .before .tag in
     let long = c .before .before .before .long in
+    simulates-change (c .before .before .set-told .ensures (a .t))
+    (λ x d o.
     record {
-      after =
-          λ x d o.
-          let told : entry 5 0 absent (source .result) (tag .result) (long .result) ≡ entry 5 0 absent (rank-of (s f) (m f)) (op (s f) (m f) .tag) (op (s f) (m f) .long) =
-          cc (source .ensures .is ∙ d .indexed .rank-is (m f) (inside f), tag .ensures .is, long .ensures .is) in
-          subst (λ (y : Job). Decodes (s f) (c .before .before .set-told .last .0) (a .t) y)
-          (ap (λ (e : Entry). with-row (a .i) e x) told
-          ∙ row-found (s f) x (a .i) (m f) (z f .pre .1 .found x d (z f .pre .2) ∙ cc (place f)))
-          (c .before .before .set-told .ensures (a .t) (s f) x d
-          (record {
-            inside = o .inside;
-            source-fits = omega (arith, source .ensures .small);
-            tag-fits = tag .ensures .small;
-            long-fits = long .ensures .small;
-          }));
-    }
+      inside = o .inside;
+      source-fits = omega (arith, source .ensures .small);
+      tag-fits = tag .ensures .small;
+      long-fits = long .ensures .small;
+    })
+    (λ x d o.
+    let told : entry 5 0 absent (source .result) (tag .result) (long .result) ≡ entry 5 0 absent (rank-of (s f) (m f)) (op (s f) (m f) .tag) (op (s f) (m f) .long) =
+    cc (source .ensures .is ∙ d .indexed .rank-is (m f) (inside f), tag .ensures .is, long .ensures .is) in
+    ap (λ (e : Entry). with-row (a .i) e x) told
+    ∙ row-found (s f) x (a .i) (m f) (z f .pre .1 .found x d (z f .pre .2) ∙ cc (place f)))
 
 pub tell-found-spec : {M : Type 1} → statement M
 tell-found-spec =

@@ -1,9 +1,7 @@
 -- `telling::tell_message` meets its contract: by whether a message was found, each way is the definition's. Assumes nothing.
-use mathlib.Core.Path.{subst}
 use native.Mathlib.Omega.{arith}
 use Rattle.rules.specs.Sheet.{sheet-in}
-use Rattle.rules.specs.Job.{Job}
-use Rattle.state.specs.Decodes.{Decodes}
+use Rattle.simulation.specs.Simulates.{simulates-change}
 use Rattle.telling.specs.Telling.{row-missing}
 use borrow.Author.Needs.{needs}
 use Rattle.telling.proofs.tell_message.Statement.{statement}
@@ -19,13 +17,8 @@ returns-2 : tie.Need-returns-2
 returns-2 c =
     let a = c .before .before .before .before .before .before .before .before .before .before .args in
     let s = sheet-in (a .s .now) in
-    record {
-      after =
-          λ x d o.
-          subst (λ (y : Job). Decodes s (c .before .before .set-state .last .0) (a .t) y)
-          (row-missing s x (a .i) (c .before .before .before .before .before .before .found-at .ensures .missing x d (omega (arith, c .before .before .before .before .if1 .left))))
-          (c .before .before .set-state .ensures (a .t) s x d (o .inside));
-    }
+    simulates-change (c .before .before .set-state .ensures (a .t)) (λ x d o. o .inside)
+    (λ x d o. row-missing s x (a .i) (c .before .before .before .before .before .before .found-at .ensures .missing x d (omega (arith, c .before .before .before .before .if1 .left))))
 
 pub tell-message-spec : {M : Type 1} → statement M
 tell-message-spec =

@@ -1,4 +1,5 @@
 -- `refusals::ops::probe_is_good` meets its contract: each part of the test is the definition's. Assumes nothing.
+use mathlib.Core.Path.{refl}
 use Rattle.rules.specs.Refusal.{probe-good}
 use borrow.Author.Needs.{needs}
 use Rattle.refusals.proofs.ops.probe_is_good.Statement.{statement}
@@ -6,7 +7,13 @@ use Rattle.refusals.proofs.ops.probe_is_good.Tie as tie
 
 returns : tie.Need-returns
 unfolding probe-good
-returns c = cc
+returns c =
+    let flag = c .before .before .before .before .flag .ensures .is in
+    let zero = c .before .before .before .zero-field .ensures .is in
+    let offset = c .before .before .offset .ensures .is in
+    let long = c .before .long .ensures .is in
+    let slot = c .slot .ensures .is in
+    rw (flag, zero, offset, long, slot) refl
 
 pub probe-is-good-spec : {M : Type 1} → statement M
 probe-is-good-spec =
