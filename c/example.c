@@ -1,7 +1,8 @@
 /*
  * One block of eight bytes that nobody receives, sent buffered and sent
  * synchronously: the first job finishes and delivers nothing, the second hangs.
- * Then bench job 1 of document 01, whole, and what refusals look like.
+ * Then bench job 1 of document 01, whole, and what refusals look like; and two
+ * boards that both send first, without and with standard rooms.
  */
 #include "jamturret.h"
 
@@ -9,8 +10,8 @@
 #include <stdio.h>
 
 /*
- * Rooms for any sheet, zeroed. What one sheet needs: JAMTURRET_SHEET,
- * JAMTURRET_REPORT, JAMTURRET_ORDER_OUT, and its own inboxes.
+ * Rooms for any sheet, zeroed. What one sheet needs: JAMTURRET_SHEET_OF,
+ * JAMTURRET_REPORT_OF, JAMTURRET_ORDER_OUT, and its own inboxes.
  */
 static uint8_t sheet[JAMTURRET_MOST_SHEET];
 static uint8_t inbox[JAMTURRET_MOST_INBOXES];
@@ -170,6 +171,40 @@ static void refusals(size_t sheet_len)
     print_refusal("  a bit of the payload flipped", jamturret_check(sheet, sheet_len));
 }
 
+/*
+ * Bench job 6 in edition 2: both boards send two bytes in standard mode, then
+ * receive. With rooms of two bytes these are the bytes of
+ * sheets/both-send-first-covered.sheet.
+ */
+static int both_send_first(uint32_t room)
+{
+    static const uint8_t payload[] = {0x0B, 0x0C, 0x0D, 0x0E};
+    const jamturret_board boards[] = {{2, 0, 2}, {2, 0, 2}};
+    const uint32_t standard_rooms[] = {room, room};
+    const jamturret_operation operations[] = {
+        jamturret_send(JAMTURRET_KIND_STANDARD, 1, 5, 0, 2), jamturret_receive(1, 5, 0, 2),
+        jamturret_send(JAMTURRET_KIND_STANDARD, 0, 5, 2, 2), jamturret_receive(0, 5, 0, 2),
+    };
+    const jamturret_job job = {1, boards, 2, operations, 4, payload, sizeof payload};
+    const size_t sheet_len = JAMTURRET_SHEET_OF(JAMTURRET_EDITION_2, 2, 4, sizeof payload);
+    const jamturret_answer answer = jamturret_build_2(&job, standard_rooms, sheet, sizeof sheet);
+    jamturret_board_figures rank_0;
+    if (answer.number != JAMTURRET_SUCCESS) {
+        print_refusal("build", answer);
+        return 0;
+    }
+    printf("Both boards send first, standard rooms of %" PRIu32 " bytes\n", room);
+    if (!run(sheet_len)) {
+        return 0;
+    }
+    print_verdict();
+    rank_0 = jamturret_board_figures_of(jamturret_sheet_edition(sheet), report, 0);
+    printf("  rank 0: %s, standard room in use: %u, at the peak: %u\n",
+           jamturret_board_state_words(rank_0.state), rank_0.standard_in_use, rank_0.standard_peak);
+    print_premise(sheet_len);
+    return 1;
+}
+
 int main(void)
 {
     size_t sheet_len;
@@ -182,5 +217,5 @@ int main(void)
         return 1;
     }
     refusals(sheet_len);
-    return 0;
+    return both_send_first(0) && both_send_first(2) ? 0 : 1;
 }

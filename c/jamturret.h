@@ -55,8 +55,19 @@ extern "C" {
 #endif
 
 /*
+ * The edition of a sheet and of its report (document 02, K6). In edition 2 each
+ * board has a standard room, in which its unmatched standard sends are buffered
+ * where they fit. A sheet tells its edition (jamturret_sheet_edition); a report
+ * does not, and is of its sheet's edition.
+ */
+enum jamturret_edition {
+    JAMTURRET_EDITION_1 = 1,
+    JAMTURRET_EDITION_2 = 2
+};
+
+/*
  * Stack to have free at a call, in bytes. Measured on sheets of 2,048
- * operations (stack_test.c): 1,183, with the call's arguments and the red
+ * operations (stack_test.c): 1,103, with the call's arguments and the red
  * zone. The rest is margin for another build of the library. A signal handler
  * is not in it, nor is what a dynamic linker takes at the first call of
  * memmove or memset, nor a memmove or memset that takes much itself (a
@@ -74,7 +85,7 @@ extern "C" {
  * Room for the order that run writes down: two steps an operation, one byte a
  * step. JAMTURRET_MOST_ORDER serves every sheet.
  *
- * The other rooms: JAMTURRET_REPORT (jamturret_report.h) for the report; for
+ * The other rooms: JAMTURRET_REPORT_OF (jamturret_report.h) for the report; for
  * the inboxes the sum of the inbox sizes in the board table. Longer rooms are
  * accepted, and what is left over of them keeps its bytes, save in scratch.
  */
@@ -113,11 +124,12 @@ enum jamturret_number {
     JAMTURRET_ROOM = 8,         /* first short room: an enum jamturret_room */
     JAMTURRET_ORDER = 9,        /* first index whose rank is above P-1 or not able */
     /* Premise only: why the order may matter. */
-    JAMTURRET_ANY_SOURCE = 20,   /* first receive or probe from any source */
-    JAMTURRET_READY = 21,        /* first ready send */
-    JAMTURRET_UNCOVERED = 22,    /* first rank whose buffer is short of its buffered sends */
-    JAMTURRET_STATUS_QUERY = 23, /* first status query */
-    /* jamturret_build only (jamturret_sheet.h): why nothing was written. */
+    JAMTURRET_ANY_SOURCE = 20,         /* first receive or probe from any source */
+    JAMTURRET_READY = 21,              /* first ready send */
+    JAMTURRET_UNCOVERED = 22,          /* first rank whose buffer is short of its buffered sends */
+    JAMTURRET_STATUS_QUERY = 23,       /* first status query */
+    JAMTURRET_STANDARD_UNCOVERED = 24, /* first rank whose room is short of its standard sends */
+    /* The builders only (jamturret_sheet.h): why nothing was written. */
     JAMTURRET_WIDE_HEADER = 30,    /* a number of the header does not fit its field; place 0 */
     JAMTURRET_WIDE_BOARD = 31,     /* first board with a number that does not fit its field */
     JAMTURRET_WIDE_OPERATION = 32, /* first operation with such a number */
@@ -146,16 +158,18 @@ jamturret_answer jamturret_check(const uint8_t *sheet, size_t sheet_len);
 
 /*
  * Says whether the order of steps can matter for a sheet. Refusals 1 to 7 as
- * check gives them; then 20 to 23, the lowest first, each at its first place
- * (an operation, but for 22 a rank). Success means: from the same inbox bytes,
- * any two orders that follow accepts and after which no board is able leave
- * the same inboxes and the same report, peaks aside, and so does run. The
+ * check gives them; then 20 to 24, the lowest first, each at its first place
+ * (an operation, but for 22 and 24 a rank). Success means: from the same inbox
+ * bytes, any two orders that follow accepts and after which no board is able
+ * leave the same inboxes and the same report, peaks aside, and so does run. The
  * verdict of one run is then that of every such order. A buffer covers the
  * buffered sends of its board where their charges, as if none were matched,
  * add up to at most its size; a charge is the length of a message and
  * JAMTURRET_BSEND_OVERHEAD. What a status query tells is a matter of the
  * order, and so is what a probe from any source tells; a probe of one source
- * is not (document 02, K9).
+ * is not (document 02, K9). A standard room, of edition 2, is 0 or has to cover
+ * the standard sends of its board, each with its length: in one that is too
+ * small for all of them the order decides which ones wait (document 02, K6).
  */
 jamturret_answer jamturret_premise(const uint8_t *sheet, size_t sheet_len);
 
@@ -167,7 +181,8 @@ jamturret_answer jamturret_premise(const uint8_t *sheet, size_t sheet_len);
  * A blocking one then has a waiting half, a second step that can be taken once
  * it is complete; a wait is only a waiting half, of the operation that holds
  * its slot. Send and receive are both complete at their match, whatever else
- * their boards do; a buffered send is complete, too, once it is in the buffer.
+ * their boards do; a buffered send is complete, too, once it is in the buffer,
+ * and in edition 2 a standard send once it is in the standard room.
  *
  * Probe and status query have one step each, which changes nothing but their
  * own row (document 02, K9). A probe tells the earliest arrived pending message
@@ -179,7 +194,8 @@ jamturret_answer jamturret_premise(const uint8_t *sheet, size_t sheet_len);
  * A board is able when the job is not stopped, the board is not finished, and
  * its next step is an initiating one, a waiting half whose operation is
  * complete, a probe that a pending message fits, or a status query. A step that
- * overflows a buffer, and a ready send without a posted receive, stop the job.
+ * overflows an attached buffer, and a ready send without a posted receive, stop
+ * the job. A standard send never does: one that does not fit the room waits.
  *
  * A message up to the receive's capacity is copied to the start of its area.
  * A longer one is cut: its first bytes fill the area, and the report tells its

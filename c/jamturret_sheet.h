@@ -5,6 +5,10 @@
  * A sheet is a header, a board table (an entry a rank), an operation table
  * (rank 0's script, then rank 1's, and so on) and the payload that sends read.
  * All numbers are little-endian: the low byte first.
+ *
+ * The two editions (document 02, K6) differ in the size of a board entry, and so
+ * in the offsets of what stands behind the board table. A sheet has a board or
+ * more, so that the operation table's offset is that of one edition alone.
  */
 /* Before the guard: jamturret.h includes its parts in their order. */
 #include "jamturret.h"
@@ -21,15 +25,17 @@ extern "C" {
 #define JAMTURRET_MOST_COMMUNICATORS 8
 #define JAMTURRET_MOST_OPERATIONS 2048 /* all boards together */
 #define JAMTURRET_MOST_PAYLOAD 16384
-#define JAMTURRET_MOST_ATTACHED 16384 /* the buffer of one board */
-#define JAMTURRET_MOST_INBOXES 16384  /* all inboxes of a sheet together */
+#define JAMTURRET_MOST_ATTACHED 16384      /* the buffer of one board */
+#define JAMTURRET_MOST_STANDARD_ROOM 16384 /* of one board, in edition 2 */
+#define JAMTURRET_MOST_INBOXES 16384       /* all inboxes of a sheet together */
 #define JAMTURRET_MOST_TAG 32767
 #define JAMTURRET_MOST_LENGTH 4096 /* of a message, and capacity of a receive */
 #define JAMTURRET_SLOTS 32         /* request slots of a board: 0 to 31 */
 
 /*
  * What a message in the attached buffer costs beside its bytes, an empty one
- * too (MPI_BSEND_OVERHEAD; document 02, K2).
+ * too (MPI_BSEND_OVERHEAD; document 02, K2). In a standard room a message costs
+ * its bytes alone.
  */
 #define JAMTURRET_BSEND_OVERHEAD 32
 
@@ -41,27 +47,30 @@ extern "C" {
 #define JAMTURRET_SHEET_COMMUNICATORS_AT 2   /* 2 bytes: C, 1 to 8; each holds all boards */
 #define JAMTURRET_SHEET_OPERATIONS_AT 4      /* 2 bytes: N, 0 to 2,048 */
 #define JAMTURRET_SHEET_BOARD_TABLE_AT 6     /* 2 bytes: its offset, 16 */
-#define JAMTURRET_SHEET_OPERATION_TABLE_AT 8 /* 2 bytes: its offset, 16 + 8 P */
-#define JAMTURRET_SHEET_PAYLOAD_AT 10        /* 2 bytes: its offset, 16 + 8 P + 16 N */
+#define JAMTURRET_SHEET_OPERATION_TABLE_AT 8 /* 2 bytes: 16 + 8 P, in edition 2 16 + 10 P */
+#define JAMTURRET_SHEET_PAYLOAD_AT 10        /* 2 bytes: 16 N behind the operation table's */
 #define JAMTURRET_SHEET_PAYLOAD_LENGTH_AT 12 /* 2 bytes: L, 0 to 16,384 */
 #define JAMTURRET_SHEET_CRC_AT 14            /* 2 bytes: what jamturret_crc gives */
 #define JAMTURRET_SHEET_HEADER_BYTES 16
 
 /*
- * Where a board entry's fields stand. Rank r's entry is at 16 + 8 r. Inboxes
- * lie one after another in rank order; the first entry that brings their total
- * above 16,384 is wrong.
+ * Where a board entry's fields stand. Rank r's entry is at 16 + 8 r, in edition
+ * 2 at 16 + 10 r. Inboxes lie one after another in rank order; the first entry
+ * that brings their total above 16,384 is wrong.
  */
 #define JAMTURRET_ENTRY_FIRST_AT 0    /* 2 bytes: first operation, the sum of the counts before */
 #define JAMTURRET_ENTRY_COUNT_AT 2    /* 2 bytes: its operations; all counts add up to N */
 #define JAMTURRET_ENTRY_ATTACHED_AT 4 /* 2 bytes: attached buffer size, 0 to 16,384 */
 #define JAMTURRET_ENTRY_INBOX_AT 6    /* 2 bytes: inbox size */
-#define JAMTURRET_ENTRY_BYTES 8
+#define JAMTURRET_ENTRY_BYTES 8       /* of an entry of edition 1 */
+#define JAMTURRET_ENTRY_STANDARD_ROOM_AT 8 /* 2 bytes, edition 2: standard room, 0 to 16,384 */
+#define JAMTURRET_ENTRY_2_BYTES 10         /* of an entry of edition 2 */
 
 /*
- * Where an operation's fields stand. Operation i is at 16 + 8 P + 16 i, with i
- * counted over the whole sheet. In a wait and in a status query all fields but
- * kind and slot are 0, in a probe all but kind, peer, communicator and tag.
+ * Where an operation's fields stand. Operation i is 16 i behind the operation
+ * table's offset, with i counted over the whole sheet. In a wait and in a status
+ * query all fields but kind and slot are 0, in a probe all but kind, peer,
+ * communicator and tag.
  *
  * Slots: a nonblocking operation takes a slot that its board does not hold,
  * and holds it. A wait names a held slot and frees it; a status query names a
@@ -92,7 +101,7 @@ extern "C" {
  * status query (document 02, K9) are MPI_PROBE and MPI_REQUEST_GET_STATUS.
  */
 enum jamturret_kind {
-    JAMTURRET_KIND_STANDARD = 1,    /* send: pending, not complete; never buffered here */
+    JAMTURRET_KIND_STANDARD = 1,    /* send: pending; complete where it fits the standard room */
     JAMTURRET_KIND_BUFFERED = 2,    /* send: in the attached buffer and complete, or overflow */
     JAMTURRET_KIND_SYNCHRONOUS = 3, /* send: pending, not complete */
     JAMTURRET_KIND_READY = 4,       /* send: the job stops, not ready */
@@ -107,14 +116,30 @@ enum jamturret_flag {
     JAMTURRET_FLAG_NONBLOCKING = 1 /* its board waits for it later on */
 };
 
-/* The length of a sheet, and of the longest. */
-#define JAMTURRET_SHEET(boards, operations, payload)                          \
+/* The length of a sheet of an edition, of one of edition 1, and of the longest of all. */
+#define JAMTURRET_SHEET_OF(edition, boards, operations, payload)              \
     (JAMTURRET_SHEET_HEADER_BYTES                                             \
-     + JAMTURRET_ENTRY_BYTES * JAMTURRET_CAST(size_t, boards)                 \
+     + JAMTURRET_ENTRY_BYTES_OF(edition) * JAMTURRET_CAST(size_t, boards)     \
      + JAMTURRET_OPERATION_BYTES * JAMTURRET_CAST(size_t, operations)         \
      + JAMTURRET_CAST(size_t, payload))
+#define JAMTURRET_ENTRY_BYTES_OF(edition)                                     \
+    JAMTURRET_CAST(size_t, (edition) == JAMTURRET_EDITION_2 ? JAMTURRET_ENTRY_2_BYTES \
+                                                            : JAMTURRET_ENTRY_BYTES)
+#define JAMTURRET_SHEET(boards, operations, payload)                          \
+    JAMTURRET_SHEET_OF(JAMTURRET_EDITION_1, boards, operations, payload)
 #define JAMTURRET_MOST_SHEET                                                  \
-    JAMTURRET_SHEET(JAMTURRET_MOST_BOARDS, JAMTURRET_MOST_OPERATIONS, JAMTURRET_MOST_PAYLOAD)
+    JAMTURRET_SHEET_OF(JAMTURRET_EDITION_2, JAMTURRET_MOST_BOARDS,            \
+                       JAMTURRET_MOST_OPERATIONS, JAMTURRET_MOST_PAYLOAD)
+
+/* The edition of a sheet that check accepts. */
+static inline unsigned jamturret_sheet_edition(const uint8_t *sheet)
+{
+    const size_t boards = jamturret_word_at(sheet, JAMTURRET_SHEET_BOARDS_AT);
+    return jamturret_word_at(sheet, JAMTURRET_SHEET_OPERATION_TABLE_AT)
+                   == JAMTURRET_SHEET_OF(JAMTURRET_EDITION_2, boards, 0, 0)
+               ? JAMTURRET_EDITION_2
+               : JAMTURRET_EDITION_1;
+}
 
 /*
  * THE BUILDER
@@ -220,10 +245,40 @@ static inline jamturret_answer jamturret_answer_of(uint32_t number, uint64_t pla
     return answer;
 }
 
-/* Numbers joined bit by bit fit into some bits exactly where each of them does. */
-static inline int jamturret_board_fits(const jamturret_board *board, uint32_t first)
+/*
+ * A job with the edition that it is laid out in. The rooms are those of the
+ * boards in rank order; they are not looked at in edition 1.
+ */
+typedef struct jamturret_layout {
+    const jamturret_job *job;
+    unsigned edition; /* an enum jamturret_edition */
+    const uint32_t *standard_rooms;
+} jamturret_layout;
+
+static inline uint32_t jamturret_layout_room(const jamturret_layout *layout, size_t rank)
 {
-    return (first | board->count | board->attached | board->inbox) <= 0xFFFF;
+    return layout->edition == JAMTURRET_EDITION_2 ? layout->standard_rooms[rank] : 0;
+}
+
+/* Where things stand in the sheet: behind so many boards, operations and payload bytes. */
+static inline size_t jamturret_layout_at(const jamturret_layout *layout, size_t boards,
+                                         size_t operations, size_t payload)
+{
+    return JAMTURRET_SHEET_OF(layout->edition, boards, operations, payload);
+}
+
+static inline size_t jamturret_layout_length(const jamturret_layout *layout)
+{
+    const jamturret_job *job = layout->job;
+    return jamturret_layout_at(layout, job->board_count, job->operation_count, job->payload_len);
+}
+
+/* Numbers joined bit by bit fit into some bits exactly where each of them does. */
+static inline int jamturret_board_fits(const jamturret_layout *layout, size_t rank, uint32_t first)
+{
+    const jamturret_board *board = &layout->job->boards[rank];
+    const uint32_t sizes = board->attached | board->inbox | jamturret_layout_room(layout, rank);
+    return (first | board->count | sizes) <= 0xFFFF;
 }
 
 static inline int jamturret_operation_fits(const jamturret_operation *operation)
@@ -234,24 +289,27 @@ static inline int jamturret_operation_fits(const jamturret_operation *operation)
 }
 
 /* Where the counts fit, the offset of the payload cannot wrap. */
-static inline int jamturret_header_fits(const jamturret_job *job)
+static inline int jamturret_header_fits(const jamturret_layout *layout)
 {
+    const jamturret_job *job = layout->job;
     const size_t counts
         = job->board_count | job->communicators | job->operation_count | job->payload_len;
-    return counts <= 0xFFFF && JAMTURRET_SHEET(job->board_count, job->operation_count, 0) <= 0xFFFF;
+    return counts <= 0xFFFF
+           && jamturret_layout_at(layout, job->board_count, job->operation_count, 0) <= 0xFFFF;
 }
 
 /* Why a job cannot be laid out in this room, or success. */
-static inline jamturret_answer jamturret_build_refusal(const jamturret_job *job, size_t sheet_room)
+static inline jamturret_answer jamturret_build_refusal(const jamturret_layout *layout,
+                                                       size_t sheet_room)
 {
+    const jamturret_job *job = layout->job;
     uint32_t first = 0;
     size_t i;
-    size_t needed;
-    if (!jamturret_header_fits(job)) {
+    if (!jamturret_header_fits(layout)) {
         return jamturret_answer_of(JAMTURRET_WIDE_HEADER, 0);
     }
     for (i = 0; i < job->board_count; i++) {
-        if (!jamturret_board_fits(&job->boards[i], first)) {
+        if (!jamturret_board_fits(layout, i, first)) {
             return jamturret_answer_of(JAMTURRET_WIDE_BOARD, i);
         }
         first += job->boards[i].count;
@@ -261,9 +319,8 @@ static inline jamturret_answer jamturret_build_refusal(const jamturret_job *job,
             return jamturret_answer_of(JAMTURRET_WIDE_OPERATION, i);
         }
     }
-    needed = JAMTURRET_SHEET(job->board_count, job->operation_count, job->payload_len);
-    if (sheet_room < needed) {
-        return jamturret_answer_of(JAMTURRET_SHEET_ROOM, needed);
+    if (sheet_room < jamturret_layout_length(layout)) {
+        return jamturret_answer_of(JAMTURRET_SHEET_ROOM, jamturret_layout_length(layout));
     }
     return jamturret_answer_of(JAMTURRET_SUCCESS, 0);
 }
@@ -275,25 +332,34 @@ static inline void jamturret_put_word(uint8_t *at, size_t value)
 }
 
 /* The header but its CRC, which is taken over all the rest. */
-static inline void jamturret_put_header(const jamturret_job *job, uint8_t *at)
+static inline void jamturret_put_header(const jamturret_layout *layout, uint8_t *at)
 {
+    const jamturret_job *job = layout->job;
     const size_t boards = job->board_count;
     const size_t operations = job->operation_count;
+    const size_t operation_table = jamturret_layout_at(layout, boards, 0, 0);
+    const size_t payload = jamturret_layout_at(layout, boards, operations, 0);
     jamturret_put_word(at + JAMTURRET_SHEET_BOARDS_AT, boards);
     jamturret_put_word(at + JAMTURRET_SHEET_COMMUNICATORS_AT, job->communicators);
     jamturret_put_word(at + JAMTURRET_SHEET_OPERATIONS_AT, operations);
-    jamturret_put_word(at + JAMTURRET_SHEET_BOARD_TABLE_AT, JAMTURRET_SHEET(0, 0, 0));
-    jamturret_put_word(at + JAMTURRET_SHEET_OPERATION_TABLE_AT, JAMTURRET_SHEET(boards, 0, 0));
-    jamturret_put_word(at + JAMTURRET_SHEET_PAYLOAD_AT, JAMTURRET_SHEET(boards, operations, 0));
+    jamturret_put_word(at + JAMTURRET_SHEET_BOARD_TABLE_AT, JAMTURRET_SHEET_HEADER_BYTES);
+    jamturret_put_word(at + JAMTURRET_SHEET_OPERATION_TABLE_AT, operation_table);
+    jamturret_put_word(at + JAMTURRET_SHEET_PAYLOAD_AT, payload);
     jamturret_put_word(at + JAMTURRET_SHEET_PAYLOAD_LENGTH_AT, job->payload_len);
 }
 
-static inline void jamturret_put_board(const jamturret_board *board, uint32_t first, uint8_t *at)
+static inline void jamturret_put_board(const jamturret_layout *layout, size_t rank, uint32_t first,
+                                       uint8_t *at)
 {
+    const jamturret_board *board = &layout->job->boards[rank];
     jamturret_put_word(at + JAMTURRET_ENTRY_FIRST_AT, first);
     jamturret_put_word(at + JAMTURRET_ENTRY_COUNT_AT, board->count);
     jamturret_put_word(at + JAMTURRET_ENTRY_ATTACHED_AT, board->attached);
     jamturret_put_word(at + JAMTURRET_ENTRY_INBOX_AT, board->inbox);
+    if (layout->edition == JAMTURRET_EDITION_2) {
+        jamturret_put_word(at + JAMTURRET_ENTRY_STANDARD_ROOM_AT,
+                           jamturret_layout_room(layout, rank));
+    }
 }
 
 static inline void jamturret_put_operation(const jamturret_operation *operation, uint8_t *at)
@@ -309,8 +375,39 @@ static inline void jamturret_put_operation(const jamturret_operation *operation,
     jamturret_put_word(at + JAMTURRET_OPERATION_SLOT_AT, operation->slot);
 }
 
+/* What the two builders below share: a job laid out in its edition. */
+static inline jamturret_answer jamturret_lay_out(const jamturret_layout *layout, uint8_t *sheet,
+                                                 size_t sheet_room)
+{
+    const jamturret_answer refusal = jamturret_build_refusal(layout, sheet_room);
+    const jamturret_job *job = layout->job;
+    uint8_t *at = sheet;
+    uint32_t first = 0;
+    size_t i;
+    if (refusal.number != JAMTURRET_SUCCESS) {
+        return refusal;
+    }
+    jamturret_put_header(layout, at);
+    at += JAMTURRET_SHEET_HEADER_BYTES;
+    for (i = 0; i < job->board_count; i++) {
+        jamturret_put_board(layout, i, first, at);
+        first += job->boards[i].count;
+        at += JAMTURRET_ENTRY_BYTES_OF(layout->edition);
+    }
+    for (i = 0; i < job->operation_count; i++) {
+        jamturret_put_operation(&job->operations[i], at);
+        at += JAMTURRET_OPERATION_BYTES;
+    }
+    for (i = 0; i < job->payload_len; i++) {
+        at[i] = job->payload[i];
+    }
+    jamturret_put_word(sheet + JAMTURRET_SHEET_CRC_AT,
+                       jamturret_crc(sheet, jamturret_layout_length(layout)));
+    return refusal;
+}
+
 /*
- * Lays out a job as a sheet, with its CRC, in the first
+ * Lays out a job as a sheet of edition 1, with its CRC, in the first
  * JAMTURRET_SHEET(board_count, operation_count, payload_len) bytes of a room
  * that shares no byte with the job's arrays; later bytes of it keep their
  * values. An array whose count is 0 is not looked at. A board's first
@@ -324,28 +421,21 @@ static inline void jamturret_put_operation(const jamturret_operation *operation,
 static inline jamturret_answer jamturret_build(const jamturret_job *job, uint8_t *sheet,
                                                size_t sheet_room)
 {
-    const jamturret_answer refusal = jamturret_build_refusal(job, sheet_room);
-    const size_t boards = job->board_count;
-    const size_t operations = job->operation_count;
-    uint32_t first = 0;
-    size_t i;
-    if (refusal.number != JAMTURRET_SUCCESS) {
-        return refusal;
-    }
-    jamturret_put_header(job, sheet);
-    for (i = 0; i < boards; i++) {
-        jamturret_put_board(&job->boards[i], first, sheet + JAMTURRET_SHEET(i, 0, 0));
-        first += job->boards[i].count;
-    }
-    for (i = 0; i < operations; i++) {
-        jamturret_put_operation(&job->operations[i], sheet + JAMTURRET_SHEET(boards, i, 0));
-    }
-    for (i = 0; i < job->payload_len; i++) {
-        sheet[JAMTURRET_SHEET(boards, operations, i)] = job->payload[i];
-    }
-    jamturret_put_word(sheet + JAMTURRET_SHEET_CRC_AT,
-                       jamturret_crc(sheet, JAMTURRET_SHEET(boards, operations, job->payload_len)));
-    return refusal;
+    const jamturret_layout layout = {job, JAMTURRET_EDITION_1, NULL};
+    return jamturret_lay_out(&layout, sheet, sheet_room);
+}
+
+/*
+ * The same as a sheet of edition 2, of JAMTURRET_SHEET_OF(JAMTURRET_EDITION_2,
+ * board_count, operation_count, payload_len) bytes, with the boards' standard
+ * rooms in rank order: an array of board_count numbers.
+ */
+static inline jamturret_answer jamturret_build_2(const jamturret_job *job,
+                                                 const uint32_t *standard_rooms, uint8_t *sheet,
+                                                 size_t sheet_room)
+{
+    const jamturret_layout layout = {job, JAMTURRET_EDITION_2, standard_rooms};
+    return jamturret_lay_out(&layout, sheet, sheet_room);
 }
 
 #ifdef __cplusplus

@@ -24,11 +24,13 @@ static inline const char *jamturret_refusal_words(uint32_t number)
     case JAMTURRET_RANGE:
         return "the number of boards, communicators, operations or payload bytes is out of range";
     case JAMTURRET_OFFSETS:
-        return "an offset, or the sheet's length, differs from what the sizes give";
+        return "an offset, or the sheet's length, differs from what the sizes give in either "
+               "edition";
     case JAMTURRET_CRC:
         return "the CRC differs";
     case JAMTURRET_BOARD:
-        return "a board entry is wrong, or the counts do not total the operations";
+        return "a board entry is wrong (first operation, attached size, inbox or standard room), "
+               "or the counts do not total the operations";
     case JAMTURRET_OPERATION:
         return "a field of an operation is wrong";
     case JAMTURRET_SLOT_OR_AREA:
@@ -46,6 +48,8 @@ static inline const char *jamturret_refusal_words(uint32_t number)
         return "an attached buffer does not cover all buffered sends of its board";
     case JAMTURRET_STATUS_QUERY:
         return "an operation is a status query";
+    case JAMTURRET_STANDARD_UNCOVERED:
+        return "a standard room is above 0 and does not cover all standard sends of its board";
     case JAMTURRET_WIDE_HEADER:
         return "a number of the header does not fit its field";
     case JAMTURRET_WIDE_BOARD:
@@ -65,6 +69,7 @@ static inline const char *jamturret_place_words(uint32_t number)
     switch (number) {
     case JAMTURRET_BOARD:
     case JAMTURRET_UNCOVERED:
+    case JAMTURRET_STANDARD_UNCOVERED:
     case JAMTURRET_WIDE_BOARD:
         return "rank";
     case JAMTURRET_OPERATION:

@@ -1,7 +1,7 @@
 /*
  * The headers' limits, kinds, refusals and sizes against the library: a sheet
  * with a number at its limit passes, one above is refused; rooms of the sizes
- * given serve, and one byte less is refused.
+ * given serve, and one byte less is refused. All of it in both editions.
  */
 #include "test_expect.h"
 
@@ -11,9 +11,13 @@ enum { BOARDS = JAMTURRET_MOST_BOARDS + 1, OPERATIONS = JAMTURRET_MOST_OPERATION
 
 static uint8_t payload[JAMTURRET_MOST_PAYLOAD + 1];
 static jamturret_board boards[BOARDS];
+static uint32_t standard_rooms[BOARDS];
 static jamturret_operation operations[OPERATIONS];
-static uint8_t sheet[JAMTURRET_SHEET(BOARDS, OPERATIONS, sizeof payload)];
+static uint8_t sheet[JAMTURRET_SHEET_OF(JAMTURRET_EDITION_2, BOARDS, OPERATIONS, sizeof payload)];
 static size_t sheet_len;
+
+/* That sheets are laid out in. */
+static unsigned edition;
 
 /* One board whose script is one empty send to itself. Each test changes a number of it. */
 static jamturret_job plain_job(void)
@@ -21,6 +25,7 @@ static jamturret_job plain_job(void)
     const jamturret_job job = {1, boards, 1, operations, 1, payload, JAMTURRET_MOST_PAYLOAD};
     size_t i;
     memset(boards, 0, sizeof boards);
+    memset(standard_rooms, 0, sizeof standard_rooms);
     boards[0].count = 1;
     for (i = 0; i < OPERATIONS; i++) {
         operations[i] = jamturret_send(JAMTURRET_KIND_STANDARD, 0, 0, 0, 0);
@@ -30,8 +35,14 @@ static jamturret_job plain_job(void)
 
 static jamturret_answer built(const jamturret_job *job)
 {
-    expect_answer("build", jamturret_build(job, sheet, sizeof sheet), JAMTURRET_SUCCESS, 0);
-    sheet_len = JAMTURRET_SHEET(job->board_count, job->operation_count, job->payload_len);
+    expect_answer("build",
+                  edition == JAMTURRET_EDITION_2
+                      ? jamturret_build_2(job, standard_rooms, sheet, sizeof sheet)
+                      : jamturret_build(job, sheet, sizeof sheet),
+                  JAMTURRET_SUCCESS, 0);
+    sheet_len
+        = JAMTURRET_SHEET_OF(edition, job->board_count, job->operation_count, job->payload_len);
+    expect("edition", jamturret_sheet_edition(sheet), edition);
     return jamturret_check(sheet, sheet_len);
 }
 
@@ -93,6 +104,41 @@ static void field_limits(void)
     }
 }
 
+/* A standard room at its most, and one byte above. */
+static void standard_room_limit(void)
+{
+    const jamturret_job job = plain_job();
+    edition = JAMTURRET_EDITION_2;
+    standard_rooms[0] = JAMTURRET_MOST_STANDARD_ROOM;
+    expect_answer("standard room", built(&job), JAMTURRET_SUCCESS, 0);
+    standard_rooms[0]++;
+    expect_answer("standard room", built(&job), JAMTURRET_BOARD, 0);
+}
+
+/*
+ * The largest room covers four of the longest messages and no byte more; sixteen
+ * of them and seventeen are 0 and 4,096 bytes modulo 65,536.
+ */
+static void standard_room_sums(void)
+{
+    static const uint32_t counts[] = {4, 5, 16, 17};
+    size_t i;
+    edition = JAMTURRET_EDITION_2;
+    for (i = 0; i < sizeof counts / sizeof counts[0]; i++) {
+        jamturret_job job = plain_job();
+        uint32_t sent;
+        standard_rooms[0] = JAMTURRET_MOST_STANDARD_ROOM;
+        boards[0].count = counts[i];
+        job.operation_count = counts[i];
+        for (sent = 0; sent < counts[i]; sent++) {
+            operations[sent].length = JAMTURRET_MOST_LENGTH;
+        }
+        expect_answer("long sends", built(&job), JAMTURRET_SUCCESS, 0);
+        expect_answer("long sends", jamturret_premise(sheet, sheet_len),
+                      counts[i] == 4 ? JAMTURRET_SUCCESS : JAMTURRET_STANDARD_UNCOVERED, 0);
+    }
+}
+
 /* Each kind is told from the others by what the library says of it. */
 static void kinds(void)
 {
@@ -137,7 +183,7 @@ static void refusals(void)
 {
     static const uint8_t order[] = {1};
     static uint8_t inbox[1];
-    static uint8_t report[JAMTURRET_REPORT(1, 1)];
+    static uint8_t report[JAMTURRET_REPORT_OF(JAMTURRET_EDITION_2, 1, 1)];
     static uint8_t scratch[JAMTURRET_SCRATCH];
     const jamturret_job job = plain_job();
     expect_answer("plain job", built(&job), JAMTURRET_SUCCESS, 0);
@@ -152,7 +198,7 @@ static void refusals(void)
 }
 
 /* The largest job: each room at its size, and each once a byte short. */
-static void rooms(void)
+static void rooms(size_t longest_sheet, size_t longest_report)
 {
     static uint8_t inbox[JAMTURRET_MOST_INBOXES];
     static uint8_t report[JAMTURRET_MOST_REPORT];
@@ -165,12 +211,12 @@ static void rooms(void)
     boards[0].count = JAMTURRET_MOST_OPERATIONS;
     boards[0].inbox = JAMTURRET_MOST_INBOXES;
     expect_answer("largest sheet", built(&job), JAMTURRET_SUCCESS, 0);
-    expect("longest sheet", JAMTURRET_MOST_SHEET, sheet_len);
+    expect("longest sheet", sheet_len, longest_sheet);
     for (room = 0; room <= JAMTURRET_ROOM_SCRATCH; room++) {
         const jamturret_answer answer
             = jamturret_run(sheet, sheet_len, inbox,
                             sizeof inbox - (room == JAMTURRET_ROOM_INBOX), report,
-                            sizeof report - (room == JAMTURRET_ROOM_REPORT), order,
+                            longest_report - (room == JAMTURRET_ROOM_REPORT), order,
                             sizeof order - (room == JAMTURRET_ROOM_ORDER_OUT), scratch,
                             sizeof scratch - (room == JAMTURRET_ROOM_SCRATCH));
         expect_answer("room", answer, room == 0 ? JAMTURRET_SUCCESS : JAMTURRET_ROOM, room);
@@ -179,10 +225,19 @@ static void rooms(void)
 
 int main(void)
 {
-    count_limits();
-    field_limits();
-    kinds();
-    refusals();
-    rooms();
+    for (edition = JAMTURRET_EDITION_1; edition <= JAMTURRET_EDITION_2; edition++) {
+        count_limits();
+        field_limits();
+        kinds();
+        refusals();
+    }
+    standard_room_limit();
+    standard_room_sums();
+    edition = JAMTURRET_EDITION_1;
+    rooms(49296, 24720);
+    edition = JAMTURRET_EDITION_2;
+    rooms(49328, 24784);
+    expect("longest sheet of all", JAMTURRET_MOST_SHEET, 49328);
+    expect("longest report of all", JAMTURRET_MOST_REPORT, 24784);
     return expect_end("limits_test");
 }

@@ -267,7 +267,7 @@ static void put_field(size_t operation, size_t at, uint32_t value)
     } else {
         jamturret_put_word(field, value);
     }
-    jamturret_put_word(sheet + JAMTURRET_SHEET_CRC_AT, jamturret_crc(sheet, sheet_len));
+    mend_crc();
 }
 
 typedef struct number {

@@ -1,8 +1,8 @@
 /*
  * jamturret_report.h and jamturret_words.h: where the fields stand, the readers
  * against document 01's whole report and against a report in which no two
- * fields are equal, verdicts and states against the library, and words for
- * every number.
+ * fields are equal, read in both editions, verdicts and states against the
+ * library, and words for every number.
  */
 #include "test_expect.h"
 
@@ -27,8 +27,9 @@ static void fields(void)
            JAMTURRET_SHEET_OPERATIONS_AT,      JAMTURRET_SHEET_BOARD_TABLE_AT,
            JAMTURRET_SHEET_OPERATION_TABLE_AT, JAMTURRET_SHEET_PAYLOAD_AT,
            JAMTURRET_SHEET_PAYLOAD_LENGTH_AT,  JAMTURRET_SHEET_CRC_AT};
-    static const size_t entry[] = {JAMTURRET_ENTRY_FIRST_AT, JAMTURRET_ENTRY_COUNT_AT,
-                                   JAMTURRET_ENTRY_ATTACHED_AT, JAMTURRET_ENTRY_INBOX_AT};
+    static const size_t entry[]
+        = {JAMTURRET_ENTRY_FIRST_AT, JAMTURRET_ENTRY_COUNT_AT, JAMTURRET_ENTRY_ATTACHED_AT,
+           JAMTURRET_ENTRY_INBOX_AT, JAMTURRET_ENTRY_STANDARD_ROOM_AT};
     static const size_t operation[]
         = {JAMTURRET_OPERATION_KIND_AT,   JAMTURRET_OPERATION_FLAG_AT,
            JAMTURRET_OPERATION_PEER_AT,   JAMTURRET_OPERATION_COMMUNICATOR_AT,
@@ -42,8 +43,10 @@ static void fields(void)
            JAMTURRET_REPORT_PENDING_MESSAGES_AT, JAMTURRET_REPORT_PENDING_RECEIVES_AT,
            JAMTURRET_REPORT_CUT_MESSAGES_AT};
     static const size_t board_row[]
-        = {JAMTURRET_BOARD_ROW_FINISHED_AT, JAMTURRET_BOARD_ROW_IN_USE_AT,
-           JAMTURRET_BOARD_ROW_PEAK_AT, JAMTURRET_BOARD_ROW_STATE_AT, JAMTURRET_BOARD_ROW_ZERO_AT};
+        = {JAMTURRET_BOARD_ROW_FINISHED_AT,        JAMTURRET_BOARD_ROW_IN_USE_AT,
+           JAMTURRET_BOARD_ROW_PEAK_AT,            JAMTURRET_BOARD_ROW_STATE_AT,
+           JAMTURRET_BOARD_ROW_ZERO_AT,            JAMTURRET_BOARD_ROW_STANDARD_IN_USE_AT,
+           JAMTURRET_BOARD_ROW_STANDARD_PEAK_AT};
     static const size_t operation_row[]
         = {JAMTURRET_OPERATION_ROW_STATE_AT,   JAMTURRET_OPERATION_ROW_CUT_AT,
            JAMTURRET_OPERATION_ROW_PARTNER_AT, JAMTURRET_OPERATION_ROW_SOURCE_AT,
@@ -51,9 +54,11 @@ static void fields(void)
            JAMTURRET_OPERATION_ROW_ZERO_AT};
     expect_fields("sheet's header", sheet, "22222222", JAMTURRET_SHEET_HEADER_BYTES);
     expect_fields("board entry", entry, "2222", JAMTURRET_ENTRY_BYTES);
+    expect_fields("board entry of edition 2", entry, "22222", JAMTURRET_ENTRY_2_BYTES);
     expect_fields("operation", operation, "112222222", JAMTURRET_OPERATION_BYTES);
     expect_fields("report's header", report, "112222222", JAMTURRET_REPORT_HEADER_BYTES);
     expect_fields("board row", board_row, "22211", JAMTURRET_BOARD_ROW_BYTES);
+    expect_fields("board row of edition 2", board_row, "2221122", JAMTURRET_BOARD_ROW_2_BYTES);
     expect_fields("operation row", operation_row, "1122222", JAMTURRET_OPERATION_ROW_BYTES);
 }
 
@@ -126,14 +131,35 @@ static void document_report(void)
     expect_operation("document 01's operation 1", report, 1, receive);
 }
 
-/* Each byte of two boards' and two operations' report is its own place, but P and N. */
+/* The rows of rank 1 and of operation 1, read whole. */
+static void expect_figures(const char *what, unsigned edition, const uint8_t *report,
+                           const unsigned *board, const unsigned *operation)
+{
+    const jamturret_board_figures read = jamturret_board_figures_of(edition, report, 1);
+    const jamturret_operation_figures told = jamturret_operation_figures_of(edition, report, 1);
+    const unsigned got[12] = {read.finished,        read.in_use,        read.peak,   read.state,
+                              read.standard_in_use, read.standard_peak, told.state,  told.cut,
+                              told.partner,         told.source,        told.tag,    told.length};
+    size_t i;
+    for (i = 0; i < 12; i++) {
+        expect(what, got[i], i < 6 ? board[i] : operation[i - 6]);
+    }
+}
+
+/*
+ * Each byte of two boards' and two operations' report is its own place, but P
+ * and N. Rank 1's row is at 24 and operation 1's at 44, in edition 2 at 28 and
+ * at 52.
+ */
 static void numbered_report(void)
 {
     static const unsigned header[]
         = {0x00, 0x01, 0x0302, 0x0504, 2, 2, 0x0B0A, 0x0D0C, 0x0F0E};
-    static const unsigned board[] = {0x1918, 0x1B1A, 0x1D1C, 0x1E};
+    static const unsigned board[] = {0x1918, 0x1B1A, 0x1D1C, 0x1E, 0, 0};
     static const unsigned operation[] = {0x2C, 0x2D, 0x2F2E, 0x3130, 0x3332, 0x3534};
-    uint8_t report[56];
+    static const unsigned board_2[] = {0x1D1C, 0x1F1E, 0x2120, 0x22, 0x2524, 0x2726};
+    static const unsigned operation_2[] = {0x34, 0x35, 0x3736, 0x3938, 0x3B3A, 0x3D3C};
+    uint8_t report[64];
     size_t i;
     for (i = 0; i < sizeof report; i++) {
         report[i] = JAMTURRET_CAST(uint8_t, i);
@@ -145,6 +171,9 @@ static void numbered_report(void)
     expect_header("numbered header", report, header);
     expect_board("numbered rank 1", report, 1, board);
     expect_operation("numbered operation 1", report, 1, operation);
+    expect_figures("numbered rows", JAMTURRET_EDITION_1, report, board, operation);
+    expect_figures("numbered rows of edition 2", JAMTURRET_EDITION_2, report, board_2, operation_2);
+    expect("length of edition 2", JAMTURRET_REPORT_OF(JAMTURRET_EDITION_2, 2, 2), sizeof report);
 }
 
 /* Rank 1's inbox of four bytes, and two bytes behind it. */
@@ -283,14 +312,14 @@ static void expect_words(const char *what, const char *(*words)(uint32_t), const
 static void words(void)
 {
     static const uint32_t refusals[]
-        = {0, 1, 2, 3, 4, 5, 6, 7, 8, 9, 20, 21, 22, 23, 30, 31, 32, 33};
+        = {0, 1, 2, 3, 4, 5, 6, 7, 8, 9, 20, 21, 22, 23, 24, 30, 31, 32, 33};
     static const uint32_t rooms[] = {1, 2, 3, 4};
     static const uint32_t verdicts[] = {0, 1, 2, 3, 4};
     static const uint32_t board_states[] = {0, 1, 2};
     static const uint32_t operation_states[] = {0, 1, 2, 3, 5};
     static const uint32_t completeness[] = {0, 1};
     uint32_t number;
-    expect_words("words of refusals", jamturret_refusal_words, refusals, 18);
+    expect_words("words of refusals", jamturret_refusal_words, refusals, 19);
     expect_words("words of rooms", room_words, rooms, 4);
     expect_words("words of verdicts", jamturret_verdict_words, verdicts, 5);
     expect_words("words of board states", jamturret_board_state_words, board_states, 3);
@@ -298,6 +327,8 @@ static void words(void)
     expect_words("words of queries", jamturret_complete_words, completeness, 2);
     expect("place of a status query",
            strcmp(jamturret_place_words(JAMTURRET_STATUS_QUERY), "operation") == 0, 1);
+    expect("place of a short standard room",
+           strcmp(jamturret_place_words(JAMTURRET_STANDARD_UNCOVERED), "rank") == 0, 1);
     for (number = 0; number < 1000; number++) {
         expect("words of places", strlen(jamturret_place_words(number)) > 0, 1);
     }

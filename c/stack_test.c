@@ -13,7 +13,7 @@
 #include <stdio.h>
 #include <stdlib.h>
 
-enum { STACK_BYTES = 64 * 1024, PAINT = 0xA5, SEEDS = 16 };
+enum { STACK_BYTES = 64 * 1024, PAINT = 0xA5, SEEDS = 32 };
 
 static _Alignas(4096) uint8_t stack[STACK_BYTES];
 static drawn_job job;

@@ -1,8 +1,8 @@
 /*
  * Jobs for the tests, drawn from a seed: sheets that pass check, of a given
  * number of operations, whose boards exchange messages in every mode, blocking
- * and with waits, some with probes and status queries. The same seed gives the
- * same sheet.
+ * and with waits, some with probes and status queries, half of them with
+ * standard rooms. The same seed gives the same sheet.
  */
 #ifndef TEST_JOBS_H
 #define TEST_JOBS_H
@@ -21,6 +21,7 @@ typedef struct style {
     int any_source;    /* some receives name any source */
     int may_stop;      /* ready sends, and buffers that may overflow */
     int asks;          /* half of the messages with probes or status queries */
+    int rooms;         /* edition 2, with standard rooms that some messages do not fit */
 } style;
 
 /* An operation, and the part of the table that it goes to: each board has two parts. */
@@ -35,6 +36,7 @@ typedef struct drawn_job {
     size_t count;
     drawn_operation drawn[JAMTURRET_MOST_OPERATIONS];
     jamturret_board boards[JAMTURRET_MOST_BOARDS];
+    uint32_t standard_rooms[JAMTURRET_MOST_BOARDS];
     jamturret_operation operations[JAMTURRET_MOST_OPERATIONS];
     uint8_t payload[JAMTURRET_MOST_PAYLOAD];
 } drawn_job;
@@ -143,17 +145,30 @@ static inline void sort_operations(drawn_job *job)
     }
 }
 
+static inline void draw_sizes(drawn_job *job)
+{
+    uint32_t rank;
+    size_t i;
+    for (rank = 0; rank < job->chosen.boards; rank++) {
+        job->boards[rank].attached = job->chosen.may_stop ? 2048 : JAMTURRET_MOST_ATTACHED;
+        job->boards[rank].inbox = INBOX;
+        job->standard_rooms[rank] = job->chosen.rooms ? draw(job, 3) * STRETCH : 0;
+    }
+    for (i = 0; i < sizeof job->payload; i++) {
+        job->payload[i] = JAMTURRET_CAST(uint8_t, draw(job, 256));
+    }
+}
+
 /*
  * Draws a job of an even number of operations and lays it out in a room of
- * JAMTURRET_MOST_SHEET bytes. The four lowest bits of the seed decide the
+ * JAMTURRET_MOST_SHEET bytes. The five lowest bits of the seed decide the
  * style. The sheet's length, or 0 if the builder refused.
  */
 static inline size_t draw_sheet(drawn_job *job, uint32_t seed, size_t operations, uint8_t *sheet)
 {
     jamturret_job plan = {2, job->boards, 0, job->operations, operations, job->payload,
                           sizeof job->payload};
-    uint32_t rank;
-    size_t i;
+    jamturret_layout layout = {&plan, JAMTURRET_EDITION_1, job->standard_rooms};
     memset(job, 0, sizeof *job);
     job->state = seed;
     job->chosen.boards = 2 + draw(job, JAMTURRET_MOST_BOARDS - 1);
@@ -161,22 +176,18 @@ static inline size_t draw_sheet(drawn_job *job, uint32_t seed, size_t operations
     job->chosen.any_source = (seed & 2) != 0;
     job->chosen.may_stop = (seed & 4) != 0;
     job->chosen.asks = (seed & 8) != 0;
+    job->chosen.rooms = (seed & 16) != 0;
     while (job->count < operations) {
         const size_t left = operations - job->count;
         const uint32_t messages = left >= 6 * BATCH && draw(job, 2) == 0 ? BATCH : 1;
         add_messages(job, messages, job->chosen.asks && left >= 4 && draw(job, 2) == 0);
     }
     sort_operations(job);
-    for (rank = 0; rank < job->chosen.boards; rank++) {
-        job->boards[rank].attached = job->chosen.may_stop ? 2048 : JAMTURRET_MOST_ATTACHED;
-        job->boards[rank].inbox = INBOX;
-    }
-    for (i = 0; i < sizeof job->payload; i++) {
-        job->payload[i] = JAMTURRET_CAST(uint8_t, draw(job, 256));
-    }
+    draw_sizes(job);
     plan.board_count = job->chosen.boards;
-    return jamturret_build(&plan, sheet, JAMTURRET_MOST_SHEET).number == JAMTURRET_SUCCESS
-               ? JAMTURRET_SHEET(plan.board_count, operations, sizeof job->payload)
+    layout.edition = job->chosen.rooms ? JAMTURRET_EDITION_2 : JAMTURRET_EDITION_1;
+    return jamturret_lay_out(&layout, sheet, JAMTURRET_MOST_SHEET).number == JAMTURRET_SUCCESS
+               ? jamturret_layout_length(&layout)
                : 0;
 }
 

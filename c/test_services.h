@@ -12,10 +12,12 @@
 /* The largest sheet of these tests, and what stands in a room before a call. */
 enum { TEST_OPERATIONS = 2 * JAMTURRET_SLOTS, TEST_INBOXES = 16, TEST_PAYLOAD = 8, FILL = 0xA5 };
 
-static uint8_t sheet[JAMTURRET_SHEET(JAMTURRET_MOST_BOARDS, TEST_OPERATIONS, TEST_PAYLOAD)];
+static uint8_t sheet[JAMTURRET_SHEET_OF(JAMTURRET_EDITION_2, JAMTURRET_MOST_BOARDS,
+                                        TEST_OPERATIONS, TEST_PAYLOAD)];
 static size_t sheet_len;
 static uint8_t inbox[TEST_INBOXES];
-static uint8_t report[JAMTURRET_REPORT(JAMTURRET_MOST_BOARDS, TEST_OPERATIONS)];
+static uint8_t report[JAMTURRET_REPORT_OF(JAMTURRET_EDITION_2, JAMTURRET_MOST_BOARDS,
+                                          TEST_OPERATIONS)];
 static uint8_t order[JAMTURRET_ORDER_OUT(TEST_OPERATIONS)];
 static uint8_t scratch[JAMTURRET_SCRATCH];
 
@@ -23,6 +25,21 @@ static inline void lay_out(const jamturret_job *job)
 {
     expect_answer("build", jamturret_build(job, sheet, sizeof sheet), JAMTURRET_SUCCESS, 0);
     sheet_len = JAMTURRET_SHEET(job->board_count, job->operation_count, job->payload_len);
+}
+
+/* In edition 2, with the boards' standard rooms. */
+static inline void lay_out_2(const jamturret_job *job, const uint32_t *standard_rooms)
+{
+    expect_answer("build", jamturret_build_2(job, standard_rooms, sheet, sizeof sheet),
+                  JAMTURRET_SUCCESS, 0);
+    sheet_len = JAMTURRET_SHEET_OF(JAMTURRET_EDITION_2, job->board_count, job->operation_count,
+                                   job->payload_len);
+}
+
+/* Of a sheet whose bytes were changed behind the builder's back. */
+static inline void mend_crc(void)
+{
+    jamturret_put_word(sheet + JAMTURRET_SHEET_CRC_AT, jamturret_crc(sheet, sheet_len));
 }
 
 static inline void fill_rooms(void)

@@ -112,7 +112,10 @@ static void *work(void *argument)
     return NULL;
 }
 
-/* Every ninth sheet has a bit flipped and is refused. The verdicts of run that came up, as bits. */
+/*
+ * Every ninth sheet has a bit flipped and is refused. The verdicts of run that
+ * came up, as bits, eight for each edition.
+ */
 static unsigned ask_alone(void)
 {
     static drawn_job drawn;
@@ -126,7 +129,8 @@ static unsigned ask_alone(void)
         }
         ask(job, &alone[job]);
         if (alone[job].answers[2].number == JAMTURRET_SUCCESS) {
-            verdicts |= 1u << jamturret_report_verdict(alone[job].run.report);
+            verdicts |= 1u << (jamturret_report_verdict(alone[job].run.report)
+                               + 8 * jamturret_sheet_edition(sheets[job].bytes));
         }
     }
     return verdicts;
@@ -134,13 +138,15 @@ static unsigned ask_alone(void)
 
 int main(void)
 {
-    const unsigned wanted = 1u << JAMTURRET_FINISHED | 1u << JAMTURRET_DEADLOCK
-                            | 1u << JAMTURRET_OVERFLOW | 1u << JAMTURRET_NOT_READY;
+    const unsigned each = 1u << JAMTURRET_FINISHED | 1u << JAMTURRET_DEADLOCK
+                          | 1u << JAMTURRET_OVERFLOW | 1u << JAMTURRET_NOT_READY;
+    const unsigned wanted
+        = each << 8 * JAMTURRET_EDITION_1 | each << 8 * JAMTURRET_EDITION_2;
     pthread_t threads[THREADS];
     int failed = 0;
     size_t i;
     if (ask_alone() != wanted) {
-        printf("threads: the jobs do not have every verdict of a run\n");
+        printf("threads: the jobs do not have every verdict of a run in both editions\n");
         return 1;
     }
     pthread_barrier_init(&start, NULL, THREADS);

@@ -2,6 +2,7 @@
 //! that the differential tests have to make (document 02, K5). A message is
 //! shorter than the area, fills it, or is cut.
 
+use crate::desk::row;
 use crate::layout::{board, kind, operation, word};
 use crate::sheet::{boards, entry_of, field_of, kind_of};
 
@@ -19,12 +20,11 @@ pub const LEFT: [&str; 7] = [
 /// Which cases a report on an accepted sheet shows.
 pub fn left(sheet: &[u8], report: &[u8]) -> [bool; LEFT.len()] {
     let mut found = [false; LEFT.len()];
-    let rows = 16 + 8 * boards(sheet);
     for rank in 0..boards(sheet) {
         let inbox = entry_of(sheet, rank, board::INBOX);
         let first = entry_of(sheet, rank, board::FIRST);
         for index in first..first + entry_of(sheet, rank, board::COUNT) {
-            let row = &report[rows + 12 * index..];
+            let row = row(sheet, report, index);
             if kind_of(sheet, index) == kind::RECEIVE && row[0] == 3 {
                 let length = field_of(sheet, usize::from(word(row, 2)), operation::LENGTH);
                 let start = field_of(sheet, index, operation::OFFSET);

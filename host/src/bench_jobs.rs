@@ -2,7 +2,7 @@
 //! Where they leave lengths and tags free, short ones are chosen.
 
 use crate::layout::kind::{BUFFERED, READY, STANDARD, SYNCHRONOUS};
-use crate::layout::ANY;
+use crate::layout::{Edition, ANY};
 use crate::sheet::{Board, Operation, Sheet};
 
 const INBOX: u16 = 16;
@@ -72,6 +72,11 @@ pub fn case_6() -> Sheet {
         &[send(STANDARD, 1, 0), receive(1, 0)],
         &[send(STANDARD, 0, 0), receive(0, 0)],
     ])
+}
+
+/// The same with these rooms for standard sends (document 02, K6).
+pub fn case_6_in_rooms(rooms: [u16; 2]) -> Sheet {
+    case_6().with_rooms(&rooms)
 }
 
 /// Two nonblocking sends, tag 0; nonblocking receives any tag, tag 0; waits.
@@ -166,11 +171,12 @@ pub fn case_14_operations(operations: usize) -> Sheet {
     };
     let script = (0..operations).map(operation).collect();
     Sheet {
+        edition: Edition::First,
         communicators: 1,
         boards: vec![Board {
             attached: 16_384,
-            inbox: 0,
             script,
+            ..Board::default()
         }],
         payload: Vec::new(),
     }
@@ -204,6 +210,9 @@ pub fn accepted() -> Vec<(&'static str, Sheet)> {
         ("4", case_4()),
         ("5", case_5()),
         ("6", case_6()),
+        ("6, rooms that cover", case_6_in_rooms([3, 3])),
+        ("6, rooms one byte short", case_6_in_rooms([2, 2])),
+        ("6, rooms of 0", case_6_in_rooms([0, 0])),
         ("7", case_7()),
         ("8", case_8()),
         ("9", case_9()),

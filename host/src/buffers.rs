@@ -3,6 +3,8 @@
 //! have to make: both sides of what a buffer holds, and sizes between the
 //! lengths and the charges.
 
+use crate::desk::{figure, row};
+use crate::layout::board_row::{IN_USE, PEAK};
 use crate::layout::{board, kind, operation, word, BSEND_OVERHEAD};
 use crate::sheet::{boards, entry_of, field_of, kind_of};
 use jamturret::lent::Answer;
@@ -77,16 +79,18 @@ pub const LEFT: [&str; 7] = [
 /// Which cases a report on an accepted sheet shows.
 pub fn left(sheet: &[u8], report: &[u8]) -> [bool; LEFT.len()] {
     let boards = boards(sheet);
-    let rows = 16 + 8 * boards;
-    let figure = |rank: usize, at| usize::from(word(report, 16 + 8 * rank + at));
+    let figure = |rank: usize, place| figure(sheet, report, rank, place);
     let attached = |rank| entry_of(sheet, rank, board::ATTACHED);
-    let charged = |rank: &usize| figure(*rank, 4) > 0;
-    let filled = |rank| figure(rank, 4) == attached(rank);
-    let released = |rank| figure(rank, 2) == 0;
-    let empty = |index| report[rows + 12 * index] == 2 && length(sheet, index) == 0;
+    let charged = |rank: &usize| figure(*rank, PEAK) > 0;
+    let filled = |rank| figure(rank, PEAK) == attached(rank);
+    let released = |rank| figure(rank, IN_USE) == 0;
+    let buffered = |index| kind_of(sheet, index) == kind::BUFFERED;
+    let empty =
+        |index| row(sheet, report, index)[0] == 2 && buffered(index) && length(sheet, index) == 0;
     let (rank, index) = (usize::from(report[1]), usize::from(word(report, 2)));
     let overflow = (report[0] == 3).then(|| length(sheet, index));
-    let missing = overflow.map(|length| figure(rank, 2) + length + BSEND_OVERHEAD - attached(rank));
+    let missing =
+        overflow.map(|length| figure(rank, IN_USE) + length + BSEND_OVERHEAD - attached(rank));
     [
         (0..boards).filter(charged).any(filled),
         (0..boards).filter(charged).any(released),

@@ -1,5 +1,5 @@
-//! What the two differential programs share: arguments, counting cases, and
-//! saying where the first difference is.
+//! What the two differential programs share: arguments, noting, naming and
+//! counting cases, and saying where the first difference is.
 
 use std::{env, fs, process};
 
@@ -22,6 +22,30 @@ pub fn tally<const N: usize>(counts: &mut [u64; N], found: [bool; N]) {
     for (count, found) in counts.iter_mut().zip(found) {
         *count += u64::from(found);
     }
+}
+
+/// Notes the cases that were made.
+pub fn note(found: &mut [bool], made: &[bool]) {
+    for (found, made) in found.iter_mut().zip(made) {
+        *found |= made;
+    }
+}
+
+/// The names of several groups of cases, one after the other.
+pub const fn names<const GROUPS: usize, const ALL: usize>(
+    groups: [&[&'static str]; GROUPS],
+) -> [&'static str; ALL] {
+    let mut all = [""; ALL];
+    let (mut group, mut at, mut count) = (0, 0, 0);
+    while group < GROUPS {
+        if at < groups[group].len() {
+            all[count] = groups[group][at];
+            (at, count) = (at + 1, count + 1);
+        } else {
+            (group, at) = (group + 1, 0);
+        }
+    }
+    all
 }
 
 /// The names of the cases that were found.

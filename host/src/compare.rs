@@ -105,6 +105,29 @@ pub fn agreed(sheet: &[u8], call: &Call, before: &Desk) -> Outcome {
     outcome.unwrap_or_else(|text| panic!("{call}: {text}"))
 }
 
+/// The same in rooms of just the size that the sheet needs: what a success leaves
+/// in them.
+fn accepted(sheet: &[u8], call: &Call) -> Desk {
+    let outcome = agreed(sheet, call, &Desk::for_sheet(sheet));
+    assert_eq!(outcome.answer, Answer::SUCCESS, "{call}");
+    outcome.desk
+}
+
+pub fn ran(sheet: &[u8]) -> Desk {
+    accepted(sheet, &Call::Run)
+}
+
+pub fn followed(sheet: &[u8], order: &[u8]) -> Desk {
+    accepted(sheet, &Call::Follow(order.to_vec()))
+}
+
+/// All agree on refusal 9 at this index.
+pub fn refused(sheet: &[u8], order: &[u8], index: u64) {
+    let call = Call::Follow(order.to_vec());
+    let outcome = agreed(sheet, &call, &Desk::for_sheet(sheet));
+    assert_eq!(outcome.answer, Answer::refusal(9, index), "{call}");
+}
+
 impl Outcome {
     /// The first difference, where there is one.
     fn same(&self, other: &Outcome) -> Result<(), String> {

@@ -1,21 +1,38 @@
 //! The rooms lent to *follow* and *run*, and reading the report, for tests.
 
 use crate::judge::{self, Rooms, SCRATCH_ROOM};
-use crate::layout::word;
+use crate::layout::{board, board_row, word, Edition, OPERATION_ROW_BYTES};
+use crate::sheet;
 use jamturret::lent::Answer;
 
 /// What every byte of a lent room holds before the call.
 pub const FILL: u8 = 0xEE;
 
-/// The row of an operation in a report.
-pub fn row(report: &[u8], operation: usize) -> &[u8] {
-    let rows = 16 + 8 * usize::from(word(report, 6));
-    &report[rows + 12 * operation..][..12]
+/// The row of an operation in a report on a sheet.
+pub fn row<'a>(sheet: &[u8], report: &'a [u8], operation: usize) -> &'a [u8] {
+    row_in(sheet::edition(sheet), report, operation)
+}
+
+fn row_in(edition: Edition, report: &[u8], operation: usize) -> &[u8] {
+    let start = edition.operation_row_at(boards(report), operation);
+    &report[start..][..OPERATION_ROW_BYTES]
+}
+
+/// A number of a board's row in a report on a sheet, by its place there.
+pub fn figure(sheet: &[u8], report: &[u8], rank: usize, place: usize) -> usize {
+    let start = sheet::edition(sheet).board_row_at(rank);
+    usize::from(word(report, start + place))
+}
+
+fn boards(report: &[u8]) -> usize {
+    usize::from(word(report, 6))
 }
 
 /// The rooms before or after a call.
 #[derive(Clone, Debug, PartialEq, Eq)]
 pub struct Desk {
+    /// That of the sheet, which the report itself does not tell.
+    pub edition: Edition,
     pub inbox: Vec<u8>,
     pub report: Vec<u8>,
     pub order_out: Vec<u8>,
@@ -26,12 +43,14 @@ impl Desk {
     /// Rooms of exactly the size that a sheet needs; its header and board
     /// table have to be right.
     pub fn for_sheet(sheet: &[u8]) -> Desk {
-        let boards = usize::from(word(sheet, 0));
+        let edition = sheet::edition(sheet);
+        let boards = sheet::boards(sheet);
         let operations = usize::from(word(sheet, 4));
-        let inbox = |rank: usize| usize::from(word(sheet, 16 + 8 * rank + 6));
+        let inbox = |rank: usize| sheet::entry_of(sheet, rank, board::INBOX);
         Desk {
+            edition,
             inbox: vec![FILL; (0..boards).map(inbox).sum()],
-            report: vec![FILL; 16 + 8 * boards + 12 * operations],
+            report: vec![FILL; edition.report_bytes(boards, operations)],
             order_out: vec![FILL; 2 * operations],
             scratch: vec![FILL; SCRATCH_ROOM],
         }
@@ -82,7 +101,12 @@ impl Desk {
 
     /// The row of an operation in the report.
     pub fn row(&self, operation: usize) -> &[u8] {
-        row(&self.report, operation)
+        row_in(self.edition, &self.report, operation)
+    }
+
+    /// A number of a board's row in the report, by its place there.
+    pub fn figure(&self, rank: usize, place: usize) -> usize {
+        usize::from(word(&self.report, self.edition.board_row_at(rank) + place))
     }
 
     /// How many operation rows say matched.
@@ -98,18 +122,24 @@ impl Desk {
 
     /// The ranks whose board row says able.
     pub fn able(&self) -> Vec<u8> {
-        let boards = usize::from(word(&self.report, 6));
-        let able = |rank: &usize| self.report[16 + 8 * rank + 6] == 1;
-        (0..boards).filter(able).map(|rank| rank as u8).collect()
+        let state = |rank: usize| self.report[self.edition.board_row_at(rank) + board_row::STATE];
+        let able = (0..boards(&self.report)).filter(|&rank| state(rank) == 1);
+        able.map(|rank| rank as u8).collect()
     }
 
-    /// Inboxes and report, with the peak of each board row set aside.
+    /// Inboxes and report, with the peaks of each board row set aside: one in
+    /// edition 1, two in edition 2 (document 02, K6).
     pub fn without_peaks(&self) -> (Vec<u8>, Vec<u8>) {
         let mut report = self.report.clone();
-        let boards = usize::from(word(&report, 6));
-        for rank in 0..boards {
-            report[16 + 8 * rank + 4] = 0;
-            report[16 + 8 * rank + 5] = 0;
+        let peaks: &[usize] = match self.edition {
+            Edition::First => &[board_row::PEAK],
+            Edition::Second => &[board_row::PEAK, board_row::STANDARD_PEAK],
+        };
+        for rank in 0..boards(&report) {
+            for peak in peaks {
+                let at = self.edition.board_row_at(rank) + peak;
+                report[at..at + 2].fill(0);
+            }
         }
         (self.inbox.clone(), report)
     }

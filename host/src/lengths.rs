@@ -1,10 +1,12 @@
 //! Long scripts, and the rooms that are lent for them: the cases around the
 //! most operations and around scratch that the differential tests have to make
-//! (document 02, K11).
+//! (document 02, K11), and the longest sheets and reports, which are of edition 2
+//! (K6).
 
 use crate::compare::{Call, Outcome};
 use crate::judge::SCRATCH_ROOM;
-use crate::layout::{header, kind, word, HEADER_BYTES, MOST_OPERATIONS};
+use crate::layout::{header, kind, word, Edition, HEADER_BYTES};
+use crate::layout::{MOST_BOARDS, MOST_OPERATIONS, MOST_PAYLOAD};
 use crate::sheet::kind_of;
 use jamturret::lent::Answer;
 
@@ -12,13 +14,17 @@ use jamturret::lent::Answer;
 const FIRST_MOST: usize = 1024;
 const FIRST_SCRATCH: usize = 32_768;
 
+/// A sheet whose numbers are all at their limits (document 02, K6).
+const LONGEST_SHEET: usize =
+    Edition::Second.operation_at(MOST_BOARDS, MOST_OPERATIONS) + MOST_PAYLOAD;
+
 /// N, where there is a header.
 fn operations(sheet: &[u8]) -> Option<usize> {
     (sheet.len() >= HEADER_BYTES).then(|| usize::from(word(sheet, header::OPERATIONS)))
 }
 
 /// What `asked` finds.
-pub const ASKED: [&str; 9] = [
+pub const ASKED: [&str; 10] = [
     "check, N 1,025 to 2,047",
     "check, N 2,048",
     "check, N 2,049, refused 2",
@@ -28,6 +34,7 @@ pub const ASKED: [&str; 9] = [
     "premise, 21 from operation 1,024 on",
     "premise, 23 from operation 1,024 on",
     "premise, 20 there, of a probe",
+    "check, 49,328 bytes, the longest of edition 2",
 ];
 
 /// Which cases the answers of check and premise make.
@@ -46,11 +53,12 @@ pub fn asked(sheet: &[u8], check: Answer, premise: Answer) -> [bool; ASKED.len()
         late(premise, 21),
         late(premise, 23),
         late(premise, 20) && kind_of(sheet, premise.place as usize) == kind::PROBE,
+        check.number == 0 && sheet.len() == LONGEST_SHEET,
     ]
 }
 
 /// What `called` finds.
-pub const CALLED: [&str; 14] = [
+pub const CALLED: [&str; 15] = [
     "run, N 2,048",
     "follow, N 2,048",
     "N 2,049 and short scratch, refused 2",
@@ -65,6 +73,7 @@ pub const CALLED: [&str; 14] = [
     "scratch between these, refused 8",
     "order out 4,096",
     "order out 4,095, refused 8",
+    "report 24,784, the longest of edition 2",
 ];
 
 /// Which cases the outcome of a call makes.
@@ -78,6 +87,7 @@ pub fn called(sheet: &[u8], call: &Call, outcome: &Outcome) -> [bool; CALLED.len
     let most = operations == Some(MOST_OPERATIONS);
     let stopped = || usize::from(word(&desk.report, 2));
     let short = |room| number == 8 && place == room;
+    let longest_report = Edition::Second.report_bytes(MOST_BOARDS, MOST_OPERATIONS);
     [
         success && most && run,
         success && most && !run,
@@ -93,5 +103,6 @@ pub fn called(sheet: &[u8], call: &Call, outcome: &Outcome) -> [bool; CALLED.len
         short(4) && (FIRST_SCRATCH + 1..SCRATCH_ROOM - 1).contains(&scratch),
         success && most && run && order_out == 2 * MOST_OPERATIONS,
         short(3) && most && order_out == 2 * MOST_OPERATIONS - 1,
+        success && Edition::Second == desk.edition && desk.report.len() == longest_report,
     ]
 }

@@ -13,6 +13,7 @@
 //! - `lengths`: the cases around long scripts and their rooms.
 //! - `requests_left`: the cases around requests that no wait frees.
 //! - `probes`: the cases around probes and status queries.
+//! - `editions`: the cases around the second edition and its rooms.
 //! - `searched`: the cases around the search of a waiting list.
 //! - `random`: a seeded generator of numbers.
 //! - `generate`: generators of sheets for the differential tests.
@@ -32,6 +33,7 @@ pub mod buffers;
 pub mod command;
 pub mod compare;
 pub mod desk;
+pub mod editions;
 pub mod generate;
 pub mod guarded;
 pub mod judge;

@@ -1,11 +1,11 @@
-//! Builds job sheets: boards, operations and payload in, bytes with the right
-//! offsets and CRC out; fields of right sheets read back; and the means to
-//! damage a field of those bytes and to mend the CRC afterwards (document 01,
-//! The sheet, byte by byte).
+//! Builds job sheets of both editions: boards, operations and payload in, bytes
+//! with the right offsets and CRC out; fields of right sheets read back; and the
+//! means to damage a field of those bytes and to mend the CRC afterwards
+//! (document 01, The sheet, byte by byte; document 02, K6).
 
 use crate::judge::crc::crc_of_sheet;
-use crate::layout::{header, kind, operation, word};
-use crate::layout::{BOARD_BYTES, HEADER_BYTES, MOST_LENGTH, OPERATION_BYTES};
+use crate::layout::{board, header, kind, operation, word};
+use crate::layout::{Edition, HEADER_BYTES, MOST_LENGTH, OPERATION_BYTES};
 
 #[derive(Clone, Copy, Debug, Default, PartialEq, Eq)]
 pub struct Operation {
@@ -101,26 +101,39 @@ impl Operation {
 pub struct Board {
     pub attached: u16,
     pub inbox: u16,
+    /// For standard sends, in edition 2; edition 1 has none.
+    pub room: u16,
     pub script: Vec<Operation>,
+}
+
+impl Board {
+    /// The lengths of all standard sends together.
+    pub fn standard_lengths(&self) -> usize {
+        let standard = |each: &&Operation| each.kind == kind::STANDARD;
+        let sends = self.script.iter().filter(standard);
+        sends.map(|send| usize::from(send.length)).sum()
+    }
 }
 
 #[derive(Clone, Debug)]
 pub struct Sheet {
+    pub edition: Edition,
     pub communicators: u16,
     pub boards: Vec<Board>,
     pub payload: Vec<u8>,
 }
 
 impl Sheet {
-    /// One board a script, with inboxes of one size, nothing attached, one
-    /// communicator and a payload of different bytes.
+    /// Of edition 1: one board a script, with inboxes of one size, nothing
+    /// attached, one communicator and a payload of different bytes.
     pub fn of_scripts(scripts: &[&[Operation]], inbox: u16) -> Sheet {
         let board = |script: &&[Operation]| Board {
-            attached: 0,
             inbox,
             script: script.to_vec(),
+            ..Board::default()
         };
         Sheet {
+            edition: Edition::First,
             communicators: 1,
             boards: scripts.iter().map(board).collect(),
             payload: (1..=32).collect(),
@@ -132,6 +145,22 @@ impl Sheet {
         self
     }
 
+    /// The same boards in edition 2, with these rooms.
+    pub fn with_rooms(mut self, rooms: &[u16]) -> Sheet {
+        assert_eq!(rooms.len(), self.boards.len(), "a room a board");
+        self.edition = Edition::Second;
+        for (board, room) in self.boards.iter_mut().zip(rooms) {
+            board.room = *room;
+        }
+        self
+    }
+
+    /// The same boards in edition 2, all with this room.
+    pub fn with_room(self, room: u16) -> Sheet {
+        let rooms = vec![room; self.boards.len()];
+        self.with_rooms(&rooms)
+    }
+
     pub fn operations(&self) -> usize {
         self.boards.iter().map(|board| board.script.len()).sum()
     }
@@ -139,7 +168,7 @@ impl Sheet {
     /// The sheet's bytes. Limits are not looked at, so that sheets beyond
     /// them can be built; the numbers have to fit into 16 bits.
     pub fn bytes(&self) -> Vec<u8> {
-        let operation_table = HEADER_BYTES + BOARD_BYTES * self.boards.len();
+        let operation_table = self.edition.entry_at(self.boards.len());
         let payload = operation_table + OPERATION_BYTES * self.operations();
         let mut out = Vec::with_capacity(payload + self.payload.len());
         push_words(
@@ -158,7 +187,8 @@ impl Sheet {
         let mut first = 0;
         for board in &self.boards {
             let count = board.script.len() as u16;
-            push_words(&mut out, &[first, count, board.attached, board.inbox]);
+            let numbers = [first, count, board.attached, board.inbox, board.room];
+            push_words(&mut out, &numbers[..self.edition.entry_bytes() / 2]);
             first += count;
         }
         for operation in self.boards.iter().flat_map(|board| &board.script) {
@@ -181,29 +211,47 @@ pub fn boards(sheet: &[u8]) -> usize {
     usize::from(word(sheet, header::BOARDS))
 }
 
-/// Where a board's entry starts.
-pub fn board_at(rank: usize) -> usize {
-    HEADER_BYTES + BOARD_BYTES * rank
+/// The edition that the operation table's offset tells; the first if it tells
+/// none.
+pub fn edition(sheet: &[u8]) -> Edition {
+    if sheet.len() < HEADER_BYTES {
+        return Edition::First;
+    }
+    let table = usize::from(word(sheet, header::OPERATION_TABLE));
+    Edition::told_by(boards(sheet), table).unwrap_or_default()
 }
 
-/// Where an operation starts in a sheet of `boards` boards.
-pub fn operation_at(boards: usize, index: usize) -> usize {
-    board_at(boards) + OPERATION_BYTES * index
+/// Where a board's entry starts.
+pub fn entry_at(sheet: &[u8], rank: usize) -> usize {
+    edition(sheet).entry_at(rank)
+}
+
+/// Where an operation starts.
+pub fn operation_at(sheet: &[u8], index: usize) -> usize {
+    edition(sheet).operation_at(boards(sheet), index)
 }
 
 /// An operation's kind.
 pub fn kind_of(sheet: &[u8], index: usize) -> u8 {
-    sheet[operation_at(boards(sheet), index) + operation::KIND]
+    sheet[operation_at(sheet, index) + operation::KIND]
 }
 
 /// A number of an operation, by its place there.
 pub fn field_of(sheet: &[u8], index: usize, field: usize) -> usize {
-    usize::from(word(sheet, operation_at(boards(sheet), index) + field))
+    usize::from(word(sheet, operation_at(sheet, index) + field))
 }
 
 /// A number of a board's entry, by its place there.
 pub fn entry_of(sheet: &[u8], rank: usize, field: usize) -> usize {
-    usize::from(word(sheet, board_at(rank) + field))
+    usize::from(word(sheet, entry_at(sheet, rank) + field))
+}
+
+/// A board's room for standard sends: 0 in edition 1.
+pub fn room_of(sheet: &[u8], rank: usize) -> usize {
+    match edition(sheet) {
+        Edition::First => 0,
+        Edition::Second => entry_of(sheet, rank, board::ROOM),
+    }
 }
 
 pub fn set_word(sheet: &mut [u8], at: usize, value: u16) {

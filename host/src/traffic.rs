@@ -1,18 +1,21 @@
 //! The jobs that are timed, and that the tests use as large jobs: ring and
 //! all-to-one traffic of empty blocking buffered sends and their receives on
-//! sixteen boards, both also with probes (document 02, K9), and messages of
-//! 4,096 bytes. Each is made of a number of operations, a multiple of 32.
+//! sixteen boards, both also with probes (document 02, K9), a ring of standard
+//! sends in rooms (K6), and messages of 4,096 bytes. Each is made of a number of
+//! operations, a multiple of 32.
 
 use crate::layout::kind::{BUFFERED, STANDARD};
-use crate::layout::{BSEND_OVERHEAD, MOST_BOARDS, MOST_LENGTH, MOST_PAYLOAD};
+use crate::layout::{Edition, BSEND_OVERHEAD, MOST_BOARDS, MOST_COMMUNICATORS};
+use crate::layout::{MOST_LENGTH, MOST_OPERATIONS, MOST_PAYLOAD};
 use crate::sheet::{Board, Operation, Sheet};
 
 /// All of them. Nothing waits long in the rings but the second, and in the last
 /// two; in the others half of the operations are pending at once.
-pub const SHAPES: [(&str, fn(usize) -> Sheet); 7] = [
+pub const SHAPES: [(&str, fn(usize) -> Sheet); 8] = [
     ("ring", ring),
     ("ring, sends first", ring_sends_first),
     ("ring, probes before receives", ring_probed),
+    ("ring, standard sends in rooms", ring_in_rooms),
     ("all to one", all_to_one),
     ("all to one beside a probe", all_to_one_beside_probe),
     ("messages of 4,096 bytes", heavy),
@@ -56,6 +59,41 @@ pub fn ring_probed(operations: usize) -> Sheet {
         let first = [send, probe, receive].repeat(probed);
         [first, [send, receive].repeat(rest)].concat()
     }))
+}
+
+/// The bytes of a message in a room.
+const IN_ROOM: u16 = 8;
+
+/// The same with standard sends of some bytes. The rooms cover them all; without
+/// them the first sends of all boards would wait for each other.
+pub fn ring_in_rooms(operations: usize) -> Sheet {
+    let scripts = ring_scripts(operations, |send, receive, count| {
+        let send = Operation {
+            kind: STANDARD,
+            length: IN_ROOM,
+            ..send
+        };
+        let receive = Operation {
+            length: IN_ROOM,
+            ..receive
+        };
+        [send, receive].repeat(count / 2)
+    });
+    let scripts: Vec<&[Operation]> = scripts.iter().map(Vec::as_slice).collect();
+    let sheet = Sheet::of_scripts(&scripts, IN_ROOM);
+    let rooms = sheet.boards.iter().map(|board| board.standard_lengths());
+    let rooms: Vec<u16> = rooms.map(|room| room as u16).collect();
+    sheet.with_rooms(&rooms)
+}
+
+/// The longest sheet there is, in edition 2 with all numbers at their limits:
+/// the same with the most operations, communicators and payload.
+pub fn longest() -> Sheet {
+    Sheet {
+        communicators: MOST_COMMUNICATORS as u16,
+        payload: full_payload(),
+        ..ring_in_rooms(MOST_OPERATIONS)
+    }
 }
 
 /// The same with all sends of a board before its receives, so that half of
@@ -137,23 +175,28 @@ fn heavy_into(capacity: u16, operations: usize) -> Sheet {
         let to = (rank + PAIRS) as u16;
         let send = |message| Operation::send(STANDARD, to, 0, stretch(message), MOST_LENGTH);
         boards.push(Board {
-            attached: 0,
-            inbox: 0,
             script: (0..messages).map(send).collect(),
+            ..Board::default()
         });
     }
     for rank in 0..PAIRS {
         boards.push(Board {
-            attached: 0,
             inbox: MOST_LENGTH,
             script: vec![Operation::receive(rank as u16, 0, 0, capacity); messages],
+            ..Board::default()
         });
     }
     Sheet {
+        edition: Edition::First,
         communicators: 1,
         boards,
-        payload: (0..MOST_PAYLOAD)
-            .map(|at| (at * 7 + at / 256) as u8)
-            .collect(),
+        payload: full_payload(),
     }
+}
+
+/// The most payload, of different bytes.
+pub fn full_payload() -> Vec<u8> {
+    (0..MOST_PAYLOAD)
+        .map(|at| (at * 7 + at / 256) as u8)
+        .collect()
 }

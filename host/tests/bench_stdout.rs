@@ -5,18 +5,22 @@
 use jamturret::lent::Answer;
 use jamturret_host::desk::Desk;
 use jamturret_host::judge::{self, crc, SCRATCH_ROOM};
-use jamturret_host::layout::{word, MOST_BOARDS, MOST_INBOX_TOTAL, MOST_OPERATIONS};
+use jamturret_host::layout::{word, Edition, MOST_BOARDS, MOST_INBOX_TOTAL, MOST_OPERATIONS};
+use jamturret_host::sheet::edition;
 use std::fmt::Write;
 use std::fs;
 
 const FOLDER: &str = concat!(env!("CARGO_MANIFEST_DIR"), "/../crates/bench_jobs");
 
 /// The rooms as the program lends them: the largest, each with a byte of its
-/// own, and order out a byte longer.
-fn rooms() -> Desk {
+/// own, and order out a byte longer. The largest report is of edition 2
+/// (document 02, K6).
+fn rooms(sheet: &[u8]) -> Desk {
+    let report = Edition::Second.report_bytes(MOST_BOARDS, MOST_OPERATIONS);
     Desk {
+        edition: edition(sheet),
         inbox: vec![90; MOST_INBOX_TOTAL],
-        report: vec![238; 16 + 8 * MOST_BOARDS + 12 * MOST_OPERATIONS],
+        report: vec![238; report],
         order_out: vec![221; 2 * MOST_OPERATIONS + 1],
         scratch: vec![204; SCRATCH_ROOM],
     }
@@ -37,7 +41,7 @@ fn digests(out: &mut String, desk: &Desk) {
 }
 
 fn follow(out: &mut String, name: &str, sheet: &[u8], order: &[u8]) {
-    let mut desk = rooms();
+    let mut desk = rooms(sheet);
     answer(out, name, desk.naive_follow(sheet, order));
     digests(out, &desk);
 }
@@ -47,7 +51,7 @@ fn printed(name: &str, sheet: &[u8]) -> String {
     let mut out = String::new();
     answer(&mut out, &format!("{name}: check"), judge::check(sheet));
     answer(&mut out, "  premise", judge::premise(sheet));
-    let mut desk = rooms();
+    let mut desk = rooms(sheet);
     let ran = desk.naive_run(sheet);
     answer(&mut out, "  run", ran);
     digest(&mut out, "order", &desk.order_out);

@@ -3,13 +3,13 @@
 //! name, over generated sheets.
 
 use jamturret::{
-    follow, run, BoardState, Mode, Operation, OperationState, Outcome, Report, Sheet, Source, Tag,
-    Verdict,
+    follow, run, BoardState, Edition, Mode, Operation, OperationState, Outcome, Report, Sheet,
+    Source, Tag, Verdict,
 };
 use jamturret_host::desk::Desk;
 use jamturret_host::judge;
-use jamturret_host::layout::{kind, operation, word, ANY};
-use jamturret_host::sheet::{board_at, operation_at};
+use jamturret_host::layout::{self, kind, operation, word, ANY};
+use jamturret_host::sheet::{edition, entry_of, operation_at, room_of};
 use jamturret_host::trial;
 use std::iter;
 
@@ -94,26 +94,33 @@ fn numbers_at(sheet: &[u8], at: usize) -> [usize; 9] {
     ]
 }
 
+/// The edition as our own reading has it.
+fn own(edition: Edition) -> layout::Edition {
+    match edition {
+        Edition::First => layout::Edition::First,
+        Edition::Second => layout::Edition::Second,
+    }
+}
+
 /// The parts of a sheet are those that our own reading finds.
 fn parts_agree(sheet: &Sheet, bytes: &[u8]) {
+    assert_eq!(own(sheet.edition()), edition(bytes));
     let boards = sheet.boards();
     let header = [boards.len(), sheet.communicators()];
     assert_eq!(header, [0, 2].map(|at| usize::from(word(bytes, at))));
     for (rank, board) in boards.iter().enumerate() {
         let entry = [board.script.len(), board.attached, board.inbox];
-        let field = |place| usize::from(word(bytes, board_at(rank) + place));
+        let field = |place| entry_of(bytes, rank, place);
         assert_eq!(entry, [2, 4, 6].map(field), "rank {rank}");
+        assert_eq!(board.standard_room, room_of(bytes, rank), "rank {rank}");
     }
     let operations = usize::from(word(bytes, 4));
     for index in 0..operations {
-        let expected = numbers_at(bytes, operation_at(boards.len(), index));
+        let expected = numbers_at(bytes, operation_at(bytes, index));
         assert_eq!(sheet.operation(index).map(numbers), Some(expected));
     }
     assert_eq!(sheet.operation(operations), None);
-    assert_eq!(
-        sheet.payload(),
-        &bytes[operation_at(boards.len(), operations)..]
-    );
+    assert_eq!(sheet.payload(), &bytes[operation_at(bytes, operations)..]);
 }
 
 fn verdict(report: &Report) -> u8 {
@@ -163,7 +170,11 @@ fn report_bytes(report: &Report) -> Vec<u8> {
     for row in report.boards() {
         let state = board_state(row.state);
         let numbers = [row.finished, row.in_use, row.peak, state];
-        bytes.extend(numbers.into_iter().flat_map(two));
+        let standard = row
+            .standard
+            .map(|standard| [standard.in_use, standard.peak]);
+        let numbers = numbers.into_iter().chain(standard.into_iter().flatten());
+        bytes.extend(numbers.flat_map(two));
     }
     for row in report.operations() {
         let cut = row.status.is_some_and(|status| status.cut);
@@ -182,6 +193,7 @@ fn report_bytes(report: &Report) -> Vec<u8> {
 /// An outcome is what our judge leaves in the rooms, and its report says by
 /// name what the bytes say.
 fn outcome_agrees(outcome: &Outcome, desk: &Desk, order: &[u8]) {
+    assert_eq!(own(outcome.report.edition()), desk.edition);
     assert_eq!(outcome.report.bytes(), desk.report);
     assert_eq!(report_bytes(&outcome.report), desk.report);
     assert_eq!(outcome.inboxes.concat(), desk.inbox);
@@ -190,7 +202,7 @@ fn outcome_agrees(outcome: &Outcome, desk: &Desk, order: &[u8]) {
 
 #[test]
 fn crate_agrees() {
-    let (mut accepted, mut refused) = (0, 0);
+    let (mut accepted, mut refused) = ([0; 2], 0);
     for number in 0..CASES {
         let (_, bytes, _) = trial::sheet(SEED, number);
         let expected = judge::check(&bytes);
@@ -205,7 +217,8 @@ fn crate_agrees() {
         };
         assert_eq!(expected.number, 0, "case {number}");
         parts_agree(&sheet, &bytes);
-        let built = Sheet::build(
+        let built = Sheet::build_in(
+            sheet.edition(),
             sheet.communicators(),
             sheet.boards().to_vec(),
             sheet.payload(),
@@ -223,7 +236,8 @@ fn crate_agrees() {
         desk.naive_follow(&bytes, order);
         let followed = follow(&sheet, order, Some(&start)).expect("a beginning");
         outcome_agrees(&followed, &desk, order);
-        accepted += 1;
+        accepted[own(sheet.edition()) as usize] += 1;
     }
-    assert!(accepted > 1000 && refused > 100, "{accepted} and {refused}");
+    let enough = accepted.iter().all(|&count| count > 1000) && refused > 100;
+    assert!(enough, "{accepted:?} and {refused}");
 }

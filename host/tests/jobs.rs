@@ -71,7 +71,7 @@ impl Outcome {
 
     /// Finished, buffer in use, peak, state.
     fn board(&self, rank: usize, expected: (u16, u16, u16, u8)) {
-        let row = &self.desk.report[16 + 8 * rank..];
+        let row = &self.desk.report[self.desk.edition.board_row_at(rank)..];
         assert_eq!((word(row, 0), word(row, 2), word(row, 4), row[6]), expected);
     }
 

@@ -1,15 +1,15 @@
 //! The most operations for each service, and both sides of the rooms that they
-//! ask for (document 02, K11), through the library and both judges. The
-//! answers are written down by hand.
+//! ask for (document 02, K11), also in edition 2 (K6), through the library and
+//! both judges. The answers are written down by hand.
 
 use jamturret::lent::Answer;
 use jamturret_host::compare::{self, Call};
 use jamturret_host::desk::{Desk, FILL};
 use jamturret_host::layout::kind::READY;
-use jamturret_host::layout::{word, ANY};
+use jamturret_host::layout::{word, Edition, ANY};
 use jamturret_host::random::Random;
 use jamturret_host::sheet::{Operation, Sheet};
-use jamturret_host::{bench_jobs, guarded, judge};
+use jamturret_host::{bench_jobs, guarded, judge, traffic};
 
 /// All of them agree on a call and answer this; the rooms after it.
 fn expect(
@@ -60,6 +60,49 @@ fn rooms_of_the_longest_sheet() {
     }
 }
 
+/// A ring that finishes in its rooms (document 02, K6).
+#[test]
+fn longest_sheet_of_edition_2() {
+    let sheet = traffic::longest().bytes();
+    assert_eq!(sheet.len(), 49_328);
+    let mut rooms = Desk::for_sheet(&sheet);
+    assert_eq!((rooms.report.len(), rooms.order_out.len()), (24_784, 4096));
+    let ran = expect("run", &sheet, &Call::Run, &rooms, (0, 0));
+    assert_eq!((ran.verdict(), ran.steps()), (1, 4096));
+    let order = Call::Follow(ran.order().to_vec());
+    let followed = expect("follow", &sheet, &order, &rooms, (0, 0));
+    assert_eq!(followed.report, ran.report);
+    for length in [24_783, 24_720, 24_719] {
+        rooms.report.truncate(length);
+        for call in [Call::Run, Call::Follow(Vec::new())] {
+            let name = format!("report {length}");
+            expect(&name, &sheet, &call, &rooms, (8, 2));
+        }
+    }
+}
+
+/// The last of sixteen rooms: one byte short, or above the limit.
+#[test]
+fn last_room() {
+    for (room, check, premise) in [
+        (512, (0, 0), (0, 0)),
+        (511, (0, 0), (24, 15)),
+        (0, (0, 0), (0, 0)),
+        (16_385, (5, 15), (5, 15)),
+    ] {
+        let mut sheet = traffic::longest();
+        sheet.boards[15].room = room;
+        let sheet = sheet.bytes();
+        let [check, premise] =
+            [check, premise].map(|(number, place)| Answer::refusal(number, place));
+        let random = &mut Random::new(6);
+        assert_eq!(guarded::check(&sheet, random), Ok(check), "room {room}");
+        assert_eq!(judge::check(&sheet), check);
+        assert_eq!(guarded::premise(&sheet, random), Ok(premise), "room {room}");
+        assert_eq!(judge::premise(&sheet), premise);
+    }
+}
+
 /// Whatever N is; 8 goes before 9.
 #[test]
 fn scratch() {
@@ -83,6 +126,7 @@ fn scratch() {
 fn one_operation_more() {
     let sheet = bench_jobs::case_14_operations(2049).bytes();
     let none = Desk {
+        edition: Edition::First,
         inbox: Vec::new(),
         report: Vec::new(),
         order_out: Vec::new(),

@@ -1,4 +1,4 @@
-//! Whether the order of steps can matter for a sheet: 20 to 23, the lowest
+//! Whether the order of steps can matter for a sheet: 20 to 24, the lowest
 //! number first, each at its first place (document 01, What is pinned down).
 
 use jamturret::lent::Answer;
@@ -83,13 +83,14 @@ fn refusals_of_check_come_first() {
     let mut bytes = sheet(&[Operation::receive(ANY, 0, 0, 1), send(READY, 1)], 0);
     expect("accepted", &bytes, 20, 0);
     expect("under 16 bytes", &bytes[..15], 1, 0);
-    bytes[operation_at(2, 1) + operation::ZERO] = 1;
+    let at = operation_at(&bytes, 1);
+    bytes[at + operation::ZERO] = 1;
     expect("crc", &bytes, 4, 0);
     mend_crc(&mut bytes);
     expect("field", &bytes, 6, 1);
 }
 
-/// Document 02, K7: 7 for a request that is forgotten comes before 20 to 22.
+/// Document 02, K7: 7 for a request that is forgotten comes before 20 to 24.
 #[test]
 fn forgotten_requests_come_first() {
     let any = Operation::receive(ANY, 0, 0, 1);
@@ -146,9 +147,73 @@ fn probes_and_queries() {
     expect("6 first", &sheet(&[any, Operation::query(32)], 0), 6, 1);
 }
 
+/// Document 02, K6: 24 at the first rank whose room is above 0 and does not cover
+/// the lengths of its standard sends, behind 23.
+#[test]
+fn rooms_cover_all_standard_sends_of_their_board() {
+    let others = [send(SYNCHRONOUS, 9), Operation::probe(1, 0)];
+    let standard = [send(STANDARD, 5), send(STANDARD, 6).nonblocking(0)];
+    let script = [&standard[..], &others, &[Operation::wait(0)]].concat();
+    let in_room = |script: &[Operation], room: u16| {
+        let sheet = Sheet::of_scripts(&[script, &[]], 8);
+        sheet.with_rooms(&[room, 0]).bytes()
+    };
+    expect("edition 1", &sheet(&script, 0), 0, 0);
+    expect("room 0", &in_room(&script, 0), 0, 0);
+    expect("room 1", &in_room(&script, 1), 24, 0);
+    expect("either alone covered", &in_room(&script, 6), 24, 0);
+    expect("a byte short", &in_room(&script, 10), 24, 0);
+    expect("covered exactly", &in_room(&script, 11), 0, 0);
+    expect("the largest", &in_room(&script, 16_384), 0, 0);
+    expect("empty, room 0", &in_room(&[send(STANDARD, 0)], 0), 0, 0);
+    expect("empty, room 1", &in_room(&[send(STANDARD, 0); 9], 1), 0, 0);
+    expect("none, room 1", &in_room(&others, 1), 0, 0);
+
+    let both = Sheet::of_scripts(&[&[send(STANDARD, 5)], &[send(STANDARD, 6)]], 8);
+    let rooms = |rooms: [u16; 2]| both.clone().with_rooms(&rooms).bytes();
+    expect("rank 1", &rooms([5, 5]), 24, 1);
+    expect("rank 0", &rooms([4, 5]), 24, 0);
+    expect("rank 0 has none", &rooms([0, 5]), 24, 1);
+    expect("each its own", &rooms([5, 6]), 0, 0);
+}
+
+/// Attached buffers and rooms do not cover for each other, and 24 goes last.
+#[test]
+fn rooms_behind_all_else() {
+    let (standard, buffered) = (send(STANDARD, 40), send(BUFFERED, 3));
+    let with = |script: &[Operation], attached, room| {
+        let mut sheet = Sheet::of_scripts(&[script, &[]], 8).attach(0, attached);
+        sheet.payload = vec![7; 64];
+        sheet.with_rooms(&[room, 16_384]).bytes()
+    };
+    let both = [buffered, standard];
+    expect("both covered", &with(&both, 35, 40), 0, 0);
+    expect("the buffer is short", &with(&both, 34, 16_384), 22, 0);
+    expect("the room is short", &with(&both, 16_384, 39), 24, 0);
+    expect("both are short", &with(&both, 34, 39), 22, 0);
+    let held = standard.nonblocking(4);
+    let queried = [held, Operation::query(4), Operation::wait(4)];
+    expect("23 first", &with(&queried, 0, 39), 23, 1);
+    expect("23 alone", &with(&queried, 0, 40), 23, 1);
+    let any = [standard, Operation::receive(ANY, 0, 0, 1)];
+    expect("20 first", &with(&any, 0, 39), 20, 1);
+    expect("21 first", &with(&[standard, send(READY, 1)], 0, 39), 21, 1);
+    expect("7 first", &with(&[held], 0, 39), 7, 0);
+    expect("5 first", &with(&[standard], 0, 16_385), 5, 0);
+}
+
+/// More bytes than 16 bits hold.
+#[test]
+fn lengths_do_not_wrap() {
+    let long = Operation::send(STANDARD, 0, 0, 0, 4096);
+    let mut many = Sheet::of_scripts(&[&[long; 17]], 0);
+    many.payload = vec![7; 4096];
+    expect("69,632", &many.with_room(16_384).bytes(), 24, 0);
+}
+
 #[test]
 fn judges_agree() {
-    let mut numbers = [0; 24];
+    let mut numbers = [0; 25];
     for number in 0..10_000 {
         let (_, sheet, _) = generate::case(11, number);
         if sheet.len() <= 1500 {
@@ -157,6 +222,6 @@ fn judges_agree() {
             numbers[answer.number as usize] += 1;
         }
     }
-    let reached = [0, 20, 21, 22, 23].map(|number: usize| numbers[number]);
+    let reached = [0, 20, 21, 22, 23, 24].map(|number: usize| numbers[number]);
     assert!(reached.iter().all(|&count| count > 20), "{reached:?}");
 }

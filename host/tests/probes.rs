@@ -6,7 +6,7 @@
 mod two_communicators;
 
 use jamturret::lent::Answer;
-use jamturret_host::compare::{agreed, efficient, naive, Call};
+use jamturret_host::compare::{efficient, followed as follow, naive, ran as run, refused, Call};
 use jamturret_host::desk::{Desk, FILL};
 use jamturret_host::layout::kind::{BUFFERED, PROBE, QUERY, READY, STANDARD, SYNCHRONOUS};
 use jamturret_host::layout::{word, ANY};
@@ -27,28 +27,6 @@ fn told(source: u8, tag: u8, length: u8) -> [u8; 12] {
     [5, 0, 255, 255, source, 0, tag, 0, length, 0, 0, 0]
 }
 
-/// All agree on success.
-fn accepted(sheet: &[u8], call: Call) -> Desk {
-    let outcome = agreed(sheet, &call, &Desk::for_sheet(sheet));
-    assert_eq!(outcome.answer, Answer::SUCCESS, "{call}");
-    outcome.desk
-}
-
-fn run(sheet: &[u8]) -> Desk {
-    accepted(sheet, Call::Run)
-}
-
-fn follow(sheet: &[u8], order: &[u8]) -> Desk {
-    accepted(sheet, Call::Follow(order.to_vec()))
-}
-
-/// All agree on refusal 9 at this index.
-fn refused(sheet: &[u8], order: &[u8], index: u64) {
-    let call = Call::Follow(order.to_vec());
-    let outcome = agreed(sheet, &call, &Desk::for_sheet(sheet));
-    assert_eq!(outcome.answer, Answer::refusal(9, index), "{call}");
-}
-
 /// Pending messages, pending receives, cut messages.
 fn counts(desk: &Desk) -> [u16; 3] {
     [10, 12, 14].map(|at| word(&desk.report, at))
@@ -56,7 +34,7 @@ fn counts(desk: &Desk) -> [u16; 3] {
 
 /// Finished, buffer in use, peak, state.
 fn board(desk: &Desk, rank: usize) -> (u16, u16, u16, u8) {
-    let row = &desk.report[16 + 8 * rank..];
+    let row = &desk.report[desk.edition.board_row_at(rank)..];
     (word(row, 0), word(row, 2), word(row, 4), row[6])
 }
 

@@ -12,7 +12,7 @@ use jamturret_host::command::found;
 use jamturret_host::compare::{agreed, Call};
 use jamturret_host::desk::Desk;
 use jamturret_host::layout::kind::{BUFFERED, READY, STANDARD, SYNCHRONOUS};
-use jamturret_host::layout::ANY;
+use jamturret_host::layout::{Edition, ANY};
 use jamturret_host::probes::{called, probe_then_receive, CALLED};
 use jamturret_host::sheet::Operation;
 use probe_operations::{probe, queried, receive, send};
@@ -325,7 +325,7 @@ fn promise_can_fail() {
 
     // Operation 2 is the probe, 3 the receive: state, partner, source, tag,
     // length. The rest of a row is not the promise's.
-    let row = |index: usize| 16 + 8 * 3 + 12 * index;
+    let row = |index: usize| Edition::First.operation_row_at(3, index);
     for (at, value, kept) in [
         (row(3), 1, false),
         (row(3) + 2, 0, false),

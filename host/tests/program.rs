@@ -104,7 +104,7 @@ fn bench_jobs_and_large_jobs() {
 /// of input, its report in hex, inboxes, order out and scratch.
 #[test]
 fn stack_of_the_longest_sheet() {
-    let sheet = traffic::heavy(MOST_OPERATIONS).bytes();
+    let sheet = traffic::longest().bytes();
     assert_eq!(printed_by(with_stack(256), &sheet), expected(&sheet));
     assert_eq!(printed_by(with_stack(128), &sheet).0, "");
 }

@@ -5,10 +5,9 @@ mod common;
 
 use common::expect;
 use jamturret_host::bench_jobs;
+use jamturret_host::layout::Edition::{First, Second};
 use jamturret_host::layout::{board, header, operation, word, ANY};
-use jamturret_host::sheet::{
-    add_word, board_at, mend_crc, operation_at, set_word, Operation, Sheet,
-};
+use jamturret_host::sheet::{add_word, mend_crc, set_word, Operation, Sheet};
 
 /// A right sheet with a wait that no slot is held for (7, place 2).
 fn with_seven() -> Vec<u8> {
@@ -18,9 +17,19 @@ fn with_seven() -> Vec<u8> {
 
 #[test]
 fn every_bit_of_a_sheet_is_covered() {
-    let right = bench_jobs::case_1().bytes();
+    each_bit(&bench_jobs::case_1().bytes());
+}
+
+/// Another offset of the operation table may tell the other edition, which the
+/// payload's offset does not agree with (document 02, K6).
+#[test]
+fn every_bit_of_edition_2_is_covered() {
+    each_bit(&bench_jobs::case_6_in_rooms([3, 3]).bytes());
+}
+
+fn each_bit(right: &[u8]) {
     for bit in 0..8 * right.len() {
-        let mut sheet = right.clone();
+        let mut sheet = right.to_vec();
         sheet[bit / 8] ^= 1 << (bit % 8);
         // P, C, N, L and the offsets are looked at before the CRC. Another C
         // within its range is only a difference for the CRC.
@@ -42,11 +51,11 @@ fn each_lower_number_comes_first() {
     let mut sheet = with_seven();
     expect("7", &sheet, 7, 2);
 
-    set_word(&mut sheet, operation_at(2, 1) + operation::ZERO, 1);
+    set_word(&mut sheet, First.operation_at(2, 1) + operation::ZERO, 1);
     mend_crc(&mut sheet);
     expect("6 and 7", &sheet, 6, 1);
 
-    set_word(&mut sheet, board_at(1) + board::ATTACHED, 16_385);
+    set_word(&mut sheet, First.entry_at(1) + board::ATTACHED, 16_385);
     mend_crc(&mut sheet);
     expect("5 to 7", &sheet, 5, 1);
 
@@ -93,12 +102,16 @@ fn forgotten_requests_come_last() {
 fn first_place_of_a_number() {
     let mut sheet = with_seven();
     for index in [2, 1, 0] {
-        set_word(&mut sheet, operation_at(2, index) + operation::ZERO, 1);
+        set_word(
+            &mut sheet,
+            First.operation_at(2, index) + operation::ZERO,
+            1,
+        );
         mend_crc(&mut sheet);
         expect("earlier operation", &sheet, 6, index as u64);
     }
     for rank in [1, 0] {
-        set_word(&mut sheet, board_at(rank) + board::ATTACHED, 65_535);
+        set_word(&mut sheet, First.entry_at(rank) + board::ATTACHED, 65_535);
         mend_crc(&mut sheet);
         expect("earlier board", &sheet, 5, rank as u64);
     }
@@ -108,30 +121,72 @@ fn first_place_of_a_number() {
 #[test]
 fn total_comes_after_the_entries() {
     let mut sheet = with_seven();
-    add_word(&mut sheet, board_at(1) + board::COUNT, 1);
+    add_word(&mut sheet, First.entry_at(1) + board::COUNT, 1);
     mend_crc(&mut sheet);
     expect("only the total", &sheet, 5, 2);
-    set_word(&mut sheet, board_at(1) + board::INBOX, 65_535);
+    set_word(&mut sheet, First.entry_at(1) + board::INBOX, 65_535);
     mend_crc(&mut sheet);
     expect("an entry too", &sheet, 5, 1);
+}
+
+/// Document 02, K6: a room is asked for with the other numbers of its entry, and
+/// before the total.
+#[test]
+fn rooms_beside_the_other_numbers() {
+    let send = Operation::send(1, 0, 0, 0, 3);
+    let right = Sheet::of_scripts(&[&[send], &[send], &[]], 8).with_room(16_384);
+    let changed = |changes: &[(usize, usize, u16)]| {
+        let mut sheet = right.bytes();
+        for &(rank, field, number) in changes {
+            set_word(&mut sheet, Second.entry_at(rank) + field, number);
+        }
+        mend_crc(&mut sheet);
+        sheet
+    };
+    expect("as it is", &changed(&[]), 0, 0);
+    let (room, total) = ((1, board::ROOM, 16_385), (2, board::COUNT, 7));
+    expect("only the total", &changed(&[total]), 5, 3);
+    expect("a room too", &changed(&[total, room]), 5, 1);
+    let (first, later) = ((0, board::COUNT, 2), (1, board::FIRST, 2));
+    expect("a first operation", &changed(&[first]), 5, 1);
+    expect(
+        "a room behind it",
+        &changed(&[first, (2, board::ROOM, 65_535)]),
+        5,
+        1,
+    );
+    expect(
+        "a room before it",
+        &changed(&[first, (0, board::ROOM, 65_535)]),
+        5,
+        0,
+    );
+    expect(
+        "a room behind the counts",
+        &changed(&[first, later, room]),
+        5,
+        1,
+    );
 }
 
 /// Counts that come back to N when summed in 16 bits.
 #[test]
 fn counts_do_not_wrap() {
     let mut sheet = with_seven();
-    set_word(&mut sheet, board_at(0) + board::COUNT, 65_535);
-    set_word(&mut sheet, board_at(1) + board::FIRST, 65_535);
-    set_word(&mut sheet, board_at(1) + board::COUNT, 4);
+    set_word(&mut sheet, First.entry_at(0) + board::COUNT, 65_535);
+    set_word(&mut sheet, First.entry_at(1) + board::FIRST, 65_535);
+    set_word(&mut sheet, First.entry_at(1) + board::COUNT, 4);
     mend_crc(&mut sheet);
     expect("total 65,539", &sheet, 5, 2);
 }
 
 #[test]
 fn every_truncation_is_refused() {
-    let sheet = bench_jobs::case_7().bytes();
-    for length in 0..sheet.len() {
-        let number = if length < 16 { 1 } else { 3 };
-        expect(&format!("{length} bytes"), &sheet[..length], number, 0);
+    for sheet in [bench_jobs::case_7(), bench_jobs::case_7().with_room(5)] {
+        let sheet = sheet.bytes();
+        for length in 0..sheet.len() {
+            let number = if length < 16 { 1 } else { 3 };
+            expect(&format!("{length} bytes"), &sheet[..length], number, 0);
+        }
     }
 }

@@ -4,10 +4,10 @@
 
 use jamturret::lent::Answer;
 use jamturret_host::command::found as names;
-use jamturret_host::compare::{agreed, Call};
+use jamturret_host::compare::{agreed, ran, Call};
 use jamturret_host::desk::Desk;
 use jamturret_host::layout::kind::{BUFFERED, READY, STANDARD};
-use jamturret_host::layout::{word, ANY};
+use jamturret_host::layout::{word, Edition, ANY};
 use jamturret_host::requests_left::{asked, called, no_request_left, ASKED, CALLED};
 use jamturret_host::sheet::{set_word, Operation, Sheet};
 use jamturret_host::{bench_jobs, judge};
@@ -50,6 +50,7 @@ fn refused_sheets_leave_every_room() {
     for (sheet, place) in [(one, 0), (two, 1)] {
         let enough = Desk::for_sheet(&sheet);
         let none = Desk {
+            edition: Edition::First,
             inbox: Vec::new(),
             report: Vec::new(),
             order_out: Vec::new(),
@@ -79,7 +80,7 @@ fn finished_job() -> Vec<u8> {
 
 /// Where the row of an operation starts in a report on two boards.
 fn row(index: usize) -> usize {
-    16 + 8 * 2 + 12 * index
+    Edition::First.operation_row_at(2, index)
 }
 
 #[test]
@@ -115,10 +116,31 @@ fn promise_can_fail() {
     assert!(no_request_left(&sheet, &counted).is_err());
 }
 
+/// A standard message may be left in a room, and only of a board that has one
+/// (document 02, K6).
+#[test]
+fn message_in_a_room_is_kept() {
+    let script = [send().nonblocking(1), wait(1)];
+    let sheet = Sheet::of_scripts(&[&script, &[]], 16).with_rooms(&[3, 0]);
+    let bytes = sheet.bytes();
+    let report = ran(&bytes).report;
+    let state = Edition::Second.operation_row_at(2, 0);
+    assert_eq!((report[0], report[state]), (1, 2));
+    assert_eq!(no_request_left(&bytes, &report), Ok(()));
+    let none = sheet.with_room(0).bytes();
+    assert!(no_request_left(&none, &report).is_err());
+    let mut other = report.clone();
+    other[state] = 1;
+    assert!(no_request_left(&bytes, &other).is_err());
+}
+
 /// What is counted of our judge's answers to these scripts.
 fn counted(scripts: &[&[Operation]]) -> Vec<&'static str> {
-    let sheet = sheet(scripts);
-    let found = asked(&sheet, judge::check(&sheet), judge::premise(&sheet));
+    counted_of(&sheet(scripts))
+}
+
+fn counted_of(sheet: &[u8]) -> Vec<&'static str> {
+    let found = asked(sheet, judge::check(sheet), judge::premise(sheet));
     names(ASKED, found)
 }
 
@@ -238,13 +260,31 @@ fn premise_is_counted() {
         (any_source, Some("premise, forgotten and not 20")),
         (ready, Some("premise, forgotten and not 21")),
         (longer, Some("premise, forgotten and not 22")),
+        (Operation::query(1), Some("premise, forgotten and not 23")),
         (buffered(), None),
     ] {
-        let found = alone(&[send().nonblocking(1), operation]);
-        let mut of_premise = found.iter().filter(|name| name.starts_with("premise"));
-        assert_eq!(of_premise.next().copied(), name);
-        assert_eq!(of_premise.next(), None);
+        let script = [send().nonblocking(1), operation];
+        assert_eq!(of_premise(&sheet(&[&script, &[]])), name);
     }
+    let forgotten = [send().nonblocking(1)];
+    let in_rooms = Sheet::of_scripts(&[&forgotten, &[]], 16);
+    for (room, name) in [
+        (2, Some("premise, forgotten and not 24")),
+        (3, None),
+        (0, None),
+    ] {
+        let sheet = in_rooms.clone().with_room(room).bytes();
+        assert_eq!(of_premise(&sheet), name, "room {room}");
+    }
+}
+
+/// The one case around premise's answer that is counted of these bytes, if any.
+fn of_premise(sheet: &[u8]) -> Option<&'static str> {
+    let found = counted_of(sheet).into_iter();
+    let mut of_premise = found.filter(|name| name.starts_with("premise"));
+    let first = of_premise.next();
+    assert_eq!(of_premise.next(), None);
+    first
 }
 
 /// What is counted of a call, and the verdict where there is one.

@@ -3,9 +3,10 @@
 
 use jamturret::lent::Answer;
 use jamturret_host::desk::{Desk, FILL};
-use jamturret_host::layout::{board, kind, operation, word, ANY};
+use jamturret_host::editions::Standard;
+use jamturret_host::layout::{board, kind, operation, word, Edition, ANY};
 use jamturret_host::random::Random;
-use jamturret_host::sheet::{board_at, mend_crc, operation_at, set_word};
+use jamturret_host::sheet::{boards, edition, entry_at, mend_crc, operation_at, set_word};
 use jamturret_host::{bench_jobs, generate, judge};
 
 /// Makes a room one byte short; the place of refusal 8 that this gives.
@@ -214,12 +215,15 @@ fn end(sheet: &[u8], order: &[u8]) -> (Answer, (Vec<u8>, Vec<u8>)) {
 
 /// Makes a sheet one that the claim speaks of.
 fn bring_under_claim(sheet: &mut [u8]) {
-    let boards = usize::from(word(sheet, 0));
-    for rank in 0..boards {
-        set_word(sheet, board_at(rank) + board::ATTACHED, 16_384);
+    for rank in 0..boards(sheet) {
+        let at = entry_at(sheet, rank);
+        set_word(sheet, at + board::ATTACHED, 16_384);
+        if edition(sheet) == Edition::Second && Standard::of(sheet, rank).uncovered() {
+            set_word(sheet, at + board::ROOM, 0);
+        }
     }
     for index in 0..usize::from(word(sheet, 4)) {
-        let at = operation_at(boards, index);
+        let at = operation_at(sheet, index);
         if sheet[at] == kind::READY {
             sheet[at] = kind::SYNCHRONOUS;
         }

@@ -12,7 +12,7 @@ use std::thread;
 const STACK: usize = 64 * 1024;
 
 /// Large jobs: the most operations, many pending, many bytes.
-fn jobs() -> [Sheet; 7] {
+fn jobs() -> [Sheet; traffic::SHAPES.len()] {
     traffic::SHAPES.map(|(_, sheet)| sheet(MOST_OPERATIONS))
 }
 

@@ -1,10 +1,11 @@
-//! What a sheet cannot be built from: a number that does not fit its field.
+//! What a sheet cannot be built from: a number that does not fit its field, or
+//! that has none.
 
 use std::error::Error;
 use std::fmt;
 
-/// A number that does not fit its field of a sheet, which has 16 bits. The
-/// first one in the order of the sheet's bytes is told.
+/// A number that does not fit its field of a sheet, which has 16 bits, or that
+/// has no field. The first one in the order of the sheet's bytes is told.
 #[derive(Clone, Copy, Debug, PartialEq, Eq, Hash)]
 pub enum BuildError {
     /// A number of the header is above 65,535.
@@ -22,6 +23,14 @@ pub enum BuildError {
         field: BoardField,
         /// What it is.
         value: usize,
+    },
+    /// A board has a standard room, and the sheet is of edition 1, which has
+    /// none. [`Sheet::build_in`](crate::Sheet::build_in) lays out edition 2.
+    FirstEdition {
+        /// The board.
+        rank: usize,
+        /// Its standard room.
+        room: usize,
     },
     /// A number of an operation is above 65,535.
     Operation {
@@ -67,6 +76,8 @@ pub enum BoardField {
     Attached,
     /// The size of the inbox.
     Inbox,
+    /// The size of the standard room, in edition 2.
+    StandardRoom,
 }
 
 /// A number of an operation.
@@ -97,6 +108,12 @@ impl fmt::Display for BuildError {
         let (what, value) = match self {
             BuildError::Header { field, value } => (field.to_string(), value),
             BuildError::Board { rank, field, value } => (format!("{field} of rank {rank}"), value),
+            BuildError::FirstEdition { rank, room } => {
+                return write!(
+                    out,
+                    "rank {rank} has a standard room of {room}, and edition 1 has no standard rooms"
+                )
+            }
             BuildError::Operation {
                 index,
                 field,
@@ -134,6 +151,7 @@ impl fmt::Display for BoardField {
         out.write_str(match self {
             BoardField::Attached => "attached buffer size",
             BoardField::Inbox => "inbox size",
+            BoardField::StandardRoom => "standard room",
         })
     }
 }

@@ -3,7 +3,10 @@
 //! here.
 //!
 //! Every content and every length is accepted and answered. The library keeps
-//! nothing between calls, so calls may run at once in several threads.
+//! nothing between calls, so calls may run at once in several threads. How much
+//! room a report needs is a matter of the sheet's edition:
+//! [`Edition::report_room`](crate::Edition::report_room);
+//! [`MOST_REPORT_ROOM`](crate::limits::MOST_REPORT_ROOM) serves every sheet.
 //! [`crate::check`], [`crate::premise()`], [`crate::run`] and
 //! [`crate::follow`] are the same services with rooms allocated and answers in
 //! words.
@@ -107,7 +110,7 @@ pub fn check(sheet: &[u8]) -> Answer {
 }
 
 /// Says whether the order of steps can matter for a sheet. Refusals 1 to 7,
-/// then 20 to 23.
+/// then 20 to 24.
 pub fn premise(sheet: &[u8]) -> Answer {
     // SAFETY: as in `check`.
     unsafe { jamturret_premise(sheet.as_ptr(), sheet.len()) }

@@ -66,13 +66,20 @@
 //! ```
 //!
 //! **Finished is not delivered.** A buffered send is complete once it is in
-//! its sender's buffer, whether or not anybody takes it. Look at
+//! its sender's buffer, a standard one once it is in its sender's standard
+//! room, whether or not anybody takes it. Look at
 //! [`Report::pending_messages`] beside the verdict. In the buffer a message
 //! costs its length and [`limits::BSEND_OVERHEAD`]; without room for both the
 //! job stops with [`Verdict::Overflow`]. Nothing but buffered messages can be
 //! pending in a finished job, since no request is forgotten: a sheet with a
 //! nonblocking operation that its board never waits for is refused with
 //! [`Refusal::Request`].
+//!
+//! **Standard sends are buffered in edition 2 alone.** A sheet is of [`Edition`]
+//! 1 or 2. In edition 2 each board has a standard room: a standard send that
+//! meets no receive and fits beside the standard bytes in use is complete at
+//! once, and costs its length until it is received; one that does not fit waits,
+//! and never overflows. [`BoardRow::standard`] tells how full the room is.
 //!
 //! **A run's verdict holds for one order**, the one that [`run`] chooses. It is
 //! known to hold for every full order exactly where [`premise()`] holds;
@@ -97,6 +104,7 @@
 #![deny(clippy::panic, clippy::unreachable, clippy::todo)]
 
 mod build_error;
+mod edition;
 #[allow(unsafe_code)]
 pub mod lent;
 pub mod limits;
@@ -112,12 +120,13 @@ mod tables;
 mod words;
 
 pub use build_error::{BoardField, BuildError, HeaderField, OperationField};
+pub use edition::Edition;
 pub use operation::{
     Mode, Operation, ProbeOperation, ReceiveOperation, SendOperation, Source, Tag,
 };
 pub use premise::Premise;
 pub use refusal::{Refusal, Room};
 pub use report::{Report, ReportError, Stop, Verdict};
-pub use rows::{BoardRow, BoardState, OperationRow, OperationState, Status};
+pub use rows::{BoardRow, BoardState, OperationRow, OperationState, StandardUse, Status};
 pub use services::{check, follow, premise, run, Outcome};
 pub use sheet::{Board, Sheet};

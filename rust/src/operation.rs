@@ -4,7 +4,10 @@
 /// board steps). The number is the operation's kind in a sheet.
 #[derive(Clone, Copy, Debug, PartialEq, Eq, Hash)]
 pub enum Mode {
-    /// Stays pending until it is matched: standard mode is not buffered here.
+    /// Stays pending until it is matched. In edition 2 it is complete at once
+    /// where it fits its board's standard room
+    /// ([`Board::standard_room`](crate::Board::standard_room)); it never
+    /// overflows.
     Standard = 1,
     /// Complete at once where the attached buffer has room, else the job stops
     /// with [`Overflow`](crate::Verdict::Overflow).

@@ -36,6 +36,12 @@ pub enum Premise {
         /// The first such operation.
         operation: usize,
     },
+    /// 24: a standard room is above 0 and does not cover all standard sends of
+    /// its board; the order decides which of them are buffered (document 02, K6).
+    StandardUncovered {
+        /// The first such rank.
+        rank: usize,
+    },
 }
 
 impl Premise {
@@ -44,7 +50,7 @@ impl Premise {
         *self == Premise::Holds
     }
 
-    /// The number of [`lent::premise`](crate::lent::premise): 0, or 20 to 23.
+    /// The number of [`lent::premise`](crate::lent::premise): 0, or 20 to 24.
     pub fn number(&self) -> u32 {
         match self {
             Premise::Holds => 0,
@@ -52,18 +58,20 @@ impl Premise {
             Premise::ReadySend { .. } => 21,
             Premise::Uncovered { .. } => 22,
             Premise::StatusQuery { .. } => 23,
+            Premise::StandardUncovered { .. } => 24,
         }
     }
 
     /// The place of [`lent::premise`](crate::lent::premise): an operation, for
-    /// 22 a rank; 0 where the premise holds.
+    /// 22 and 24 a rank; 0 where the premise holds.
     pub fn place(&self) -> u64 {
         match *self {
             Premise::Holds => 0,
             Premise::AnySource { operation: place }
             | Premise::ReadySend { operation: place }
             | Premise::Uncovered { rank: place }
-            | Premise::StatusQuery { operation: place } => place as u64,
+            | Premise::StatusQuery { operation: place }
+            | Premise::StandardUncovered { rank: place } => place as u64,
         }
     }
 
@@ -75,6 +83,7 @@ impl Premise {
             (21, Ok(operation)) => Ok(Premise::ReadySend { operation }),
             (22, Ok(rank)) => Ok(Premise::Uncovered { rank }),
             (23, Ok(operation)) => Ok(Premise::StatusQuery { operation }),
+            (24, Ok(rank)) => Ok(Premise::StandardUncovered { rank }),
             _ => answer.result(sheet).map(|()| Premise::Holds),
         }
     }
@@ -93,6 +102,9 @@ impl fmt::Display for Premise {
             }
             Premise::StatusQuery { operation } => {
                 format!("operation {operation} is a status query")
+            }
+            Premise::StandardUncovered { rank } => {
+                format!("the standard room of rank {rank} does not cover its standard sends")
             }
         };
         let (number, place) = (self.number(), self.place());

@@ -25,13 +25,14 @@ pub enum Refusal {
     /// 2: the number of boards, communicators, operations or payload bytes is
     /// outside its range.
     Range,
-    /// 3: an offset, or the sheet's length, differs from what the sizes give.
+    /// 3: an offset, or the sheet's length, differs from what the sizes give, in
+    /// edition 1 and in edition 2 alike.
     Layout,
     /// 4: the CRC differs.
     Crc,
     /// 5: a board entry is wrong. Its first operation differs from the sum of
-    /// the counts before it, its attached size is too large, or its inbox
-    /// brings the total too high.
+    /// the counts before it, its attached size is too large, its inbox brings the
+    /// total too high, or, in edition 2, its standard room is too large.
     Board {
         /// The first such rank.
         rank: usize,
@@ -183,10 +184,13 @@ impl fmt::Display for Refusal {
             ),
             Refusal::Layout => write!(
                 out,
-                "an offset, or the sheet's length, differs from what the sizes give"
+                "an offset, or the sheet's length, differs from what the sizes give in either edition"
             ),
             Refusal::Crc => write!(out, "the CRC differs"),
-            Refusal::Board { rank } => write!(out, "the board entry of rank {rank} is wrong"),
+            Refusal::Board { rank } => write!(
+                out,
+                "the board entry of rank {rank} is wrong: its first operation, attached size, inbox or standard room"
+            ),
             Refusal::Counts { boards } => write!(
                 out,
                 "the counts of all {boards} boards do not total the number of operations"

@@ -1,8 +1,8 @@
 //! The report of a job by name (document 01, The report).
 
+use crate::edition::Edition;
 use crate::limits::{
-    report_room, ANY, BOARD_ROW_BYTES, MOST_BOARDS, MOST_OPERATIONS, NO_RANK, OPERATION_ROW_BYTES,
-    REPORT_HEADER_BYTES,
+    ANY, MOST_BOARDS, MOST_OPERATIONS, NO_RANK, OPERATION_ROW_BYTES, REPORT_HEADER_BYTES,
 };
 use crate::rows::{BoardRow, OperationRow};
 use crate::words::{split, words};
@@ -16,8 +16,9 @@ pub enum Verdict {
     /// it.
     StillAble = 0,
     /// All boards are finished, and every request was waited for (document 02,
-    /// K7). **Finished is not delivered**: buffered messages can be pending,
-    /// and nothing else; see [`Report::pending_messages`].
+    /// K7). **Finished is not delivered**: messages in buffers and standard
+    /// rooms can be pending, and nothing else; see
+    /// [`Report::pending_messages`].
     Finished = 1,
     /// Not all boards are finished, and none is able. Where nothing is pending,
     /// each unfinished one is at a probe (document 02, K9).
@@ -60,6 +61,7 @@ pub struct Stop {
 /// ```
 #[derive(Clone, Debug, PartialEq, Eq)]
 pub struct Report {
+    edition: Edition,
     header: Header,
     boards: Vec<BoardRow>,
     operations: Vec<OperationRow>,
@@ -82,12 +84,15 @@ struct Header {
 /// Why bytes are no report.
 #[derive(Clone, Copy, Debug, PartialEq, Eq, Hash)]
 pub enum ReportError {
-    /// The length is not that of a report with so many boards and operations.
+    /// The length is not that of a report with so many boards and operations,
+    /// in either edition; or it is too short for a header.
     Length {
         /// The bytes given.
         given: usize,
-        /// The bytes of such a report.
+        /// The bytes of such a report of edition 1, or of a header.
         needed: usize,
+        /// The bytes of such a report of edition 2, or of a header.
+        needed_in_second: usize,
     },
     /// The verdict, the stop or the number of boards or operations is none
     /// that a report has.
@@ -105,34 +110,48 @@ pub enum ReportError {
 }
 
 impl Report {
-    /// Reads a report. Every field has to have a value that document 01 gives
-    /// to such a field. Not looked at: whether the figures agree with each
-    /// other, and whether some sheet has this report.
+    /// Reads a report of either edition. It does not say which one it is of, but
+    /// its length and its own numbers of boards and operations do.
+    ///
+    /// Every field has to have a value that document 01 gives to such a field.
+    /// Not looked at: whether the figures agree with each other, and whether some
+    /// sheet has this report.
     pub fn parse(bytes: &[u8]) -> Result<Report, ReportError> {
         let given = bytes.len();
-        let length = |needed| ReportError::Length { given, needed };
+        let length = |[needed, needed_in_second]: [usize; 2]| ReportError::Length {
+            given,
+            needed,
+            needed_in_second,
+        };
         let (header, rows) =
-            split(bytes, REPORT_HEADER_BYTES).ok_or(length(REPORT_HEADER_BYTES))?;
+            split(bytes, REPORT_HEADER_BYTES).ok_or(length([REPORT_HEADER_BYTES; 2]))?;
         let header = Header::read(header).ok_or(ReportError::Header)?;
-        let needed = report_room(header.boards, header.operations);
+        let room = |edition: Edition| edition.report_room(header.boards, header.operations);
+        let wrong = length([room(Edition::First), room(Edition::Second)]);
+        let edition = Edition::of_report(header.boards, header.operations, given).ok_or(wrong)?;
+        let board_row = edition.board_row_bytes();
         let (board_rows, operation_rows) =
-            split(rows, header.boards.saturating_mul(BOARD_ROW_BYTES))
-                .filter(|_| given == needed)
-                .ok_or(length(needed))?;
-        let boards = board_rows.chunks_exact(BOARD_ROW_BYTES).enumerate();
-        let boards =
-            boards.map(|(rank, row)| BoardRow::read(row).ok_or(ReportError::Board { rank }));
+            split(rows, header.boards.saturating_mul(board_row)).ok_or(wrong)?;
+        let boards = board_rows.chunks_exact(board_row).enumerate();
+        let boards = boards
+            .map(|(rank, row)| BoardRow::read(row, edition).ok_or(ReportError::Board { rank }));
         let operations = operation_rows.chunks_exact(OPERATION_ROW_BYTES).enumerate();
         let operations = operations.map(|(index, row)| {
             OperationRow::read(row, header.boards, header.operations)
                 .ok_or(ReportError::Operation { index })
         });
         Ok(Report {
+            edition,
             header,
             boards: boards.collect::<Result<_, _>>()?,
             operations: operations.collect::<Result<_, _>>()?,
             bytes: bytes.to_vec(),
         })
+    }
+
+    /// The edition: that of the sheet.
+    pub fn edition(&self) -> Edition {
+        self.edition
     }
 
     /// How the job ended.
@@ -280,8 +299,16 @@ impl fmt::Display for Report {
 impl fmt::Display for ReportError {
     fn fmt(&self, out: &mut fmt::Formatter) -> fmt::Result {
         match self {
-            ReportError::Length { given, needed } => {
-                write!(out, "{given} bytes, where the report has {needed}")
+            ReportError::Length {
+                given,
+                needed,
+                needed_in_second,
+            } => {
+                write!(out, "{given} bytes, where the report has {needed}")?;
+                if needed_in_second != needed {
+                    write!(out, ", or {needed_in_second} in edition 2")?;
+                }
+                Ok(())
             }
             ReportError::Header => write!(out, "no report has such a header"),
             ReportError::Board { rank } => {

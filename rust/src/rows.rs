@@ -1,6 +1,7 @@
 //! The rows of a report by name: one a board, one an operation (document 01,
 //! The report).
 
+use crate::edition::Edition;
 use crate::limits::{ANY, MOST_LENGTH, MOST_TAG};
 use crate::words::words;
 use std::fmt;
@@ -16,6 +17,29 @@ pub struct BoardRow {
     pub peak: usize,
     /// Whether it is finished or able.
     pub state: BoardState,
+    /// How full its standard room is. None in edition 1, which has no such rooms.
+    pub standard: Option<StandardUse>,
+}
+
+/// What a report of edition 2 says of a board's standard room (document 02, K6).
+///
+/// ```
+/// use jamturret::{run, Board, Edition, Mode, SendOperation, Sheet, StandardUse};
+///
+/// // Three bytes that nobody receives, in a room of four.
+/// let send = SendOperation::new(Mode::Standard, 0).bytes(0, 3);
+/// let board = Board::new().standard_room(4).then(send);
+/// let sheet = Sheet::build_in(Edition::Second, 1, vec![board], b"JAM")?;
+/// let row = run(&sheet, None)?.report.board(0).ok_or("a row")?;
+/// assert_eq!(row.standard, Some(StandardUse { in_use: 3, peak: 3 }));
+/// # Ok::<(), Box<dyn std::error::Error>>(())
+/// ```
+#[derive(Clone, Copy, Debug, PartialEq, Eq, Hash)]
+pub struct StandardUse {
+    /// Bytes of the room in use: charged and not yet matched.
+    pub in_use: usize,
+    /// The most in use after any step so far.
+    pub peak: usize,
 }
 
 /// The state of a board. The number is the one in a report.
@@ -53,8 +77,8 @@ pub enum OperationState {
     NotEntered = 0,
     /// A message or a receive that waits for a match.
     Pending = 1,
-    /// A message in its sender's buffer that waits for a match. The send is
-    /// complete, and nobody has the message.
+    /// A message in its sender's attached buffer or standard room that waits for
+    /// a match. The send is complete, and nobody has the message.
     Buffered = 2,
     /// Matched.
     Matched = 3,
@@ -79,16 +103,25 @@ pub struct Status {
 }
 
 impl BoardRow {
-    /// The row with these bytes, if document 01 has such a row.
-    pub(crate) fn read(bytes: &[u8]) -> Option<BoardRow> {
+    /// The row with these bytes in a report of this edition, if there is such a
+    /// row.
+    pub(crate) fn read(bytes: &[u8], edition: Edition) -> Option<BoardRow> {
         let [finished, in_use, peak, state] = words(bytes)?;
         let states = [BoardState::Neither, BoardState::Able, BoardState::Finished];
+        let standard = match edition {
+            Edition::First => None,
+            Edition::Second => {
+                let [_, _, _, _, in_use, peak] = words(bytes)?;
+                Some(StandardUse { in_use, peak })
+            }
+        };
         Some(BoardRow {
             finished,
             in_use,
             peak,
             // The byte after the state is zero, so the two are the state.
             state: states.into_iter().find(|&known| known as usize == state)?,
+            standard,
         })
     }
 }

@@ -2,9 +2,7 @@
 //! as `&Sheet` or as bytes.
 
 use crate::lent;
-use crate::limits::{
-    order_room, report_room, MOST_BOARDS, MOST_INBOXES, MOST_OPERATIONS, SCRATCH_ROOM,
-};
+use crate::limits::{order_room, MOST_INBOXES, MOST_OPERATIONS, MOST_REPORT_ROOM, SCRATCH_ROOM};
 use crate::premise::Premise;
 use crate::refusal::Refusal;
 use crate::report::Report;
@@ -150,7 +148,7 @@ impl Rooms {
     fn starting_from(inboxes: Option<&[u8]>) -> Rooms {
         Rooms {
             inbox: inboxes.map_or_else(|| vec![0; MOST_INBOXES], <[u8]>::to_vec),
-            report: vec![0; report_room(MOST_BOARDS, MOST_OPERATIONS)],
+            report: vec![0; MOST_REPORT_ROOM],
             scratch: vec![0; SCRATCH_ROOM],
         }
     }
@@ -158,7 +156,8 @@ impl Rooms {
     /// What a call that was not refused has left.
     fn outcome(&self, sheet: &[u8], mut order: Vec<u8>) -> Option<Outcome> {
         let tables = Tables::of(sheet)?;
-        let (report, _) = split(&self.report, report_room(tables.boards, tables.operations))?;
+        let length = tables.edition.report_room(tables.boards, tables.operations);
+        let (report, _) = split(&self.report, length)?;
         let report = Report::parse(report).ok()?;
         order.truncate(report.steps());
         let mut rest = self.inbox.as_slice();

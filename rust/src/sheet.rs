@@ -2,15 +2,16 @@
 //! sheet, byte by byte).
 
 use crate::build_error::{fit, BoardField, BuildError, HeaderField};
+use crate::edition::Edition;
 use crate::lent;
-use crate::limits::{operation_table, payload_start, CRC_AT, HEADER_BYTES};
+use crate::limits::{CRC_AT, HEADER_BYTES};
 use crate::operation::Operation;
 use crate::refusal::Refusal;
 use crate::services;
 use crate::tables::Tables;
 use crate::words::push_words;
 
-/// A board: its attached buffer, its inbox and its script.
+/// A board: its attached buffer, its inbox, its standard room and its script.
 ///
 /// ```
 /// use jamturret::{Board, ReceiveOperation, Source};
@@ -26,12 +27,17 @@ pub struct Board {
     pub attached: usize,
     /// The size of the inbox.
     pub inbox: usize,
+    /// The bytes of standard sends that are buffered while no receive has taken
+    /// them; with 0 none is, not even an empty one. Only sheets of
+    /// [edition 2](Edition::Second) have such rooms (document 02, K6).
+    pub standard_room: usize,
     /// The operations in the order in which the board takes them.
     pub script: Vec<Operation>,
 }
 
 impl Board {
-    /// A board with nothing attached, no inbox and an empty script.
+    /// A board with nothing attached, no inbox, no standard room and an empty
+    /// script.
     pub fn new() -> Board {
         Board::default()
     }
@@ -44,6 +50,15 @@ impl Board {
     /// The same with an inbox of this size.
     pub fn inbox(self, inbox: usize) -> Board {
         Board { inbox, ..self }
+    }
+
+    /// The same with a standard room of this size, for a sheet of
+    /// [edition 2](Edition::Second).
+    pub fn standard_room(self, standard_room: usize) -> Board {
+        Board {
+            standard_room,
+            ..self
+        }
     }
 
     /// The same with one more operation at the end of its script.
@@ -76,6 +91,7 @@ impl Board {
 /// ```
 #[derive(Clone, Debug, PartialEq, Eq)]
 pub struct Sheet {
+    edition: Edition,
     communicators: usize,
     boards: Vec<Board>,
     /// Where the payload starts in the bytes.
@@ -84,7 +100,8 @@ pub struct Sheet {
 }
 
 impl Sheet {
-    /// Lays out a sheet. The position of a board is its rank.
+    /// Lays out a sheet of edition 1, which has no standard rooms. The position
+    /// of a board is its rank.
     ///
     /// Every number has to fit into its field, which has 16 bits: nothing is
     /// wrapped. Numbers that fit and break a limit of document 01, such as a
@@ -94,23 +111,42 @@ impl Sheet {
         boards: Vec<Board>,
         payload: &[u8],
     ) -> Result<Sheet, BuildError> {
+        Sheet::build_in(Edition::First, communicators, boards, payload)
+    }
+
+    /// Lays out a sheet of this edition, as [`build`](Sheet::build) does.
+    ///
+    /// ```
+    /// use jamturret::{run, Board, Edition, Mode, ReceiveOperation, SendOperation};
+    /// use jamturret::{Sheet, Source, Verdict};
+    ///
+    /// // Both boards send one byte in standard mode, then receive.
+    /// let board = |other, room| {
+    ///     Board::new()
+    ///         .inbox(1)
+    ///         .standard_room(room)
+    ///         .then(SendOperation::new(Mode::Standard, other).bytes(0, 1))
+    ///         .then(ReceiveOperation::new(Source::Rank(other)).area(0, 1))
+    /// };
+    /// for (room, verdict) in [(0, Verdict::Deadlock), (1, Verdict::Finished)] {
+    ///     let boards = vec![board(1, room), board(0, room)];
+    ///     let sheet = Sheet::build_in(Edition::Second, 1, boards, b"J")?;
+    ///     assert_eq!(run(&sheet, None)?.report.verdict(), verdict);
+    /// }
+    /// # Ok::<(), Box<dyn std::error::Error>>(())
+    /// ```
+    pub fn build_in(
+        edition: Edition,
+        communicators: usize,
+        boards: Vec<Board>,
+        payload: &[u8],
+    ) -> Result<Sheet, BuildError> {
         let lengths = boards.iter().map(|board| board.script.len());
         let operations = lengths.fold(0, usize::saturating_add);
-        let payload_at = payload_start(boards.len(), operations);
-        let fit = |field, value| fit(value).ok_or(BuildError::Header { field, value });
-        let header = [
-            fit(HeaderField::Boards, boards.len())?,
-            fit(HeaderField::Communicators, communicators)?,
-            fit(HeaderField::Operations, operations)?,
-            HEADER_BYTES,
-            fit(HeaderField::OperationTable, operation_table(boards.len()))?,
-            fit(HeaderField::Payload, payload_at)?,
-            fit(HeaderField::PayloadLength, payload.len())?,
-            0,
-        ];
+        let sizes = [boards.len(), communicators, operations, payload.len()];
         let mut bytes = Vec::new();
-        push_words(&mut bytes, &header);
-        write_entries(&boards, &mut bytes)?;
+        push_words(&mut bytes, &header(edition, sizes)?);
+        write_entries(edition, &boards, &mut bytes)?;
         let script = boards.iter().flat_map(|board| &board.script);
         for (index, operation) in script.enumerate() {
             operation.write(index, &mut bytes)?;
@@ -121,15 +157,16 @@ impl Sheet {
             *byte = value;
         }
         Ok(Sheet {
+            edition,
             communicators,
+            payload: edition.payload_start(boards.len(), operations),
             boards,
-            payload: payload_at,
             bytes,
         })
     }
 
-    /// Reads a sheet that passes check, or says why it does not. Building
-    /// from the parts gives the same bytes again.
+    /// Reads a sheet that passes check, of either edition, or says why it does
+    /// not. Building from the parts in its edition gives the same bytes again.
     pub fn parse(bytes: &[u8]) -> Result<Sheet, Refusal> {
         services::check(bytes)?;
         // Check has accepted the sheet, so that nothing below is refused. The
@@ -145,15 +182,25 @@ impl Sheet {
             boards.push(Board {
                 attached: entry.attached,
                 inbox: entry.inbox,
+                standard_room: entry.standard_room,
                 script: script.collect::<Result<_, _>>()?,
             });
         }
+        let payload = tables
+            .edition
+            .payload_start(tables.boards, tables.operations);
         Ok(Sheet {
+            edition: tables.edition,
             communicators: tables.communicators,
-            payload: payload_start(tables.boards, tables.operations),
+            payload,
             boards,
             bytes: bytes.to_vec(),
         })
+    }
+
+    /// The edition.
+    pub fn edition(&self) -> Edition {
+        self.edition
     }
 
     /// The number of communicators.
@@ -190,7 +237,26 @@ impl AsRef<[u8]> for Sheet {
     }
 }
 
-fn write_entries(boards: &[Board], out: &mut Vec<u8>) -> Result<(), BuildError> {
+/// The header of a sheet with these numbers of boards, communicators, operations
+/// and payload bytes. Its CRC, the last, is taken over all the rest.
+fn header(edition: Edition, sizes: [usize; 4]) -> Result<[u16; 8], BuildError> {
+    let [boards, communicators, operations, payload] = sizes;
+    let table_at = edition.operation_table(boards);
+    let payload_at = edition.payload_start(boards, operations);
+    let fit = |field, value| fit(value).ok_or(BuildError::Header { field, value });
+    Ok([
+        fit(HeaderField::Boards, boards)?,
+        fit(HeaderField::Communicators, communicators)?,
+        fit(HeaderField::Operations, operations)?,
+        HEADER_BYTES,
+        fit(HeaderField::OperationTable, table_at)?,
+        fit(HeaderField::Payload, payload_at)?,
+        fit(HeaderField::PayloadLength, payload)?,
+        0,
+    ])
+}
+
+fn write_entries(edition: Edition, boards: &[Board], out: &mut Vec<u8>) -> Result<(), BuildError> {
     // Where a count or a sum of counts does not fit, the number of operations
     // does not.
     let counted = |value| {
@@ -210,6 +276,11 @@ fn write_entries(boards: &[Board], out: &mut Vec<u8>) -> Result<(), BuildError> 
                 fit(BoardField::Inbox, board.inbox)?,
             ],
         );
+        match (edition, board.standard_room) {
+            (Edition::First, 0) => (),
+            (Edition::First, room) => return Err(BuildError::FirstEdition { rank, room }),
+            (Edition::Second, room) => push_words(out, &[fit(BoardField::StandardRoom, room)?]),
+        }
         first = first.saturating_add(count);
     }
     Ok(())

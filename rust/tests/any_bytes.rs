@@ -11,9 +11,11 @@ mod common;
 use common::mend_crc;
 use common::parts::{forgetful_sheet, random_sheet};
 use common::random::Random;
+use jamturret::limits::BSEND_OVERHEAD;
 use jamturret::{
-    check, follow, premise, run, Operation, OperationState, Outcome, Premise, Refusal, Report,
-    ReportError, Sheet, Source, Status, Tag, Verdict,
+    check, follow, premise, run, Board, BoardRow, Edition, Mode, Operation, OperationRow,
+    OperationState, Outcome, Premise, Refusal, Report, ReportError, Sheet, Source, Status, Tag,
+    Verdict,
 };
 use std::collections::BTreeMap;
 
@@ -110,7 +112,8 @@ fn read(bytes: &[u8], counts: &mut Counts) -> Result<(), Refusal> {
         Ok(sheet) => {
             assert_eq!(checked, Ok(()));
             let boards = sheet.boards().to_vec();
-            let built = Sheet::build(sheet.communicators(), boards, sheet.payload());
+            let (edition, communicators) = (sheet.edition(), sheet.communicators());
+            let built = Sheet::build_in(edition, communicators, boards, sheet.payload());
             assert_eq!(built.as_ref(), Ok(&sheet));
             assert_eq!(sheet.bytes(), bytes);
         }
@@ -146,10 +149,49 @@ fn look(outcome: &Outcome, bytes: &[u8], counts: &mut Counts) {
     let scripts = sheet.boards().iter().map(|board| board.script.len());
     assert_eq!(report.operations().len(), scripts.sum());
     assert_eq!(Report::parse(report.bytes()).as_ref(), Ok(report));
+    look_accounts(report, &sheet, counts);
     if report.verdict() == Verdict::Finished {
         look_finished(report, counts);
     }
     look_told(report, &sheet, counts);
+}
+
+/// What is in use of a buffer and of a standard room is what its board's sends
+/// in state 2 are charged (document 02, K2 and K6).
+fn look_accounts(report: &Report, sheet: &Sheet, counts: &mut Counts) {
+    assert_eq!(report.edition(), sheet.edition());
+    let mut rows = report.operations();
+    for (board, row) in sheet.boards().iter().zip(report.boards()) {
+        let own: Vec<_> = rows.by_ref().take(board.script.len()).collect();
+        let attached = charges(board, &own, Mode::Buffered, BSEND_OVERHEAD);
+        let standard = charges(board, &own, Mode::Standard, 0);
+        assert_eq!(row.in_use, attached.iter().sum());
+        assert!(row.in_use <= row.peak && row.peak <= board.attached);
+        look_standard(row, board, &standard, sheet.edition());
+        counts.add(match (sheet.edition(), standard.len()) {
+            (Edition::First, _) => "edition 1".into(),
+            (Edition::Second, 0) => "edition 2".into(),
+            (Edition::Second, _) => "edition 2, standard sends in a room".into(),
+        });
+    }
+}
+
+/// What a board's sends of this mode that are in state 2 are charged.
+fn charges(board: &Board, rows: &[OperationRow], mode: Mode, overhead: usize) -> Vec<usize> {
+    let sent = board.script.iter().zip(rows).filter_map(|pair| match pair {
+        (Operation::Send(send), row) if send.mode == mode => Some((send.length, row.state)),
+        _ => None,
+    });
+    let buffered = sent.filter(|&(_, state)| state == OperationState::Buffered);
+    buffered.map(|(length, _)| length + overhead).collect()
+}
+
+fn look_standard(row: BoardRow, board: &Board, charged: &[usize], edition: Edition) {
+    assert_eq!(row.standard.is_some(), edition == Edition::Second);
+    assert!(charged.is_empty() || board.standard_room > 0);
+    let told = row.standard.map_or((0, 0), |room| (room.in_use, room.peak));
+    assert_eq!(told.0, charged.iter().sum());
+    assert!(told.0 <= told.1 && told.1 <= board.standard_room);
 }
 
 /// Rows tell a message or a completion only where probes and queries are, and
@@ -283,7 +325,7 @@ fn nothing_panics() {
         "Room",
         "Order",
     ];
-    let premises = [0, 20, 21, 22, 23].map(|number| format!("premise {number}"));
+    let premises = [0, 20, 21, 22, 23, 24].map(|number| format!("premise {number}"));
     let verdicts = [
         "still able",
         "finished",
@@ -300,6 +342,9 @@ fn nothing_panics() {
         "report operation",
     ];
     let told = [
+        "edition 1",
+        "edition 2",
+        "edition 2, standard sends in a room",
         "finished past a state 5, not delivered",
         "probed and received",
         "query told false",

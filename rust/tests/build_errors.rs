@@ -1,9 +1,9 @@
 //! What does not fit into 16 bits is an error, for each field: never wrapped,
-//! and never taken for any.
+//! and never taken for any. So is a standard room in edition 1: never left out.
 
 use jamturret::{
-    Board, BoardField, BuildError, HeaderField, Mode, Operation, OperationField, ProbeOperation,
-    ReceiveOperation, SendOperation, Sheet, Source, Tag,
+    Board, BoardField, BuildError, Edition, HeaderField, Mode, Operation, OperationField,
+    ProbeOperation, ReceiveOperation, SendOperation, Sheet, Source, Tag,
 };
 
 const FITS: usize = 65_535;
@@ -120,6 +120,48 @@ fn boards() {
         error(BoardField::Inbox),
         "the inbox size of rank 2 is 65536, which does not fit into 16 bits",
     );
+}
+
+/// In edition 2 the operation table starts at 16+10P.
+#[test]
+fn offsets_of_edition_2() {
+    let built = |boards, operations| {
+        let script = vec![Operation::Wait { slot: 0 }; operations];
+        let mut boards = vec![Board::new(); boards];
+        boards[0].script = script;
+        Sheet::build_in(Edition::Second, 1, boards, &[])
+    };
+    assert!(built((FITS - 16) / 10, 0).is_ok());
+    let error = header(HeaderField::OperationTable, 65_536);
+    assert_eq!(built((FITS - 16) / 10 + 1, 0), Err(error));
+    assert!(built(1, (FITS - 16 - 10) / 16).is_ok());
+    let error = header(HeaderField::Payload, 26 + 16 * 4_095);
+    assert_eq!(built(1, 4_095), Err(error));
+}
+
+#[test]
+fn standard_rooms() {
+    let boards = |room| vec![Board::new(), Board::new().standard_room(room)];
+    let built = |edition, room| {
+        let built = Sheet::build_in(edition, 1, boards(room), &[]);
+        built.map_err(|error| (error, error.to_string()))
+    };
+    assert!(built(Edition::Second, FITS).is_ok());
+    let error = BuildError::Board {
+        rank: 1,
+        field: BoardField::StandardRoom,
+        value: 65_536,
+    };
+    let words = "the standard room of rank 1 is 65536, which does not fit into 16 bits";
+    assert_eq!(
+        built(Edition::Second, FITS + 1),
+        Err((error, words.to_string()))
+    );
+    assert!(built(Edition::First, 0).is_ok());
+    let error = BuildError::FirstEdition { rank: 1, room: 1 };
+    let words = "rank 1 has a standard room of 1, and edition 1 has no standard rooms";
+    assert_eq!(built(Edition::First, 1), Err((error, words.to_string())));
+    assert_eq!(Sheet::build(1, boards(1), &[]), Err(error));
 }
 
 type Numbered = fn(usize) -> Operation;

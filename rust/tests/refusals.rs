@@ -7,8 +7,8 @@ use common::{mend_crc, sample};
 use jamturret::lent::{self, Answer};
 use jamturret::limits::{order_room, report_room, BSEND_OVERHEAD, SCRATCH_ROOM};
 use jamturret::{
-    check, follow, premise, run, Board, Mode, Operation, Premise, ProbeOperation, ReceiveOperation,
-    Refusal, Room, SendOperation, Sheet, Source,
+    check, follow, premise, run, Board, Edition, Mode, Operation, Premise, ProbeOperation,
+    ReceiveOperation, Refusal, Room, SendOperation, Sheet, Source,
 };
 
 /// A refusal with its number, its place and its words.
@@ -54,7 +54,7 @@ fn of_the_whole_sheet() {
         Refusal::Layout,
         3,
         0,
-        "an offset, or the sheet's length, differs from what the sizes give",
+        "an offset, or the sheet's length, differs from what the sizes give in either edition",
     );
     let mut damaged = sample("handshake");
     damaged[14] ^= 1;
@@ -64,13 +64,18 @@ fn of_the_whole_sheet() {
 #[test]
 fn of_boards() {
     let boards = vec![Board::new(), Board::new().attached(16_385), Board::new()];
-    is(
-        refused(built(boards)),
-        Refusal::Board { rank: 1 },
-        5,
-        1,
-        "the board entry of rank 1 is wrong",
-    );
+    let roomy = vec![Board::new(), Board::new().standard_room(16_385)];
+    let roomy = Sheet::build_in(Edition::Second, 1, roomy, &[]);
+    for sheet in [built(boards), roomy.expect("every number fits")] {
+        is(
+            refused(sheet),
+            Refusal::Board { rank: 1 },
+            5,
+            1,
+            "the board entry of rank 1 is wrong: \
+             its first operation, attached size, inbox or standard room",
+        );
+    }
 
     // The one operation is rank 1's. With its count 0 both entries are right.
     let mut sheet = built(vec![Board::new(), Board::new().then(send(0))])
@@ -276,6 +281,28 @@ fn uncovered_buffer() {
         "number 22, place 1: another order may end otherwise: \
          the attached buffer of rank 1 does not cover its buffered sends"
     );
+}
+
+/// Two standard sends of two bytes each need four bytes, or no room at all.
+#[test]
+fn uncovered_standard_room() {
+    let send = SendOperation::new(Mode::Standard, 0).bytes(0, 2);
+    let said = |room| {
+        let board = Board::new().standard_room(room).then(send).then(send);
+        let boards = vec![Board::new().standard_room(1), board];
+        let sheet = Sheet::build_in(Edition::Second, 1, boards, &[0; 2]);
+        premise(sheet.expect("every number fits")).expect("the sheet passes")
+    };
+    assert_eq!((said(0), said(4)), (Premise::Holds, Premise::Holds));
+    for short in [said(1), said(3)] {
+        assert_eq!(short, Premise::StandardUncovered { rank: 1 });
+        assert_eq!((short.number(), short.place()), (24, 1));
+        assert_eq!(
+            short.to_string(),
+            "number 24, place 1: another order may end otherwise: \
+             the standard room of rank 1 does not cover its standard sends"
+        );
+    }
 }
 
 #[test]

@@ -5,8 +5,9 @@ mod common;
 use common::sample;
 use jamturret::limits::BSEND_OVERHEAD;
 use jamturret::{
-    follow, run, Board, BoardRow, BoardState, Mode, Operation, OperationRow, OperationState,
-    ReceiveOperation, Report, ReportError, SendOperation, Sheet, Source, Status, Stop, Verdict,
+    follow, run, Board, BoardRow, BoardState, Edition, Mode, Operation, OperationRow,
+    OperationState, ReceiveOperation, Report, ReportError, SendOperation, Sheet, Source,
+    StandardUse, Status, Stop, Verdict,
 };
 
 /// The report of bench job 1, as document 01 prints it.
@@ -23,6 +24,7 @@ const FINISHED_BOARD: BoardRow = BoardRow {
     in_use: 0,
     peak: 0,
     state: BoardState::Finished,
+    standard: None,
 };
 
 fn ran(name: &str) -> Report {
@@ -34,6 +36,7 @@ fn case_1() {
     let report = Report::parse(&CASE_1).expect("a report");
     assert_eq!(report, ran("handshake"));
     assert_eq!(report.bytes(), CASE_1);
+    assert_eq!(report.edition(), Edition::First);
     assert_eq!(report.verdict(), Verdict::Finished);
     assert_eq!((report.stop(), report.steps()), (None, 4));
     assert_eq!(report.boards().collect::<Vec<_>>(), [FINISHED_BOARD; 2]);
@@ -99,14 +102,73 @@ fn header_and_boards_by_hand() {
         in_use: 0x0304,
         peak: 0x0506,
         state: BoardState::Able,
+        standard: None,
     };
     let neither = BoardRow {
         finished: 0x0708,
         in_use: 0x090A,
         peak: 0x0B0C,
         state: BoardState::Neither,
+        standard: None,
     };
     assert_eq!(report.boards().collect::<Vec<_>>(), [able, neither]);
+}
+
+/// A report of two boards and an operation, in edition 2: the standard figures
+/// stand behind each board's zero byte (document 02, K6).
+#[rustfmt::skip]
+const SECOND: [u8; 52] = [
+    0, 255, 255, 255, 1, 0, 2, 0, 1, 0, 1, 0, 0, 0, 0, 0,
+    0x02, 0x01, 0x04, 0x03, 0x06, 0x05, 1, 0, 0x08, 0x07, 0x0A, 0x09,
+    0x0C, 0x0B, 0x0E, 0x0D, 0x10, 0x0F, 2, 0, 0x12, 0x11, 0x14, 0x13,
+    2, 0, 255, 255, 255, 255, 255, 255, 0, 0, 0, 0,
+];
+
+#[test]
+fn edition_2_by_hand() {
+    let report = Report::parse(&SECOND).expect("a report");
+    assert_eq!((report.edition(), report.steps()), (Edition::Second, 1));
+    let able = BoardRow {
+        finished: 0x0102,
+        in_use: 0x0304,
+        peak: 0x0506,
+        state: BoardState::Able,
+        standard: Some(StandardUse {
+            in_use: 0x0708,
+            peak: 0x090A,
+        }),
+    };
+    let finished = BoardRow {
+        finished: 0x0B0C,
+        in_use: 0x0D0E,
+        peak: 0x0F10,
+        state: BoardState::Finished,
+        standard: Some(StandardUse {
+            in_use: 0x1112,
+            peak: 0x1314,
+        }),
+    };
+    assert_eq!(report.boards().collect::<Vec<_>>(), [able, finished]);
+    let states: Vec<_> = report.operations().map(|row| row.state).collect();
+    assert_eq!(states, [OperationState::Buffered]);
+    assert_eq!(report.bytes(), SECOND);
+}
+
+/// The report of edition 2 with one byte changed: its rows are looked at as
+/// those of edition 1, and stand further behind.
+#[test]
+fn foreign_bytes_of_edition_2() {
+    let changes = [
+        ("board state 3", 22, 3, ReportError::Board { rank: 0 }),
+        ("not zero", 35, 1, ReportError::Board { rank: 1 }),
+        ("state 4", 40, 4, ReportError::Operation { index: 0 }),
+        ("not zero", 51, 1, ReportError::Operation { index: 0 }),
+    ];
+    for (name, at, value, error) in changes {
+        let mut bytes = SECOND;
+        bytes[at] = value;
+        assert_eq!(Report::parse(&bytes), Err(error), "{name}");
+    }
 }
 
 #[test]
@@ -280,7 +342,11 @@ fn foreign_bytes() {
     const HEADER: ReportError = ReportError::Header;
     let board = |rank| ReportError::Board { rank };
     let operation = |index| ReportError::Operation { index };
-    let length = |needed| ReportError::Length { given: 56, needed };
+    let length = |needed, needed_in_second| ReportError::Length {
+        given: 56,
+        needed,
+        needed_in_second,
+    };
     let changes = [
         ("verdict 5", 0, 5, HEADER),
         ("overflow without a stop", 0, 3, HEADER),
@@ -289,8 +355,8 @@ fn foreign_bytes() {
         ("no boards", 6, 0, HEADER),
         ("17 boards", 6, 17, HEADER),
         ("2,050 operations", 9, 8, HEADER),
-        ("three boards", 6, 3, length(64)),
-        ("one operation", 8, 1, length(44)),
+        ("three boards", 6, 3, length(64, 76)),
+        ("one operation", 8, 1, length(44, 52)),
         ("board state 3", 22, 3, board(0)),
         ("not zero after a board state", 31, 1, board(1)),
         ("operation state 4", 32, 4, operation(0)),
@@ -356,18 +422,25 @@ fn foreign_stops() {
 #[test]
 fn foreign_lengths() {
     let longer = [&CASE_1[..], &[0]].concat();
-    for (bytes, given, needed) in [
-        (&CASE_1[..0], 0, 16),
-        (&CASE_1[..15], 15, 16),
-        (&CASE_1[..16], 16, 56),
-        (&CASE_1[..55], 55, 56),
-        (&longer, 57, 56),
+    let second = [&SECOND[..], &[0]].concat();
+    for (bytes, given, needed, needed_in_second, or) in [
+        (&CASE_1[..0], 0, 16, 16, ""),
+        (&CASE_1[..15], 15, 16, 16, ""),
+        (&CASE_1[..16], 16, 56, 64, ", or 64 in edition 2"),
+        (&CASE_1[..55], 55, 56, 64, ", or 64 in edition 2"),
+        (&longer, 57, 56, 64, ", or 64 in edition 2"),
+        (&SECOND[..51], 51, 44, 52, ", or 52 in edition 2"),
+        (&second, 53, 44, 52, ", or 52 in edition 2"),
     ] {
-        let error = ReportError::Length { given, needed };
+        let error = ReportError::Length {
+            given,
+            needed,
+            needed_in_second,
+        };
         assert_eq!(Report::parse(bytes), Err(error));
         assert_eq!(
             error.to_string(),
-            format!("{given} bytes, where the report has {needed}")
+            format!("{given} bytes, where the report has {needed}{or}")
         );
     }
 }

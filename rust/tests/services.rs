@@ -4,10 +4,10 @@
 mod common;
 
 use common::sample;
-use jamturret::limits::{MOST_BOARDS, MOST_INBOXES, MOST_OPERATIONS};
+use jamturret::limits::{MOST_BOARDS, MOST_INBOXES, MOST_OPERATIONS, MOST_REPORT_ROOM};
 use jamturret::{
-    check, follow, premise, run, Board, Mode, Premise, ReceiveOperation, Refusal, Room,
-    SendOperation, Sheet, Source, Verdict,
+    check, follow, premise, run, Board, Edition, Mode, Outcome, Premise, ReceiveOperation, Refusal,
+    Room, SendOperation, Sheet, Source, Verdict,
 };
 
 /// Rank 0 sends "AB" to rank 1 and "C" to rank 2. The inboxes have 3, 4 and 2
@@ -132,10 +132,18 @@ fn orders_that_end_otherwise() {
 }
 
 /// As many boards, operations, inbox bytes and steps as a sheet can have: the
-/// rooms are large enough for every sheet. The last byte of the last inbox is
-/// the one that is written.
+/// rooms are large enough for every sheet of either edition. The last byte of
+/// the last inbox is the one that is written.
 #[test]
-fn largest_sheet() {
+fn largest_sheets() {
+    for (edition, report) in [(Edition::First, 24_720), (Edition::Second, 24_784)] {
+        let ran = largest_sheet(edition);
+        assert_eq!(ran.report.bytes().len(), report);
+    }
+    assert_eq!(MOST_REPORT_ROOM, 24_784);
+}
+
+fn largest_sheet(edition: Edition) -> Outcome {
     let even = |rank| {
         let send = SendOperation::new(Mode::Standard, rank + 1).bytes(0, 1);
         Board {
@@ -158,12 +166,14 @@ fn largest_sheet() {
         };
         board.inbox(size)
     });
-    let sheet = Sheet::build(1, boards.collect(), b"J").expect("every number fits");
+    let sheet = Sheet::build_in(edition, 1, boards.collect(), b"J");
+    let sheet = sheet.expect("every number fits");
     let ran = run(&sheet, None).expect("the sheet passes");
     assert_eq!(ran.report.verdict(), Verdict::Finished);
     assert_eq!(ran.order.len(), 2 * MOST_OPERATIONS);
     let mut last = vec![0; size];
     last[size - 1] = b'J';
     assert_eq!(ran.inboxes.last(), Some(&last));
-    assert_eq!(follow(&sheet, &ran.order, None), Ok(ran));
+    assert_eq!(follow(&sheet, &ran.order, None).as_ref(), Ok(&ran));
+    ran
 }

@@ -7,12 +7,12 @@ use common::parts::random_sheet;
 use common::random::Random;
 use common::sample;
 use jamturret::limits::{
-    MOST_ATTACHED, MOST_BOARDS, MOST_COMMUNICATORS, MOST_INBOXES, MOST_LENGTH, MOST_OPERATIONS,
-    MOST_PAYLOAD, MOST_SLOT, MOST_TAG,
+    sheet_length, MOST_ATTACHED, MOST_BOARDS, MOST_COMMUNICATORS, MOST_INBOXES, MOST_LENGTH,
+    MOST_OPERATIONS, MOST_PAYLOAD, MOST_SHEET, MOST_SLOT, MOST_STANDARD_ROOM, MOST_TAG,
 };
 use jamturret::{
-    check, Board, Mode, Operation, ProbeOperation, ReceiveOperation, Refusal, SendOperation, Sheet,
-    Source, Tag,
+    check, Board, Edition, Mode, Operation, ProbeOperation, ReceiveOperation, Refusal,
+    SendOperation, Sheet, Source, Tag,
 };
 
 fn send(mode: Mode, to: usize) -> SendOperation {
@@ -31,9 +31,16 @@ fn payload(length: u8) -> Vec<u8> {
 /// The parts of a sample sheet, worked out from sheets/README.md and document
 /// 01, give its bytes; and its bytes give the parts.
 fn is_sample(name: &str, boards: Vec<Board>, length: u8) {
-    let built = Sheet::build(1, boards.clone(), &payload(length)).expect("every number fits");
+    is_sample_of(Edition::First, name, boards, length);
+}
+
+fn is_sample_of(edition: Edition, name: &str, boards: Vec<Board>, length: u8) {
+    let built = Sheet::build_in(edition, 1, boards.clone(), &payload(length));
+    let built = built.expect("every number fits");
     assert_eq!(built.bytes(), sample(name), "{name}");
+    assert_eq!(built.edition(), edition, "{name}");
     let parsed = Sheet::parse(&sample(name)).expect("the samples pass");
+    assert_eq!(parsed.edition(), edition, "{name}");
     assert_eq!(parsed.communicators(), 1, "{name}");
     assert_eq!(parsed.boards(), boards, "{name}");
     assert_eq!(parsed.payload(), payload(length), "{name}");
@@ -128,6 +135,66 @@ fn status_queries() {
     is_sample("query-before-and-after", vec![receiver, sender], 3);
 }
 
+#[test]
+fn standard_rooms() {
+    let both = |other: usize, room| {
+        Board::new()
+            .inbox(2)
+            .standard_room(room)
+            .then(send(Mode::Standard, other).tag(5).bytes(2 - 2 * other, 2))
+            .then(receive(other).tag(Tag::Is(5)).area(0, 2))
+    };
+    let boards = |room| vec![both(1, room), both(0, room)];
+    is_sample("both-send-first", boards(0), 4);
+    is_sample_of(Edition::Second, "both-send-first-covered", boards(2), 4);
+    is_sample_of(Edition::Second, "both-send-first-short", boards(1), 4);
+
+    let sender = Board::new()
+        .standard_room(3)
+        .then(send(Mode::Standard, 1).tag(1).bytes(0, 3))
+        .then(receive(1).tag(Tag::Is(2)))
+        .then(send(Mode::Standard, 1).tag(1).bytes(3, 2));
+    let receiver = Board::new()
+        .inbox(3)
+        .then(receive(0).tag(Tag::Is(1)).area(0, 3))
+        .then(send(Mode::Standard, 0).tag(2));
+    let boards = vec![sender, receiver];
+    is_sample_of(Edition::Second, "room-used-again", boards, 5);
+}
+
+/// In edition 2 a board entry has ten bytes, and what stands behind them starts
+/// two bytes a board later (document 02, K6).
+#[test]
+fn bytes_of_edition_2_by_hand() {
+    let boards = vec![
+        Board::new()
+            .attached(0x0102)
+            .inbox(0x0304)
+            .standard_room(0x0506)
+            .then(send(Mode::Standard, 1).tag(0x0708).bytes(0, 2)),
+        Board::new()
+            .attached(0x090a)
+            .inbox(0x0b0c)
+            .standard_room(0x0d0e),
+    ];
+    let sheet = Sheet::build_in(Edition::Second, 3, boards, &[0xAA, 0xBB]);
+    let sheet = sheet.expect("every number fits");
+    #[rustfmt::skip]
+    let expected = [
+        2, 0,  3, 0,  1, 0,  16, 0,  36, 0,  52, 0,  2, 0,  0, 0,
+        0, 0,  1, 0,  0x02, 0x01,  0x04, 0x03,  0x06, 0x05,
+        1, 0,  0, 0,  0x0a, 0x09,  0x0c, 0x0b,  0x0e, 0x0d,
+        1, 0,  1, 0,  0, 0,  0, 0,  0x08, 0x07,  0, 0,  2, 0,  0, 0,
+        0xAA, 0xBB,
+    ];
+    let mut bytes = sheet.bytes().to_vec();
+    bytes[14..16].fill(0);
+    assert_eq!(bytes, expected);
+    assert_eq!(check(&sheet), Ok(()));
+    assert_eq!(Sheet::parse(sheet.bytes()), Ok(sheet.clone()));
+    assert_eq!(sheet.payload(), [0xAA, 0xBB]);
+}
+
 /// Every field of every kind with a number of its own, byte by byte. Bytes 14
 /// and 15 are the CRC.
 #[test]
@@ -193,17 +260,20 @@ fn bytes_by_hand() {
 #[test]
 fn random_sheets_both_ways() {
     let mut random = Random::new(1);
-    let mut operations = 0;
+    let (mut operations, mut second) = (0, 0);
     for case in 0..20_000 {
         let sheet = random_sheet(&mut random).expect("every number fits");
         let parsed = Sheet::parse(sheet.bytes()).expect("the generator keeps the rules");
         assert_eq!(parsed, sheet, "case {case}");
         let boards = parsed.boards().to_vec();
-        let again = Sheet::build(parsed.communicators(), boards, parsed.payload());
+        let (edition, communicators) = (parsed.edition(), parsed.communicators());
+        let again = Sheet::build_in(edition, communicators, boards, parsed.payload());
         assert_eq!(again, Ok(sheet), "case {case}");
         operations += usize::from(parsed.operation(0).is_some());
+        second += usize::from(edition == Edition::Second);
     }
     assert!(operations > 10_000, "{operations} sheets have operations");
+    assert!((5_000..15_000).contains(&second), "{second} of edition 2");
 }
 
 #[test]
@@ -262,6 +332,29 @@ fn limits_of_sizes() {
         let boards = [1, most - 1].map(|size| Board::new().inbox(size));
         built(1, boards.to_vec())
     });
+    is_limit(MOST_STANDARD_ROOM, Refusal::Board { rank: 1 }, |most| {
+        let boards = vec![Board::new(), Board::new().standard_room(most)];
+        Sheet::build_in(Edition::Second, 1, boards, &[]).expect("every number fits")
+    });
+}
+
+/// The longest sheet of each edition.
+#[test]
+fn longest_sheets() {
+    let built = |edition| {
+        let mut boards = vec![Board::new(); MOST_BOARDS];
+        boards[7].script = vec![send(Mode::Standard, 0).into(); MOST_OPERATIONS];
+        let sheet = Sheet::build_in(edition, 1, boards, &[0; MOST_PAYLOAD]);
+        sheet.expect("every number fits")
+    };
+    for (edition, length) in [(Edition::First, 49_296), (Edition::Second, 49_328)] {
+        let sheet = built(edition);
+        assert_eq!(check(&sheet), Ok(()));
+        let told = edition.sheet_length(MOST_BOARDS, MOST_OPERATIONS, MOST_PAYLOAD);
+        assert_eq!((sheet.bytes().len(), told), (length, length));
+    }
+    let first = sheet_length(MOST_BOARDS, MOST_OPERATIONS, MOST_PAYLOAD);
+    assert_eq!((first, MOST_SHEET), (49_296, 49_328));
 }
 
 #[test]

@@ -1,11 +1,11 @@
--- Accounts of attached buffers (document 01, "How a board steps"). What a charge and a release leave is what rules' `charged` and
--- `released` leave of a place. Assumes nothing.
+-- Accounts of stores (document 01, "How a board steps"; document 02, K6). What a charge and a release leave is what rules' `charged`
+-- and `released` leave of a store's figures. Assumes nothing.
 use mathlib.Core.Path.{_≡_, refl, sym, ap}
 use mathlib.Core.Bool.{Bool, true, false, cond}
 use Prim.Native.Nat.{ℕ, _+_, _-_, _<_, _≤_, max}
 use native.Mathlib.Omega.{arith}
 use lib.Dec.{leb}
-use Rattle.rules.specs.Job.{Place, place}
+use Rattle.rules.specs.Job.{Figures, figures}
 use Rattle.rules.specs.Step.{charged, released}
 use borrow.Author.Tests.{le-leb, lt-leb, leb-true}
 use Rattle.laws.specs.Tests.{same-test}
@@ -20,23 +20,23 @@ account s u p =
       peak = p;
     }
 
--- the account of a place, for a buffer of the size
-unfoldable pub account-of : (size : ℕ) → Place → Account
+-- the account with these figures, of a store of the size
+unfoldable pub account-of : (size : ℕ) → Figures → Account
 account-of s q = account s (q .in-use) (q .peak)
 
--- a place with the account's figures
-unfoldable pub place-of : Account → Place
-place-of a = place 0 false (a .in_use) (a .peak)
+-- an account's figures
+unfoldable pub figures-of : Account → Figures
+figures-of a = figures (a .in_use) (a .peak)
 
 -- room for a charge of n bytes; what a charge leaves, where there is room and where there is none; what a release leaves
 unfoldable pub has-room : Account → (n : ℕ) → Bool
 has-room a n = leb (a .in_use + n) (a .size)
 
 unfoldable pub taken : Account → (n : ℕ) → Account
-taken a n = cond (has-room a n) (account-of (a .size) (charged n (place-of a))) a
+taken a n = cond (has-room a n) (account-of (a .size) (charged n (figures-of a))) a
 
 unfoldable pub given-back : Account → (n : ℕ) → Account
-given-back a n = account-of (a .size) (released n (place-of a))
+given-back a n = account-of (a .size) (released n (figures-of a))
 
 -- WHAT A CALLER WITH PLAIN NUMBERS CITES: the figures of an account of size s with u bytes in use and peak p
 module _ (s u p n : ℕ) where
@@ -45,7 +45,7 @@ module _ (s u p n : ℕ) where
   room-is = refl
 
   pub taken-room : leb (u + n) s ≡ true → taken (account s u p) n ≡ account s (u + n) (max p (u + n))
-  unfolding taken has-room account-of place-of charged place
+  unfolding taken has-room account-of figures-of charged figures
   taken-room t = rw t
 
   pub taken-in-use : leb (u + n) s ≡ true → taken (account s u p) n .in_use ≡ u + n
@@ -59,24 +59,21 @@ module _ (s u p n : ℕ) where
   taken-full t = rw t
 
   pub given-back-in-use : given-back (account s u p) n .in_use ≡ u - n
-  unfolding given-back account-of place-of released place
+  unfolding given-back account-of figures-of released figures
   given-back-in-use = refl
 
   pub given-back-peak : given-back (account s u p) n .peak ≡ p
-  unfolding given-back account-of place-of released place
+  unfolding given-back account-of figures-of released figures
   given-back-peak = refl
 
--- a place of rules whose figures are an account's: charged where there is room, and released
-module _ (s n : ℕ) (q : Place) where
-  abbrev place-with : Account → Place
-  place-with a = place (q .finished) (q .waiting) (a .in_use) (a .peak)
-
-  pub charged-is : leb (q .in-use + n) s ≡ true → charged n q ≡ place-with (taken (account s (q .in-use) (q .peak)) n)
-  unfolding charged
+-- figures of rules that are an account's: charged where there is room, and released
+module _ (s n : ℕ) (q : Figures) where
+  pub charged-is : leb (q .in-use + n) s ≡ true → charged n q ≡ figures-of (taken (account s (q .in-use) (q .peak)) n)
+  unfolding charged figures-of
   charged-is t = rw (taken-room s (q .in-use) (q .peak) n t)
 
-  pub released-is : released n q ≡ place-with (given-back (account s (q .in-use) (q .peak)) n)
-  unfolding released given-back account-of place-of place
+  pub released-is : released n q ≡ figures-of (given-back (account s (q .in-use) (q .peak)) n)
+  unfolding released given-back account-of figures-of figures
   released-is = refl
 
 -- WHAT THE CODE SHOWS: a test by a difference, the difference that is left, a charge by what the test said
@@ -103,5 +100,5 @@ unfolding has-room
 taken-not a n t = sym (taken-full (a .size) (a .in_use) (a .peak) n t)
 
 pub given-back-left : (a : Account) (n left : ℕ) → left ≡ a .in_use - n → account (a .size) left (a .peak) ≡ given-back a n
-unfolding given-back account-of place-of released place
+unfolding given-back account-of figures-of released figures
 given-back-left a n left e = rw e

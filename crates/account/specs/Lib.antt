@@ -1,5 +1,7 @@
--- The account of an attached buffer.
+-- The account of a store.
+--   Stores    the two stores of a board, by the names that the code has for them
 --   Accounts  accounts, and what a charge and a release leave, by the charges and releases of rules
---   Boards    a board's account moves under every step as an account does: one law
+--   Boards    a board's accounts move under every step as accounts do: one law
+pub mod Stores
 pub mod Accounts
 pub mod Boards

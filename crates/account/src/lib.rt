@@ -1,12 +1,18 @@
-// The account of a board's attached buffer (document 01, "How a board steps"; MPI buffered mode): its size, the bytes in use and
-// the most that were in use. The rules stand in two functions over accounts by value. `charge` and `release` take the account
-// by `&mut` and change it where it stands. `charging` and `releasing` lend an account of their own, for callers that have plain
-// numbers, as the engine has.
+// The account of one of a board's two stores, its attached buffer (document 01, "How a board steps"; MPI buffered mode) or its
+// standard room (document 02, K6): its size, the bytes in use and the most that were in use. The rules stand in two functions
+// over accounts by value. `charge` and `release` take the account by `&mut` and change it where it stands. `charging` and
+// `releasing` lend an account of their own, for callers that have plain numbers, as the engine has.
 ghost use mathlib.Core.Path.{_≡_};
 ghost use Prim.Native.Nat.{max};
 ghost use Rattle.account.specs.Accounts.{account, has-room, taken, given-back};
 
-// The attached size of a board, and of its place the bytes in use and the peak (document 01, "The report").
+// Whose account it is: of the attached buffer, or of the standard room. What each stands for in rules: specs/Stores.
+pub enum Store {
+    Attached,
+    Room,
+}
+
+// The size of a board's store, and of its place the bytes in use there and the peak (document 01, "The report").
 pub struct Account {
     pub size: usize,
     pub in_use: usize,

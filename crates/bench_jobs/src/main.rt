@@ -1,8 +1,8 @@
 // Runs outside vectors through the library and prints what it found, to be held to the file `stdout`.
 // CRC-16/IBM-3740 of the catalogue's check text, and of texts whose CRC another program has given (Python's binascii.crc_hqx);
 // then the sheets in `data/`: bench jobs 13 and 14 of document 01, large sheets, the longest ones (document 02, K11), probes and
-// queries (K9), and a sheet for each refusal that check can give. What each must give was worked out by another program, which
-// steps through document 01's rules.
+// queries (K9), edition 2 (K6), and a sheet for each refusal that check can give. What each must give was worked out by another
+// program, which steps through document 01's rules.
 mod jobs;
 mod lent;
 
@@ -57,7 +57,7 @@ fn large() {
     job(b"large-mixed-3.sheet");
 }
 
-// 2,048 operations on sixteen boards. Mixed: the longest sheet there is; every mode but ready, cut messages, 8 communicators.
+// 2,048 operations on sixteen boards. Mixed: the longest sheet of edition 1; every mode but ready, cut messages, 8 communicators.
 // Pending: all are messages that nobody receives. The others let the order matter: premise 20 and 21 at operation 2,047, 22 at
 // rank 15; the last two stop at operation 2,047.
 fn longest() {
@@ -75,6 +75,16 @@ fn probes() {
     job(b"probes-calm.sheet");
     job(b"probes-and-queries.sheet");
     job(b"probes-deadlock.sheet");
+}
+
+// Rooms for standard sends (document 02, K6): bench job 6 with rooms that cover its messages, and with rooms one byte short,
+// premise 24; a small sheet with an attached buffer beside rooms, one of which is filled, freed and used again, and with queries
+// and a probe of what is in it; and the longest sheet there is, a ring that finishes thanks to its rooms.
+fn in_rooms() {
+    job(b"rooms-case-6.sheet");
+    job(b"rooms-one-byte-short.sheet");
+    job(b"rooms-mixed.sheet");
+    job(b"rooms-longest.sheet");
 }
 
 // Document 01, "When the desk says no": 1, 3, 4, 5 twice, 7 three times. Of those three, the first two forget a request as well,
@@ -97,5 +107,6 @@ fn main() {
     large();
     longest();
     probes();
+    in_rooms();
     refused();
 }

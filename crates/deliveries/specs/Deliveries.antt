@@ -19,7 +19,7 @@ use lib.Seq.{length-take-le, drop-append-le, drop-drop, take-append-le}
 use borrow.Author.Tests.{eq-eqb, ne-eqb}
 use borrow.Rule.Slice.PartMut.{midOf, putMid}
 use Rattle.rules.specs.Limits.{most-inbox, scratch-size, payload-at}
-use Rattle.rules.specs.Sheet.{Sheet, op, board, P-of, N-of, sheet-in, rank-of, counts-before, inbox-start, inbox-total, is-send, is-receive, P-in, N-in, L-in}
+use Rattle.rules.specs.Sheet.{Sheet, op, board, P-of, N-of, sheet-in, rank-of, counts-before, inbox-start, inbox-total, is-send, is-receive, second-in, P-in, N-in, L-in}
 use Rattle.rules.specs.Job.{Job, Entry, entry-at}
 use Rattle.rules.specs.Step.{splice, area-start, copied, delivered}
 use Rattle.laws.specs.Tests.{true-not-false}
@@ -120,7 +120,7 @@ module _ {bs : List ℕ} {m r : ℕ} (d : Sent bs m r) where
   sheet = sheet-in bs
 
   abbrev payload-start : ℕ
-  payload-start = payload-at (P-in bs) (N-in bs)
+  payload-start = payload-at (second-in bs) (P-in bs) (N-in bs)
 
   -- the message's bytes lie inside the sheet, the area inside the inboxes
   pub message-end : payload-start + (op sheet m .offset + op sheet m .long) ≤ length bs

@@ -3,7 +3,7 @@
 --   Follow-seen, Run-seen      what a service's contract says of a call
 --   check-and-follow           of a call of check and one of follow
 --   run-keeps                  of a call of run
---   follow-demands             of two calls of follow
+--   two-follows                of two calls of follow
 --   follow-and-run             of a call of follow and one of run
 --   one-for-all                of a call of premise and one of run
 use mathlib.Core.Path.{_≡_, refl, sym, ap, subst, _∙_}
@@ -17,7 +17,7 @@ use lib.Dec.{eqb}
 use lib.ListN.{length, getD}
 use borrow.Author.Tests.{eq-eqb, ne-eqb}
 use Rattle.rules.specs.Limits.{order-room}
-use Rattle.rules.specs.Sheet.{Sheet, sheet-in, P-of, N-of}
+use Rattle.rules.specs.Sheet.{Sheet, second-in, sheet-in, P-of, N-of}
 use Rattle.rules.specs.Job.{Job}
 use Rattle.rules.specs.Refusal.{Refusal, refusal, or-else, sheet-refusal}
 use Rattle.rules.specs.Order.{follow, none-able}
@@ -33,17 +33,18 @@ use Rattle.invariant.specs.step.LowestAble.{next-able}
 use Rattle.promises.specs.Statements.{told-by, Exact, Verdicts}
 use Rattle.promises.specs.ServiceStatements.{Follow-call, Run-call, told-in, Left-alike, Follow-reports}
 use Rattle.promises.specs.ServiceStatements.{Run-reports, Run-replayed, Follow-by-arrival, Follows-alike, Run-alike, Follow-swaps}
-use Rattle.promises.specs.Theorems.{verdicts, follow-reports, run-reports, run-replayed, follow-by-arrival, follows-alike, run-alike, follow-swaps}
+use Rattle.promises.specs.EditionStatements.{Follow-editions}
+use Rattle.promises.specs.Theorems.{verdicts, follow-reports, run-reports, run-replayed, follow-by-arrival, follows-alike, run-alike, follow-swaps, follow-editions}
 use Rattle.promises.specs.compare.ReportBytes.{first-byte}
 use Rattle.promises.specs.claims.Calls.{follow-answer, follow-lent, follow-report, run-answer}
 use Rattle.promises.specs.claims.Reported.{follow-passes, run-passes}
 use Rattle.demands.specs.Demands.{Seen, Kept-rules, Same-answer, Check-and-follow, Run-keeps, Ended, Calls-alike}
-use Rattle.demands.specs.Demands.{Arrival-told, Two-orders, Exchanged, Follow-demands, Run-as-followed, Replayed, Follow-and-run, As-run, One-for-all}
+use Rattle.demands.specs.Demands.{Arrival-told, Two-orders, Exchanged, Follow-demands, Two-follows, Run-as-followed, Replayed, Follow-and-run, Both-editions, As-run, One-for-all}
 
 -- NO BOARD IS ABLE, by the report
-verdict-byte : (s : Sheet) (x : Job) (old : List ℕ) → getD (in-front (report s x) old) 0 0 ≡ verdict-of (x .stop) s x
+verdict-byte : (e : Bool) (s : Sheet) (x : Job) (old : List ℕ) → getD (in-front (report e s x) old) 0 0 ≡ verdict-of (x .stop) s x
 unfolding in-front report header-bytes
-verdict-byte s x old = refl
+verdict-byte e s x old = refl
 
 none-left : {bs o : List ℕ} → passes bs ≡ true → (f : Follow-call bs o) → f .number ≡ 0 → getD (f .report-now) 0 0 ≢ 0 →
     none-able (sheet-in bs) (left-by (sheet-in bs) o (f .inbox)) ≡ true
@@ -57,7 +58,7 @@ none-left {bs} {o} p f success differs = go (none-able s x) refl
     x = left-by s o (f .inbox)
 
     byte : getD (f .report-now) 0 0 ≡ verdict-of (x .stop) s x
-    byte = ap (λ (r : List ℕ). getD r 0 0) (follow-report p f success) ∙ verdict-byte s x (f .report)
+    byte = ap (λ (r : List ℕ). getD r 0 0) (follow-report p f success) ∙ verdict-byte (second-in bs) s x (f .report)
 
     go : (b : Bool) → none-able s x ≡ b → b ≡ true
     go true e = refl
@@ -139,7 +140,7 @@ module _ {bs o : List ℕ} {f : Seen} (a : Follow-seen bs o f) where
     sheet-first : checked .number ≢ 0 → Same-answer (f .answer) checked
     unfolding Check-says Follow-says answers follow-refusal Same-answer
     sheet-first h =
-        let rest = or-else (room-refusal (sheet-in bs) (length (f .inbox)) (length (f .report)) (order-room (N-of (sheet-in bs))) (length (a .scratch)))
+        let rest = or-else (room-refusal (second-in bs) (sheet-in bs) (length (f .inbox)) (length (f .report)) (order-room (N-of (sheet-in bs))) (length (a .scratch)))
         (order-refusal (follow (sheet-in bs) o (f .inbox) .refused-at)) in
         let same = or-else-stopped (sheet-refusal bs) rest (λ z. h (c .0 ∙ z)) in
         (a .said .0 .0 ∙ ap (λ (r : Refusal). r .number) same ∙ sym (c .0), a .said .0 .1 ∙ ap (λ (r : Refusal). r .place) same ∙ sym (c .1))
@@ -216,7 +217,7 @@ module _ {bs one other : List ℕ} {f g : Seen} (a : Follow-seen bs one f) (b : 
       follow-by-arrival bs one after (follow-success a zero-f)
       (follow-success (subst (λ (o : List ℕ). Follow-seen bs o g) other-is b) zero-g) zero-f zero-g
 
-  pub follow-demands : Follow-demands bs one other f g
+  follow-demands : Follow-demands bs one other f g
   follow-demands =
       record {
         end-alike = two-orders;
@@ -244,6 +245,19 @@ module _ {bs o : List ℕ} {f g : Seen} {w w-now : List ℕ} (a : Follow-seen bs
         replay = replayed;
       }
 
+-- THE TWO EDITIONS
+both-editions : {one two o : List ℕ} {f g : Seen} → Follow-seen one o f → Follow-seen two o g → Both-editions one two f g
+unfolding Both-editions Follow-editions
+both-editions {one} {two} {o} a b h pass-one pass-two not-short not-short-too same =
+    follow-editions one two o (follow-call a not-short) (follow-call b not-short-too) h pass-one pass-two same
+
+pub two-follows : {bs cs one other : List ℕ} {f g : Seen} → Follow-seen bs one f → Follow-seen cs other g → Two-follows bs cs one other f g
+two-follows {bs} {cs} {one} {other} {f} {g} a b =
+    record {
+      on-one-sheet = λ e. follow-demands a (subst (λ (z : List ℕ). Follow-seen z other g) (sym e) b);
+      with-one-order = λ e. both-editions a (subst (λ (z : List ℕ). Follow-seen cs z g) (sym e) b);
+    }
+
 -- THE PREMISE SERVICE AND RUN
 -- reports that are left alike tell one verdict
 alike-verdict : (bs i r j q : List ℕ) → Left-alike bs i r j q → getD r 0 0 ≡ getD q 0 0
@@ -251,7 +265,7 @@ unfolding Left-alike
 alike-verdict bs i r j q h =
     let p = P-of (sheet-in bs) in
     let n = N-of (sheet-in bs) in
-    sym (first-byte p n r) ∙ ap (λ (z : List ℕ). getD z 0 0) (h .1) ∙ first-byte p n q
+    sym (first-byte (second-in bs) p n r) ∙ ap (λ (z : List ℕ). getD z 0 0) (h .1) ∙ first-byte (second-in bs) p n q
 
 module _ {bs : List ℕ} (asked : Answer) (c : Premise-says bs (asked .number) (asked .place)) {f : Seen} {o o-now : List ℕ}
     (a : Run-seen bs f o o-now) where

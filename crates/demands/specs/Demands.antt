@@ -8,12 +8,13 @@ use Prim.Native.Nat.{ℕ, _<_, _≤_}
 use lib.ListN.{length, getD, take}
 use Rattle.rules.specs.Limits.{header-size}
 use Rattle.rules.specs.Crc.{crc}
-use Rattle.rules.specs.Sheet.{sheet-in}
+use Rattle.rules.specs.Sheet.{second-in, sheet-in}
 use Rattle.rules.specs.Step.{splice, able}
 use Rattle.rules.specs.Report.{low-two}
 use Rattle.rules.specs.Claims.{passes, calm, accepts, left-by}
 use Rattle.sheet.specs.declared.Answer.{Answer}
 use Rattle.promises.specs.Statements.{Earlier-first}
+use Rattle.promises.specs.EditionStatements.{Same-in-both, Widened-left}
 use Rattle.promises.specs.ServiceStatements.{Follow-call, told-in, Reported, Followed-steps, Ran-order, Same-start, Same-left, Left-alike}
 
 -- what a caller sees of a call of follow or run: the answer, and inbox and report as they were lent and as the call left them
@@ -45,7 +46,7 @@ verdict-in f = getD (f .report-now) 0 0
 pub record Kept-rules (bs : List ℕ) (f : Seen) : Type 0 where
   pub refused : f .answer .number ≢ 0 → (f .inbox-now ≡ f .inbox) × (f .report-now ≡ f .report)
   pub passing : f .answer .number ≡ 0 → passes bs ≡ true
-  pub reported : f .answer .number ≡ 0 → Reported (sheet-in bs) (f .inbox) (f .inbox-now) (f .report-now)
+  pub reported : f .answer .number ≡ 0 → Reported (second-in bs) (sheet-in bs) (f .inbox) (f .inbox-now) (f .report-now)
 
 -- A sheet that carries the CRC it is told to carry is not refused with 4. Nothing else of it was changed; one that is short of
 -- a header was not changed at all.
@@ -66,14 +67,14 @@ pub record Check-agrees (checked : Answer) (f : Seen) : Type 0 where
 pub record Check-and-follow (bs order : List ℕ) (checked : Answer) (f : Seen) : Type 0 where
   pub agrees : Check-agrees checked f
   pub keeps : Kept-rules bs f
-  pub steps : f .answer .number ≡ 0 → Followed-steps (sheet-in bs) order (f .inbox) (f .report-now)
+  pub steps : f .answer .number ≡ 0 → Followed-steps (second-in bs) (sheet-in bs) order (f .inbox) (f .report-now)
 
 -- Of run also: a refusal puts nothing in order out; with number 0 no board is able, and order out has the order that was taken
 -- (promises: Ran-order).
 pub record Run-keeps (bs : List ℕ) (f : Seen) (order order-now : List ℕ) : Type 0 where
   pub keeps : Kept-rules bs f
   pub order-kept : f .answer .number ≢ 0 → order-now ≡ order
-  pub ran : f .answer .number ≡ 0 → Ran-order (sheet-in bs) order-now (f .inbox) (f .report-now)
+  pub ran : f .answer .number ≡ 0 → Ran-order (second-in bs) (sheet-in bs) order-now (f .inbox) (f .report-now)
 
 -- DEMAND 2 of two calls of follow, f with a beginning of g's order
 
@@ -81,7 +82,7 @@ pub record Run-keeps (bs : List ℕ) (f : Seen) (order order-now : List ℕ) : T
 unfoldable pub Arrival-told : (bs one other : List ℕ) (f g : Seen) → Type 0
 Arrival-told bs one other f g =
     (after : List ℕ) → other ≡ one ++ after → f .answer .number ≡ 0 → g .answer .number ≡ 0 →
-    Earlier-first (sheet-in bs) (told-in (sheet-in bs) (f .report-now)) (told-in (sheet-in bs) (g .report-now))
+    Earlier-first (sheet-in bs) (told-in (second-in bs) (sheet-in bs) (f .report-now)) (told-in (second-in bs) (sheet-in bs) (g .report-now))
 
 -- THE PREMISE: the sheet passes check and is calm; 8 refuses neither call; the inboxes start with the same bytes
 pub record Compared (bs : List ℕ) (f g : Seen) : Type 0 where
@@ -123,6 +124,20 @@ pub record Follow-demands (bs one other : List ℕ) (f g : Seen) : Type 0 where
   pub exchange : Exchanged bs one other f g
   pub arrival : Arrival-told bs one other f g
 
+-- THE TWO EDITIONS of a sheet without rooms (document 02, K6), followed with one order from inboxes with the same bytes: the same
+-- number and place, and with number 0 the same inbox, and the report with four zero bytes after each board row (promises:
+-- Follow-editions).
+unfoldable pub Both-editions : (one two : List ℕ) (f g : Seen) → Type 0
+Both-editions one two f g =
+    Same-in-both one two → passes one ≡ true → passes two ≡ true → f .answer .number ≢ 8 → g .answer .number ≢ 8 → f .inbox ≡ g .inbox →
+    (f .answer .number ≡ g .answer .number) × (f .answer .place ≡ g .answer .place)
+    × (f .answer .number ≡ 0 → Widened-left one (f .inbox-now) (f .report-now) (g .inbox-now) (g .report-now))
+
+-- Two calls of follow: on one sheet demands 2 and 3, with one order the two editions.
+pub record Two-follows (bs cs one other : List ℕ) (f g : Seen) : Type 0 where
+  pub on-one-sheet : bs ≡ cs → Follow-demands bs one other f g
+  pub with-one-order : one ≡ other → Both-editions bs cs f g
+
 -- DEMANDS 2 AND 3 of a call of follow, f, and one of run, g, which left `order-now` in order out
 
 -- Run ends alike with every order that follow accepts and after which no board is able.
@@ -132,7 +147,7 @@ Run-as-followed bs f g = Compared bs f g → Ended f → (g .answer .number ≡ 
 -- On any sheet: the order that run wrote down, followed, leaves what run left, peaks included (promises: Run-replayed).
 unfoldable pub Replayed : (bs order order-now : List ℕ) (f g : Seen) → Type 0
 Replayed bs order order-now f g =
-    order ≡ take (told-in (sheet-in bs) (g .report-now) .steps) order-now → f .answer .number ≢ 8 → g .answer .number ≡ 0 →
+    order ≡ take (told-in (second-in bs) (sheet-in bs) (g .report-now) .steps) order-now → f .answer .number ≢ 8 → g .answer .number ≡ 0 →
     Same-start bs (f .inbox) (g .inbox) →
     (f .answer .number ≡ 0) × Same-left bs (f .inbox-now) (f .report-now) (g .inbox-now) (g .report-now)
 

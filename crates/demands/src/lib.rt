@@ -1,7 +1,7 @@
 // The demands of the services themselves (document 01, "What is pinned down"): small functions that call the services and
 // ensure the demands' conclusions, with no `requires`. Their proofs know of a service only what its contract says, so a
 // contract that is weakened fails here.
-ghost use Rattle.demands.specs.Demands.{seen, Crc-carried, Check-and-follow, Run-keeps, Follow-demands, Follow-and-run, One-for-all};
+ghost use Rattle.demands.specs.Demands.{seen, Crc-carried, Check-and-follow, Run-keeps, Two-follows, Follow-and-run, One-for-all};
 use jamturret::jamturret_check;
 use jamturret::jamturret_crc;
 use jamturret::jamturret_follow;
@@ -61,9 +61,11 @@ pub fn run_once(
     jamturret_run(sheet, inbox, report, order, scratch)
 }
 
-// FOLLOW a sheet with two orders, each from and into rooms of its own: any two, and an order and its exchange among them.
+// FOLLOW twice, each from and into rooms of its own: one sheet with any two orders, an order and its exchange among them; and one
+// order on two sheets, the same sheet in both editions among them.
 pub fn follow_two(
-    sheet: &[u8],
+    sheet1: &[u8],
+    sheet2: &[u8],
     order1: &[u8],
     order2: &[u8],
     inbox1: &mut [u8],
@@ -72,12 +74,12 @@ pub fn follow_two(
     report2: &mut [u8],
     scratch: &mut [u8],
 ) -> Answers
-    ensures { λ a. ⌜ Follow-demands (now (sheet .entry)) (now (order1 .entry)) (now (order2 .entry))
+    ensures { λ a. ⌜ Two-follows (now (sheet1 .entry)) (now (sheet2 .entry)) (now (order1 .entry)) (now (order2 .entry))
         (seen (a .first) (now (inbox1 .entry)) (now (inbox1 .exit)) (now (report1 .entry)) (now (report1 .exit)))
         (seen (a .second) (now (inbox2 .entry)) (now (inbox2 .exit)) (now (report2 .entry)) (now (report2 .exit))) ⌝ }
 {
-    let first = jamturret_follow(sheet, order1, inbox1, report1, scratch);
-    let second = jamturret_follow(sheet, order2, inbox2, report2, scratch);
+    let first = jamturret_follow(sheet1, order1, inbox1, report1, scratch);
+    let second = jamturret_follow(sheet2, order2, inbox2, report2, scratch);
     Answers {
         first: first,
         second: second,

@@ -3,19 +3,17 @@
 -- Assumes nothing.
 use mathlib.Core.Path.{_≡_, refl, sym, ap, subst, _∙_}
 use mathlib.Core.Logic.{_⊎_, inl, inr}
-use mathlib.Core.Bool.{Bool, true, false, _&&_, cond}
+use mathlib.Core.Bool.{Bool, true, false, cond}
 use mathlib.Core.List.{List}
-use Prim.Native.Nat.{ℕ, suc, _*_, _≤_, _<_}
+use Prim.Native.Nat.{ℕ, _*_, _≤_, _<_}
 use native.Mathlib.Omega.{arith}
 use native.Mathlib.Decide.{ℕ-discrete, decLe}
-use lib.Dec.{eqb, leb}
-use borrow.Author.Tests.{leb-true}
-use Rattle.rules.specs.Limits.{most-ops, most-attached, most-inbox, absent}
-use Rattle.rules.specs.Sheet.{Sheet, op, board, P-of, N-of, rank-of, counts-before, inbox-start, is-send, is-receive, only-half, tells-message, tells-completion, tells}
-use Rattle.rules.specs.Refusal.{board-good}
-use Rattle.rules.specs.Job.{Job, entry, bare-entry, entry-at, place-at}
-use Rattle.rules.specs.Step.{is-cut, probe-row, query-row}
-use Rattle.laws.specs.Tests.{and-left, and-right, or-cases, not-so}
+use Rattle.rules.specs.Limits.{most-ops, absent}
+use Rattle.rules.specs.Sheet.{Sheet, op, board, P-of, N-of, rank-of, is-send, is-receive, only-half, tells-message, tells-completion, tells}
+use Rattle.rules.specs.Job.{Job, Store, in-attached, in-room, in-use-at, peak-at, entry, bare-entry, entry-at, place-at}
+use Rattle.rules.specs.Step.{is-cut, size-of, probe-row, query-row}
+use Rattle.laws.specs.Tests.{or-cases, not-so}
+use Rattle.laws.specs.Tabled.{board-entry}
 use Rattle.laws.specs.ReportRows.{Fits-row}
 use Rattle.invariant.specs.sheet.Valid.{Valid}
 use Rattle.invariant.specs.Invariant.{Entered, state-at, partner-at, row-of, Reached}
@@ -24,15 +22,11 @@ use Rattle.invariant.specs.sheet.Extents.{send-inside, receive-inside, s
 use Rattle.invariant.specs.preserve.Rows.{row-bare, row-message, row-receive}
 use Rattle.invariant.specs.preserve.StepCount.{steps-bound}
 
--- an attached buffer is small (number 5)
-pub attached-small : {s : Sheet} → Valid s → (r : ℕ) → r < P-of s → board s r .attached ≤ most-attached
-unfolding board-good
-attached-small {s} g r l =
-    let first = eqb (board s r .first) (counts-before s r) in
-    let attached = leb (board s r .attached) most-attached in
-    let inbox = leb (inbox-start s (suc r)) most-inbox in
-    leb-true (board s r .attached) most-attached
-    (and-left attached inbox (and-right first (attached && inbox) (g .boards-good r l)))
+-- an attached buffer and a room are small (number 5)
+size-small : {s : Sheet} → Valid s → (w : Store) (r : ℕ) → r < P-of s → size-of w (board s r) < 65536
+unfolding size-of
+size-small {s} g in-attached r l = omega (arith, board-entry s r (g .boards-good r l) .attached)
+size-small {s} g in-room r l = omega (arith, board-entry s r (g .boards-good r l) .room)
 
 module _ {s : Sheet} (g : Valid s) {lent : List ℕ} {x : Job} (R : Reached s lent x) where
   pub finished-few : (r : ℕ) → r < P-of s → place-at x r .finished ≤ most-ops
@@ -41,11 +35,11 @@ module _ {s : Sheet} (g : Valid s) {lent : List ℕ} {x : Job} (R : Reached s le
   pub steps-few : x .steps ≤ 2 * most-ops
   steps-few = omega (arith, steps-bound R, g .ops-few)
 
-  pub peak-few : (r : ℕ) → r < P-of s → place-at x r .peak ≤ most-attached
-  peak-few r l = omega (arith, R .peak-attached r l, attached-small g r l)
+  pub peak-few : (w : Store) (r : ℕ) → r < P-of s → peak-at w x r < 65536
+  peak-few w r l = omega (arith, R .peak-size w r l, size-small g w r l)
 
-  pub in-use-few : (r : ℕ) → r < P-of s → place-at x r .in-use ≤ most-attached
-  in-use-few r l = omega (arith, R .in-use-peak r, peak-few r l)
+  pub in-use-few : (w : Store) (r : ℕ) → r < P-of s → in-use-at w x r < 65536
+  in-use-few w r l = omega (arith, R .in-use-peak w r, peak-few w r l)
 
   -- a row: partner, source, tag and length are those of an operation of the sheet, or absent
   bare-fits : (v : ℕ) → Fits-row (bare-entry v)

@@ -21,10 +21,12 @@ use Prim.Native.Nat.{ℕ, zero, suc, _+_, _≤_, _<_}
 use lib.Dec.{eqb, ltb}
 use lib.ListN.{length}
 use Rattle.rules.specs.Limits.{absent}
-use Rattle.rules.specs.Sheet.{Sheet, Op, op, board, P-of, N-of, rank-of, is-send, is-receive, only-half, is-buffered, no-half}
+use Rattle.rules.specs.Sheet.{Sheet, Op, op, board, P-of, N-of, rank-of, is-send, is-receive, only-half, is-standard, is-buffered, no-half}
 use Rattle.rules.specs.Sheet.{tells-message, tells-completion, tells}
-use Rattle.rules.specs.Job.{Job, Entry, Stop, entry, bare-entry, entry-at, place-at}
-use Rattle.rules.specs.Step.{next-op, half-complete, complete-if, waited, fits-with, first-message, is-cut, charge-of, delivered, is-none, probe-row, query-row, half-row}
+use Rattle.rules.specs.Job.{Job, Entry, Stop, Store, in-use-at, peak-at, entry, bare-entry, entry-at, place-at}
+use Rattle.rules.specs.Step.{next-op, half-complete, complete-if, waited, fits-with, first-message, is-cut, kept-in, size-of, charge-of, delivered, is-none}
+use Rattle.rules.specs.Step.{fits-room, probe-row, query-row, half-row}
+use Rattle.rules.specs.Claims.{rooms-cover}
 use Rattle.laws.specs.Sums.{sum-below}
 use Rattle.laws.specs.WaitingLists.{Holds}
 
@@ -117,9 +119,21 @@ row-of s j v p =
     (entry 3 0 p absent absent 0))
     (bare-entry v)
 
--- the state of an entered operation that is not matched
-unfoldable pub unmatched-state : Op → ℕ
-unmatched-state o = cond (only-half o) 5 (cond (is-buffered o) 2 1)
+-- the state of an entered operation that is not matched, by whether it is a send whose message is kept in a store
+unfoldable pub unmatched-state : (kept : Bool) → Op → ℕ
+unmatched-state k o = cond (only-half o) 5 (cond k 2 1)
+
+-- a buffered send is kept; a standard one may be, where its board has a room (document 02, K6): whether it is depends on what was
+-- in use when it was initiated, but where rooms are 0 or cover all. Nothing else is
+pub record Keeps (s : Sheet) (j : ℕ) (kept : Bool) : Type 0 where
+  pub buffered : is-buffered (op s j) ≡ true → kept ≡ true
+  pub covered : rooms-cover s ≡ true → is-standard (op s j) ≡ true → 0 < board s (rank-of s j) .room → kept ≡ true
+  pub only : kept ≡ true → (is-buffered (op s j) ≡ true) ⊎ ((is-standard (op s j) ≡ true) × (0 < board s (rank-of s j) .room))
+
+pub record Unmatched (s : Sheet) (j state : ℕ) : Type 0 where
+  pub kept : Bool
+  pub keeps : Keeps s j kept
+  pub is : state ≡ unmatched-state kept (op s j)
 
 -- what the rows of a job can be
 pub record Shaped (s : Sheet) (x : Job) : Type 0 where
@@ -127,7 +141,7 @@ pub record Shaped (s : Sheet) (x : Job) : Type 0 where
   pub row : (j : ℕ) → tells (op s j) ≡ false → entry-at x j ≡ row-of s j (state-at x j) (partner-at x j)
   pub row-new : (j : ℕ) → state-at x j ≡ 0 → entry-at x j ≡ bare-entry 0
   -- (determinacy, still-able)
-  pub unmatched : (j : ℕ) → Entered x j → state-at x j ≢ 3 → state-at x j ≡ unmatched-state (op s j)
+  pub unmatched : (j : ℕ) → Entered x j → state-at x j ≢ 3 → Unmatched s j (state-at x j)
   pub only-half-unmatched : (j : ℕ) → only-half (op s j) ≡ true → state-at x j ≢ 3
 
 -- TOLD (document 02, K9): message m is the one that probe p told. It had not been taken when p looked, so no receive before p ever
@@ -150,9 +164,9 @@ pub record Told (s : Sheet) (arrival : ℕ → ℕ) (x : Job) : Type 0 where
   pub probes : (p : ℕ) → tells-message (op s p) ≡ true → Entered x p → (m : ℕ) × Probe-told s arrival x p m
   pub queries : (p : ℕ) → tells-completion (op s p) ≡ true → Entered x p → (answer : Bool) × Query-told s x p answer
 
--- CHARGED: what operation j has in the attached buffer of board r
-unfoldable pub charge-in : Sheet → Job → (r j : ℕ) → ℕ
-charge-in s x r j = cond (eqb (rank-of s j) r && eqb (state-at x j) 2) (charge-of (op s j)) 0
+-- CHARGED: what operation j has in a store of board r
+unfoldable pub charge-in : Store → Sheet → Job → (r j : ℕ) → ℕ
+charge-in w s x r j = cond (eqb (rank-of s j) r && (kept-in w (op s j) && eqb (state-at x j) 2)) (charge-of w (op s j)) 0
 
 -- REPLAYED: inboxes with every matched receive among the first n operations delivered, in script order
 unfoldable pub replay : Sheet → Job → (j : ℕ) → List ℕ → List ℕ
@@ -197,11 +211,11 @@ pub record Reached (s : Sheet) (i : List ℕ) (x : Job) : Type 0 where
   -- the waiting lists hold exactly what is pending: messages by arrival, each board's receives in script order (steps)
   pub messages-held : Holds (Arrived-before arrival) (Pending-message s x) (x .messages)
   pub receives-held : Holds (Posted-before s) (Pending-receive s x) (x .receives)
-  -- in use is the sum of the pending charges, and at most the peak (In-use, Peaks, calm sheets never stop)
-  pub in-use-sum : (r : ℕ) → r < P-of s → place-at x r .in-use ≡ sum-below (N-of s) (charge-in s x r)
-  pub in-use-peak : (r : ℕ) → place-at x r .in-use ≤ place-at x r .peak
-  -- no board has ever more in use than its attached buffer holds (the engine: they fit two bytes)
-  pub peak-attached : (r : ℕ) → r < P-of s → place-at x r .peak ≤ board s r .attached
+  -- of either store, in use is the sum of the pending charges, and at most the peak (In-use, Peaks, calm sheets never stop)
+  pub in-use-sum : (w : Store) (r : ℕ) → r < P-of s → in-use-at w x r ≡ sum-below (N-of s) (charge-in w s x r)
+  pub in-use-peak : (w : Store) (r : ℕ) → in-use-at w x r ≤ peak-at w x r
+  -- no board has ever more in use than its store holds (the engine: they fit two bytes)
+  pub peak-size : (w : Store) (r : ℕ) → r < P-of s → peak-at w x r ≤ size-of w (board s r)
   -- memory holds the deliveries in script order: time is gone from it (alike, whole or cut)
   pub memory-replayed : x .memory ≡ replayed s x (N-of s) i
   pub memory-long : length (x .memory) ≡ length i
@@ -211,6 +225,10 @@ pub record Reached (s : Sheet) (i : List ℕ) (x : Job) : Type 0 where
   pub stop-at : (t : Stop) → x .stop ≡ some t → Stopped s x t
 
 -- A STEP
+-- whether a send of board r that fits no posted receive and does not stop the job is kept in a store
+unfoldable pub is-kept : Sheet → (r i : ℕ) → Job → Bool
+is-kept s r i x = is-buffered (op s i) || fits-room s r i x
+
 -- rows of operations that tell stay, and one that a step enters is what the rule gives; what probes told stays told, and the
 -- probe that a step enters tells the message that it finds
 pub record Telling (s : Sheet) (arrival : ℕ → ℕ) (x : Job) (now : ℕ → ℕ) (y : Job) (i : ℕ) : Type 0 where
@@ -226,6 +244,11 @@ pub record Extended {s : Sheet} {lent : List ℕ} {x : Job} (R : Reached s lent 
   pub reached : Reached s lent y
   pub on : (j : ℕ) → Entered x j → Entered y j
   pub back : (j : ℕ) → j ≢ i → Entered y j → Entered x j
+  -- what was complete is, and what was entered and is not matched is in the state that it was in; i's goes by what was in use
+  pub complete-on : (j : ℕ) → 2 ≤ state-at x j → 2 ≤ state-at y j
+  pub same-state : (j : ℕ) → Entered x j → state-at y j ≢ 3 → state-at y j ≡ state-at x j
+  pub new-state : Entered y i → (Entered x i → ⊥) → state-at y i ≢ 3 →
+      state-at y i ≡ unmatched-state (is-kept s (rank-of s i) i x) (op s i)
   pub old : (j : ℕ) → Entered x j → reached .arrival j ≡ R .arrival j
   pub new : Entered y i → (Entered x i → ⊥) → (j : ℕ) → Entered x j → reached .arrival j < reached .arrival i
   pub telling : Telling s (R .arrival) x (reached .arrival) y i

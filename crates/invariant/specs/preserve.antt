@@ -5,6 +5,8 @@
 --   Rows            the rows of operations
 --   WaitingLists    pending messages and posted receives
 --   Charges         bytes in use
+--   Covered         a store that covers all its messages has room for the next
+--   Kept            whether an unmatched send is kept in a store
 --   Memory          the inboxes
 --   SameRows        jobs with the same rows
 --   Told            what probes and queries told
@@ -18,6 +20,8 @@ pub mod ArrivalOrder
 pub mod Rows
 pub mod WaitingLists
 pub mod Charges
+pub mod Covered
+pub mod Kept
 pub mod Memory
 pub mod SameRows
 pub mod Told

@@ -12,7 +12,7 @@ use native.Mathlib.Omega.{arith}
 use native.Mathlib.Decide.{ℕ-discrete}
 use lib.ListN.{length, replicate}
 use Rattle.rules.specs.Limits.{order-room}
-use Rattle.rules.specs.Sheet.{sheet-in, N-of}
+use Rattle.rules.specs.Sheet.{second-in, sheet-in, N-of}
 use Rattle.rules.specs.Job.{Job}
 use Rattle.rules.specs.Refusal.{Refusal, refusal, accepted, or-else, sheet-refusal}
 use Rattle.rules.specs.Order.{followed, follow, ran, run}
@@ -35,17 +35,17 @@ use Rattle.laws.specs.Rooms.{Roomy, rooms-enough, roomy}
 pub chain-sheet : (bs : List ℕ) (i r o c n p : ℕ) → Check-says bs n p → (n ≡ 0 → ⊥) → answers (run-refusal bs i r o c) n p
 unfolding Check-says run-refusal
 chain-sheet bs i r o c n p t h =
-    refused-first (room-refusal (sheet-in bs) i r o c) (refused (sheet-refusal bs) n p t h (let l = sheet-most bs in omega arith)) .answered
+    refused-first (room-refusal (second-in bs) (sheet-in bs) i r o c) (refused (sheet-refusal bs) n p t h (let l = sheet-most bs in omega arith)) .answered
 
 pub check-accepts : (bs : List ℕ) (n p : ℕ) → Check-says bs n p → n ≡ 0 → sheet-refusal bs .number ≡ 0
 unfolding Check-says
 check-accepts bs n p h z = sym (answers-number (sheet-refusal bs) n p h) ∙ z
 
-pub chain-rooms : (bs : List ℕ) (i r o c n p : ℕ) → sheet-refusal bs .number ≡ 0 → answers (room-refusal (sheet-in bs) i r o c) n p →
+pub chain-rooms : (bs : List ℕ) (i r o c n p : ℕ) → sheet-refusal bs .number ≡ 0 → answers (room-refusal (second-in bs) (sheet-in bs) i r o c) n p →
     answers (run-refusal bs i r o c) n p
 unfolding run-refusal
 chain-rooms bs i r o c n p e t =
-    subst (λ (f : Refusal). answers f n p) (sym (or-else-passed (sheet-refusal bs) (room-refusal (sheet-in bs) i r o c) e)) t
+    subst (λ (f : Refusal). answers f n p) (sym (or-else-passed (sheet-refusal bs) (room-refusal (second-in bs) (sheet-in bs) i r o c) e)) t
 
 pub unrefused-laid : (bs : List ℕ) → sheet-refusal bs .number ≡ 0 → Laid bs
 unrefused-laid bs e = accepted-laid bs (unrefused-accepted bs e)
@@ -56,7 +56,7 @@ module _ (bs : List ℕ) (i r o c n p : ℕ) (t : answers (run-refusal bs i r o 
   early h =
       let l = sheet-most bs in
       refused (run-refusal bs i r o c) n p t h
-      (or-else-most 8 (sheet-refusal bs) (room-refusal (sheet-in bs) i r o c) (omega arith) (room-most (sheet-in bs) i r o c))
+      (or-else-most 8 (sheet-refusal bs) (room-refusal (second-in bs) (sheet-in bs) i r o c) (omega arith) (room-most (second-in bs) (sheet-in bs) i r o c))
 
   module _ (z : n ≡ 0) where
     zero-number : run-refusal bs i r o c .number ≡ 0
@@ -64,7 +64,7 @@ module _ (bs : List ℕ) (i r o c n p : ℕ) (t : answers (run-refusal bs i r o 
 
     pub unrefused : sheet-refusal bs .number ≡ 0
     unfolding run-refusal
-    unrefused = or-else-first (sheet-refusal bs) (room-refusal (sheet-in bs) i r o c) zero-number
+    unrefused = or-else-first (sheet-refusal bs) (room-refusal (second-in bs) (sheet-in bs) i r o c) zero-number
 
     pub ready : Ready bs i r o c
     unfolding run-refusal
@@ -73,13 +73,13 @@ module _ (bs : List ℕ) (i r o c n p : ℕ) (t : answers (run-refusal bs i r o 
         record {
           laid = accepted-laid bs a;
           good = valid-from-accepted bs a;
-          roomy = roomy (sheet-in bs) i r o c (or-else-second (sheet-refusal bs) (room-refusal (sheet-in bs) i r o c) zero-number);
+          roomy = roomy (second-in bs) (sheet-in bs) i r o c (or-else-second (sheet-refusal bs) (room-refusal (second-in bs) (sheet-in bs) i r o c) zero-number);
         }
 
 -- THE END of a job that stands in scratch
 pub record Finished (bs : List ℕ) (t : Control) (i i-now r r-now c c-now : List ℕ) : Type 0 where
   pub delivered : (x : Job) → Represents bs i c t x → i-now ≡ x .memory
-  pub reported : (x : Job) → Represents bs i c t x → r-now ≡ in-front (report (sheet-in bs) x) r
+  pub reported : (x : Job) → Represents bs i c t x → r-now ≡ in-front (report (second-in bs) (sheet-in bs) x) r
   pub zeroed : c-now ≡ replicate (length c) 0
 
 -- FOLLOW, past sheet and rooms
@@ -90,7 +90,7 @@ Follow-does bs o n p i i-now r r-now c c-now =
     let f = order-refusal (y .refused-at) in
     answers f n p
     × (i-now ≡ kept-or (f .number) (y .left .memory) i)
-    × (r-now ≡ kept-or (f .number) (in-front (report (sheet-in bs) (y .left)) r) r)
+    × (r-now ≡ kept-or (f .number) (in-front (report (second-in bs) (sheet-in bs) (y .left)) r) r)
     × (c-now ≡ replicate (length c) 0)
 
 pub does-refused : (bs o i r c c-now : List ℕ) (k : ℕ) (x : Job) → follow (sheet-in bs) o i ≡ followed (some k) x →
@@ -108,7 +108,7 @@ does-followed bs o c x e h l q =
 
 module _ (bs o i r c : List ℕ) where
   abbrev rooms : Refusal
-  rooms = room-refusal (sheet-in bs) (length i) (length r) (order-room (N-of (sheet-in bs))) (length c)
+  rooms = room-refusal (second-in bs) (sheet-in bs) (length i) (length r) (order-room (N-of (sheet-in bs))) (length c)
 
   abbrev ordered : Refusal
   ordered = order-refusal (follow (sheet-in bs) o i .refused-at)
@@ -122,13 +122,13 @@ module _ (bs o i r c : List ℕ) where
       (e .answered, kept e _ i, kept e _ r, scratch-kept e c)
     where
       lent : Refusal
-      lent = room-refusal (sheet-in bs) (length i) (length r) room (length c)
+      lent = room-refusal (second-in bs) (sheet-in bs) (length i) (length r) room (length c)
 
       chain : Dec (sheet-refusal bs .number ≡ 0) → Refused (or-else (sheet-refusal bs) (or-else rooms ordered)) n p
       chain (no h) = refused-first (or-else rooms ordered) (refused-as (sym (or-else-stopped (sheet-refusal bs) lent h)) q)
       chain (yes e) =
           let same = or-else-passed (sheet-refusal bs) lent e
-          ∙ order-unasked (sheet-in bs) (length i) (length r) room (length c) (wide (unrefused-laid bs e)) in
+          ∙ order-unasked (second-in bs) (sheet-in bs) (length i) (length r) room (length c) (wide (unrefused-laid bs e)) in
           refused-second (sheet-refusal bs) e (refused-first ordered (refused-as (sym same) q))
 
   -- both are accepted
@@ -137,12 +137,12 @@ module _ (bs o i r c : List ℕ) where
   zeroed-left none = refl
   zeroed-left (some k) = refl
 
-  pub follow-done : sheet-refusal bs .number ≡ 0 → Roomy (sheet-in bs) (length i) (length r) (order-room (N-of (sheet-in bs))) (length c) →
+  pub follow-done : sheet-refusal bs .number ≡ 0 → Roomy (second-in bs) (sheet-in bs) (length i) (length r) (order-room (N-of (sheet-in bs))) (length c) →
       (n p : ℕ) (i-now r-now c-now : List ℕ) → Follow-does bs o n p i i-now r r-now c c-now →
       Follow-says bs o n p i i-now r r-now c c-now
   unfolding Follow-says Follow-does follow-refusal refusal
   follow-done g q n p i-now r-now c-now h =
-      let z = ap (λ (f : Refusal). f .number) (rooms-enough (sheet-in bs) (length i) (length r) (order-room (N-of (sheet-in bs))) (length c) q) in
+      let z = ap (λ (f : Refusal). f .number) (rooms-enough (second-in bs) (sheet-in bs) (length i) (length r) (order-room (N-of (sheet-in bs))) (length c) q) in
       let e = or-else-passed (sheet-refusal bs) (or-else rooms ordered) g ∙ or-else-passed rooms ordered z in
       rw e (h .0, h .1, h .2, h .3 ∙ zeroed-left (follow (sheet-in bs) o i .refused-at))
 
@@ -153,7 +153,7 @@ Run-does bs n p i i-now r r-now o o-now c c-now =
     let e = run (sheet-in bs) i in
     answers accepted n p
     × (i-now ≡ e .end .memory)
-    × (r-now ≡ in-front (report (sheet-in bs) (e .end)) r)
+    × (r-now ≡ in-front (report (second-in bs) (sheet-in bs) (e .end)) r)
     × (o-now ≡ in-front (e .order) o)
     × (c-now ≡ replicate (length c) 0)
 
@@ -165,16 +165,16 @@ does-run bs o c taken x e h l q w = rw e ((refl, refl), q .delivered x h, q .rep
 
 module _ (bs i r o c : List ℕ) where
   abbrev run-rooms : Refusal
-  run-rooms = room-refusal (sheet-in bs) (length i) (length r) (length o) (length c)
+  run-rooms = room-refusal (second-in bs) (sheet-in bs) (length i) (length r) (length o) (length c)
 
   pub run-refused : (n p : ℕ) → Refused (run-refusal bs (length i) (length r) (length o) (length c)) n p → Run-says bs n p i i r r o o c c
   unfolding Run-says
   run-refused n p q = (q .answered, kept q _ i, kept q _ r, kept q _ o, scratch-kept q c)
 
-  pub run-done : sheet-refusal bs .number ≡ 0 → Roomy (sheet-in bs) (length i) (length r) (length o) (length c) →
+  pub run-done : sheet-refusal bs .number ≡ 0 → Roomy (second-in bs) (sheet-in bs) (length i) (length r) (length o) (length c) →
       (n p : ℕ) (i-now r-now o-now c-now : List ℕ) → Run-does bs n p i i-now r r-now o o-now c c-now →
       Run-says bs n p i i-now r r-now o o-now c c-now
   unfolding Run-says Run-does run-refusal refusal kept-or scratch-left
   run-done g q n p i-now r-now o-now c-now h =
-      let e = or-else-passed (sheet-refusal bs) run-rooms g ∙ rooms-enough (sheet-in bs) (length i) (length r) (length o) (length c) q in
+      let e = or-else-passed (sheet-refusal bs) run-rooms g ∙ rooms-enough (second-in bs) (sheet-in bs) (length i) (length r) (length o) (length c) q in
       rw e h

@@ -3,7 +3,7 @@
 ghost use Prim.Native.Nat.{_≤_};
 ghost use lib.ListN.{length};
 ghost use Rattle.rules.specs.Limits.{report-size, order-room};
-ghost use Rattle.rules.specs.Sheet.{sheet-in, P-of, N-of, inbox-total};
+ghost use Rattle.rules.specs.Sheet.{second-in, sheet-in, P-of, N-of, inbox-total};
 ghost use Rattle.simulation.specs.Represents.{Represented};
 ghost use Rattle.jamturret.specs.Rooms.{Ready};
 ghost use Rattle.jamturret.specs.Outcomes.{Finished, Follow-does, Run-does};
@@ -15,7 +15,7 @@ use state::Control;
 // The end of both, for the job that stands in scratch: its deliveries, its report, and scratch zeroed.
 fn finish(sheet: &[u8], scratch: &mut [u8], t: Control, inbox: &mut [u8], out: &mut [u8])
     requires { ⌜ Represented (now sheet) (now scratch) t × (inbox-total (sheet-in (now sheet)) ≤ length (now inbox))
-        × (report-size (P-of (sheet-in (now sheet))) (N-of (sheet-in (now sheet))) ≤ length (now out)) ⌝ }
+        × (report-size (second-in (now sheet)) (P-of (sheet-in (now sheet))) (N-of (sheet-in (now sheet))) ≤ length (now out)) ⌝ }
     ensures { λ _. ⌜ Finished (now (sheet .entry)) t (now (inbox .entry)) (now (inbox .exit)) (now (out .entry)) (now (out .exit))
         (now (scratch .entry)) (now (scratch .exit)) ⌝ }
 {

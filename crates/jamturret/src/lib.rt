@@ -31,10 +31,11 @@ pub extern "C" fn jamturret_check(sheet: &[u8]) -> Answer
     check::check(sheet)
 }
 
-// PREMISE of demand 3: whether the order of steps can matter for a sheet. Refusals 1 to 7; 20 an any-source receive, 21 a ready
-// send, 22 a board whose attached buffer does not cover all its buffered sends; else number 0 and place 0, and any two full
-// orders end alike. Shut out, among others: one that answers 0 for every sheet that passes check, and one that takes a buffer
-// for enough that covers each buffered send alone and not all of them together.
+// PREMISE of demand 3: whether the order of steps can matter for a sheet. Refusals 1 to 7; 20 an any-source receive or probe, 21 a
+// ready send, 22 a board whose attached buffer does not cover all its buffered sends, 23 a query, 24 a board whose standard room is
+// above 0 and does not cover all its standard sends; else number 0 and place 0, and any two full orders end alike. Shut out, among
+// others: one that answers 0 for every sheet that passes check, and one that takes a buffer or a room for enough that covers each
+// send alone and not all of them together.
 #[no_mangle]
 pub extern "C" fn jamturret_premise(sheet: &[u8]) -> Answer
     ensures { λ a. ⌜ Premise-says (now (sheet .entry)) (a .number) (a .place) ⌝ }

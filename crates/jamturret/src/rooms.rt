@@ -1,6 +1,6 @@
 // Refusals 1 to 8 of a call: the sheet's, else the first lent room that is short (document 01, "When the desk says no").
 ghost use mathlib.Core.Path.{_≡_};
-ghost use Rattle.rules.specs.Sheet.{sheet-in, inbox-total};
+ghost use Rattle.rules.specs.Sheet.{second-in, sheet-in, inbox-total};
 ghost use Rattle.rules.specs.Service.{answers, room-refusal, run-refusal};
 ghost use Rattle.laws.specs.Laid.{Laid};
 use refusals::check;
@@ -23,10 +23,10 @@ fn inbox_total(s: &[u8]) -> usize
     total
 }
 
-// Refusal 8: place 1 inbox, 2 report, 3 order out, 4 scratch.
+// Refusal 8: place 1 inbox, 2 report, whose rows are of the sheet's edition (document 02, K6), 3 order out, 4 scratch.
 fn short(s: &[u8], inbox: usize, report: usize, order: usize, scratch: usize) -> Answer
     requires { ⌜ Laid (now s) ⌝ }
-    ensures { λ a. ⌜ answers (room-refusal (sheet-in (now (s .entry))) inbox report order scratch) (a .number) (a .place) ⌝ }
+    ensures { λ a. ⌜ answers (room-refusal (second-in (now (s .entry))) (sheet-in (now (s .entry))) inbox report order scratch) (a .number) (a .place) ⌝ }
 {
     let n = header::ops(s);
     if inbox < inbox_total(s) {
@@ -35,7 +35,7 @@ fn short(s: &[u8], inbox: usize, report: usize, order: usize, scratch: usize) ->
             place: 1,
         };
     }
-    if report < limits::report_size(header::boards(s), n) {
+    if report < report::size(s) {
         return Answer {
             number: 8,
             place: 2,

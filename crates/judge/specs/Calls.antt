@@ -9,7 +9,7 @@ use lib.Dec.{eqb}
 use lib.ListN.{length, take, length-replicate}
 use borrow.Author.Tests.{eq-eqb}
 use Rattle.rules.specs.Limits.{most-inbox, report-size, scratch-size}
-use Rattle.rules.specs.Sheet.{Sheet, sheet-in, P-of, N-of}
+use Rattle.rules.specs.Sheet.{Sheet, second-in, sheet-in, P-of, N-of}
 use Rattle.rules.specs.Job.{Job}
 use Rattle.rules.specs.Refusal.{Refusal, refusal, accepted, sheet-refusal}
 use Rattle.rules.specs.Order.{run}
@@ -17,6 +17,7 @@ use Rattle.rules.specs.Report.{report}
 use Rattle.rules.specs.Service.{answers, room-refusal, in-front, kept-or, run-refusal, Run-says}
 use Rattle.laws.specs.Broken.{or-else-passed, or-else-stopped}
 use Rattle.laws.specs.Tests.{cond-true}
+use Rattle.laws.specs.Editions.{rows-most}
 use Rattle.laws.specs.Laid.{Laid}
 use Rattle.laws.specs.Answers.{answers-number}
 use Rattle.laws.specs.Rooms.{rooms-enough}
@@ -34,7 +35,7 @@ use Rattle.judge.specs.Printed.{most-report, most-order, zeros, report-f
 pub record Reported (bs room : List ℕ) : Type 0 where
   pub passed : sheet-refusal bs .number ≡ 0
   pub laid : Laid bs
-  pub own : take (report-size (P-of (sheet-in bs)) (N-of (sheet-in bs))) room ≡ report-for bs
+  pub own : take (report-size (second-in bs) (P-of (sheet-in bs)) (N-of (sheet-in bs))) room ≡ report-for bs
   pub long : most-report ≡ length room
 
 -- the outcome of a run from zeroed inboxes: a refusal of check's, or the report
@@ -52,16 +53,16 @@ pub record Lines (line told : List ℕ) (n : ℕ) (line-room : List ℕ) (m : �
 
 -- rooms of these sizes are never short
 abbrev rooms-lent : (bs : List ℕ) → Refusal
-rooms-lent bs = room-refusal (sheet-in bs) most-inbox most-report most-order scratch-size
+rooms-lent bs = room-refusal (second-in bs) (sheet-in bs) most-inbox most-report most-order scratch-size
 
 never-short : (bs : List ℕ) → sheet-refusal bs .number ≡ 0 → rooms-lent bs ≡ accepted
 never-short bs e =
     let a = unrefused-accepted bs e in
     let q = accepted-laid bs a in
-    rooms-enough (sheet-in bs) most-inbox most-report most-order scratch-size
+    rooms-enough (second-in bs) (sheet-in bs) most-inbox most-report most-order scratch-size
     (record {
       inbox = valid-from-accepted bs a .inbox-small;
-      report = omega arith;
+      report = omega (arith, rows-most (second-in bs) (P-of (sheet-in bs)));
       order = omega arith;
       scratch = omega arith;
     })
@@ -97,18 +98,19 @@ module _ (bs i i' r r' o o' c c' : List ℕ) (n p : ℕ) (said : Run-says bs n p
       ap (λ (x : Job). length (x .entries)) (sym (run-ended (given .good) (delivery-laws s (given .good)) i (given .roomy .inbox) .same-job))
       ∙ left-reached (given .good) (delivery-laws s (given .good)) (given .roomy .inbox) (run s i .order) .placed .entries-long
 
-  reported : r' ≡ in-front (report s (run s i .end)) r
+  reported : r' ≡ in-front (report (second-in bs) s (run s i .end)) r
   unfolding Run-says kept-or
   reported =
       let f = run-refusal bs (length i) (length r) (length o) (length c) in
       let e : f .number ≡ 0 = sym (answers-number f n p (said .0)) ∙ z in
-      said .2 ∙ cond-true (eqb (f .number) 0) (in-front (report s (run s i .end)) r) r (eq-eqb (f .number) 0 e)
+      said .2 ∙ cond-true (eqb (f .number) 0) (in-front (report (second-in bs) s (run s i .end)) r) r (eq-eqb (f .number) 0 e)
 
   -- the report's own bytes are the report
-  pub own-report : take (report-size (P-of (sheet-in bs)) (N-of (sheet-in bs))) r' ≡ report (sheet-in bs) (run (sheet-in bs) i .end)
+  pub own-report : take (report-size (second-in bs) (P-of (sheet-in bs)) (N-of (sheet-in bs))) r' ≡ report (second-in bs) (sheet-in bs) (run (sheet-in bs) i .end)
   own-report =
-      ap (λ (w : List ℕ). take (report-size (P-of s) (N-of s)) w) reported
-      ∙ front-report (report s (run s i .end)) r (report-size (P-of s) (N-of s)) (report-length s (run s i .end) long)
+      ap (λ (w : List ℕ). take (report-size (second-in bs) (P-of s) (N-of s)) w) reported
+      ∙ front-report (report (second-in bs) s (run s i .end)) r (report-size (second-in bs) (P-of s) (N-of s))
+      (report-length (second-in bs) s (run s i .end) long)
 
 -- THE JUDGE'S OWN CALL, from zeroed inboxes
 module _ (bs i' r r' o o' c c' : List ℕ) (n p : ℕ) (long : most-report ≡ length r) (kept : length r' ≡ length r)

@@ -10,16 +10,16 @@ use native.Mathlib.Omega.{arith}
 use lib.ListN.{length, getD, take}
 use lib.Seq.{length-take-le, getD-take}
 use borrow.Author.Tests.{le-ltb}
-use Rattle.rules.specs.Limits.{header-size, most-boards, most-ops, most-payload, sheet-size}
+use Rattle.rules.specs.Limits.{header-size, board-size, op-size, most-boards, most-ops, most-payload}
 use Rattle.rules.specs.Sheet.{two, sheet-in}
 use Rattle.rules.specs.Refusal.{Refusal, refusal, sizes-good, layout-good, crc-good, tables-refusal, sheet-refusal}
 use Rattle.laws.specs.Laid.{laid}
 use Rattle.judge.specs.Printed.{refusal-line, report-line, facts-line, unless-refused, printed, told}
 use Rattle.judge.specs.Refused.{unless-stopped}
 
--- the longest sheet
+-- the longest sheet, of the second edition (document 02, K6)
 abbrev pub longest : ℕ
-longest = sheet-size most-boards most-ops most-payload
+longest = header-size + board-size true * most-boards + op-size * most-ops + most-payload
 
 -- what is longer is refused by 2 or 3
 module _ (bs : List ℕ) (h : longest < length bs) where
@@ -30,7 +30,7 @@ module _ (bs : List ℕ) (h : longest < length bs) where
   by-layout e false f = ap (λ (t : Bool). cond (not t) (refusal 3 0) rest) f
   by-layout e true f =
       let q = laid bs e f in
-      absurd (omega (arith, q .few-boards, q .few-ops, q .short-payload, q .whole))
+      absurd (omega (arith, q .few-boards, q .few-ops, q .short-payload, q .boards-short, q .whole))
 
   by-sizes : (b : Bool) → sizes-good bs ≡ b → cond (not (sizes-good bs)) (refusal 2 0) (cond (not (layout-good bs)) (refusal 3 0) rest) ≡ cond (not (sizes-good bs)) (refusal 2 0) (refusal 3 0)
   by-sizes false e =

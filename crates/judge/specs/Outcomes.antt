@@ -9,7 +9,7 @@ use native.Mathlib.Omega.{arith}
 use lib.ListN.{length, getD, take}
 use lib.Seq.{getD-take}
 use Rattle.rules.specs.Limits.{report-size}
-use Rattle.rules.specs.Sheet.{two, sheet-in, P-of, N-of}
+use Rattle.rules.specs.Sheet.{two, second-in, sheet-in, P-of, N-of}
 use Rattle.rules.specs.Refusal.{sheet-refusal}
 use Rattle.rules.specs.Service.{answers}
 use Rattle.rules.specs.Premise.{Premise-says}
@@ -42,7 +42,7 @@ facts-long r n p = refl
 pub facts-told : (bs room : List ℕ) (n p : ℕ) → Reported bs room → Premise-says bs n p → numbers-line (header-numbers room ++ (n ∷ p ∷ [])) ≡ facts-line bs
 unfolding facts-line Premise-says answers
 facts-told bs room n p q said =
-    let size = report-size (P-of (sheet-in bs)) (N-of (sheet-in bs)) in
+    let size = report-size (second-in bs) (P-of (sheet-in bs)) (N-of (sheet-in bs)) in
     let header : header-numbers room ≡ header-numbers (report-for bs) =
     sym (header-of-start room size (omega arith)) ∙ ap header-numbers (q .own) in
     ap (λ (h : List ℕ). numbers-line (h ++ (n ∷ p ∷ []))) header

@@ -1,12 +1,12 @@
 -- WHAT THE JUDGE PRINTS (document 01, "The desk and its three services"), and what it tells on standard error, both for every
 -- input. Assumes nothing: these are definitions.
-use mathlib.Core.Bool.{cond}
+use mathlib.Core.Bool.{true, cond}
 use mathlib.Core.List.{List, [], _∷_, _++_}
-use Prim.Native.Nat.{ℕ, _*_}
+use Prim.Native.Nat.{ℕ, _+_, _*_}
 use lib.Dec.{eqb}
 use lib.ListN.{getD, replicate}
-use Rattle.rules.specs.Limits.{most-boards, most-ops, most-inbox, report-size, order-room}
-use Rattle.rules.specs.Sheet.{two, sheet-in}
+use Rattle.rules.specs.Limits.{most-boards, most-ops, most-inbox, report-header-size, board-row-size, op-row-size, order-room}
+use Rattle.rules.specs.Sheet.{two, second-in, sheet-in}
 use Rattle.rules.specs.Refusal.{sheet-refusal}
 use Rattle.rules.specs.Order.{run}
 use Rattle.rules.specs.Report.{report}
@@ -14,9 +14,9 @@ use Rattle.rules.specs.Premise.{premise-refusal}
 use Rattle.text.specs.Text.{hex-line, numbers-line}
 use Rattle.text.specs.Lengths.{most-places}
 
--- the longest report, the longest order
+-- the longest report, of the second edition (document 02, K6), and the longest order
 abbrev pub most-report : ℕ
-most-report = report-size most-boards most-ops
+most-report = report-header-size + board-row-size true * most-boards + op-row-size * most-ops
 
 abbrev pub most-order : ℕ
 most-order = order-room most-ops
@@ -34,7 +34,7 @@ zeros n = replicate n 0
 
 -- run's report from zeroed inboxes
 unfoldable pub report-for : (sheet : List ℕ) → List ℕ
-report-for bs = report (sheet-in bs) (run (sheet-in bs) (zeros most-inbox) .end)
+report-for bs = report (second-in bs) (sheet-in bs) (run (sheet-in bs) (zeros most-inbox) .end)
 
 unfoldable pub report-line : (sheet : List ℕ) → List ℕ
 report-line bs = hex-line (report-for bs)

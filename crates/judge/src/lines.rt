@@ -3,16 +3,12 @@ ghost use mathlib.Core.Path.{_≡_};
 ghost use mathlib.Core.List.{_++_, _∷_, []};
 ghost use Prim.Native.Nat.{_<_, _≤_};
 ghost use lib.ListN.{length};
-ghost use Rattle.rules.specs.Limits.{report-size};
-ghost use Rattle.rules.specs.Sheet.{sheet-in, P-of, N-of};
-ghost use Rattle.laws.specs.Laid.{Laid};
 ghost use Rattle.judge.specs.Printed.{most-report, line-size, told-size, refusal-line, report-line, header-numbers, facts-line, printed, told as Printed·told};
 ghost use Rattle.judge.specs.Calls.{Ran, Reported, Lines};
 use crate::rooms;
 use jamturret::jamturret_premise;
 use jamturret::jamturret_run;
 use sheet::Answer;
-use sheet::header;
 
 // The longest line: three places a byte of a report.
 pub const LINE_SIZE: usize = 3 * limits::MOST_REPORT;
@@ -71,7 +67,7 @@ fn reported(sheet: &[u8], report: &[u8], line: &mut [u8], told: &mut [u8]) -> Si
     requires { ⌜ Reported (now sheet) (now report) × (line-size ≡ length (now line)) × (told-size ≡ length (now told)) ⌝ }
     ensures { λ l. ⌜ Lines (report-line (now (sheet .entry))) (facts-line (now (sheet .entry))) (l .line) (now (line .exit)) (l .told) (now (told .exit)) ⌝ }
 {
-    let own = report_size(sheet);
+    let own = report::size(sheet);
     text::hex_line(&report[..own], line);
     let answer = jamturret_premise(sheet);
     let numbers = facts(report, answer.number as u64, answer.place);
@@ -80,14 +76,6 @@ fn reported(sheet: &[u8], report: &[u8], line: &mut [u8], told: &mut [u8]) -> Si
         line: 3 * own,
         told: told_size,
     }
-}
-
-// How many bytes the sheet's report has.
-fn report_size(s: &[u8]) -> usize
-    requires { ⌜ Laid (now s) ⌝ }
-    ensures { λ r. ⌜ (r ≡ report-size (P-of (sheet-in (now (s .entry)))) (N-of (sheet-in (now (s .entry))))) × (r ≤ most-report) ⌝ }
-{
-    limits::report_size(header::boards(s), header::ops(s))
 }
 
 // The numbers of a report's header, and two more behind them.

@@ -4,6 +4,8 @@
 --   Broken    the first index at which a test fails
 --   Answers   what a service answers, along a chain of refusals and by a search
 --   Numbers   which numbers a refusal can have
+--   Editions  sizes that depend on the edition
+--   Stores    the two accounts of a board
 --   Decoded   the tables of a decoded sheet, entry by entry
 --   Laid      what refusals 1 to 3 settle
 --   Ranks     sums over boards; the rank of an operation
@@ -27,6 +29,8 @@ pub mod Below
 pub mod Broken
 pub mod Answers
 pub mod Numbers
+pub mod Editions
+pub mod Stores
 pub mod Decoded
 pub mod Laid
 pub mod Ranks

@@ -4,6 +4,7 @@
 --   two-behind, two-bytes    a two-byte number behind a front, and one that fits read back
 --   row-read            such a row is read back from among other bytes
 use mathlib.Core.Path.{_≡_, refl, sym, ap, ap₂, subst, _∙_}
+use mathlib.Core.Bool.{Bool, true, false}
 use mathlib.Core.List.{List, _++_}
 use Prim.Native.Nat.{ℕ, _+_, _*_, _/_, _%_, _<_}
 use native.Mathlib.Omega.{arith}
@@ -12,11 +13,12 @@ use lib.Seq.{getD-append-add}
 use Rattle.rules.specs.Limits.{board-row-size}
 use Rattle.rules.specs.Sheet.{Sheet, two}
 use Rattle.rules.specs.Job.{Job, Entry, entry}
-use Rattle.rules.specs.Report.{low-two, board-row, op-row, entry-in}
+use Rattle.rules.specs.Report.{low-two, room-bytes, board-row, op-row, entry-in}
 
-pub board-row-length : (s : Sheet) (x : Job) (r : ℕ) → length (board-row s x r) ≡ board-row-size
-unfolding board-row low-two
-board-row-length s x r = refl
+pub board-row-length : (e : Bool) (s : Sheet) (x : Job) (r : ℕ) → length (board-row e s x r) ≡ board-row-size e
+unfolding board-row room-bytes low-two
+board-row-length true s x r = refl
+board-row-length false s x r = refl
 
 -- figures that fit their bytes
 pub record Fits-row (e : Entry) : Type 0 where

@@ -1,15 +1,16 @@
--- Why demand 3 asks for calm sheets and sets the peaks aside. Each of the four conditions of calm is needed: with the other
--- three alone there is a sheet with two orders that follow accepts, after which no board is able, and whose reports differ in
+-- Why demand 3 asks for calm sheets and sets the peaks aside. Each of the five conditions of calm is needed: with the other
+-- four alone there is a sheet with two orders that follow accepts, after which no board is able, and whose reports differ in
 -- more than peaks. It does not suffice either that every receive names its source where probes need not (document 02, K9), nor
 -- that buffers cover the lengths of their messages without the overhead. And on a calm sheet the peaks may differ. Each sheet is
 -- written as a bench job and computed.
---   calm-parts          calm is these four conditions
+--   calm-parts          calm is these five conditions
 --   no-any-receive      the first of receives alone
 --   lengths-calm        calm with lengths in the place of charges
 --   Ends-alike-on       two full orders end alike, on the sheets that pass a test
 --   Pair-of-orders      a sheet, and two orders
 --   apart-refutes       a pair that ends apart refutes Ends-alike-on
---   any-source-matters, any-source-probe-matters, ready-matters, query-matters, cover-matters, overhead-matters, peaks-matter
+--   any-source-matters, any-source-probe-matters, ready-matters, query-matters, cover-matters, room-matters, overhead-matters,
+--   peaks-matter, room-peaks-matter
 -- Assumes nothing.
 use mathlib.Core.Path.{_≡_, refl, ap, subst, _∙_}
 use mathlib.Core.Bool.{Bool, true, false, _&&_, not, cond}
@@ -18,14 +19,15 @@ use Prim.Native.Nat.{ℕ, _+_, _≤_}
 use lib.Dec.{leb}
 use lib.ListN.{length}
 use borrow.Author.Tests.{leb-true, not-true, eq-eqb}
-use Rattle.rules.specs.Sheet.{Sheet, Op, P-of, is-receive, is-ready, is-buffered, tells-completion, inbox-total, sheet-in}
+use Rattle.rules.specs.Sheet.{Sheet, Op, P-of, is-receive, is-ready, is-buffered, tells-completion, inbox-total, second-in, sheet-in}
 use Rattle.rules.specs.Order.{none-able}
 use Rattle.rules.specs.Report.{report}
 use Rattle.rules.specs.Claims as claims
-use Rattle.rules.specs.Claims.{passes, is-any-source, none-wild, all-covered, calm, accepts, left-by, without-peaks, Alike}
+use Rattle.rules.specs.Claims.{passes, is-any-source, none-wild, all-covered, rooms-cover, calm, accepts, left-by, without-peaks, Alike}
 use Rattle.rules.specs.BenchJob.{buffered, any, send, receive, script, Draft, draft, draft-bytes, same, all}
 use Rattle.rules.specs.BenchNumbered.{ready-sheet, any-source-sheet}
 use Rattle.rules.specs.BenchProbes.{any-probe-sheet, query-sheet}
+use Rattle.rules.specs.BenchStandard.{both-rooms-sheet, some-covered-sheet}
 use Rattle.rules.specs.Definitions.{definitions}
 use Rattle.laws.specs.Tests.{and-left, and-right, true-not-false}
 
@@ -39,8 +41,9 @@ no-ready s = all (λ o. not (is-ready o)) (s .ops)
 unfoldable pub no-query : Sheet → Bool
 no-query s = all (λ o. not (tells-completion o)) (s .ops)
 
+-- buffers cover, and rooms are 0 or cover (document 02, K6)
 unfoldable pub covered : Sheet → Bool
-covered s = all-covered (s .boards) (s .ops)
+covered s = all-covered s && rooms-cover s
 
 -- too little for the first: no receive is from any source, and a probe may be
 unfoldable pub no-any-receive : Sheet → Bool
@@ -53,9 +56,9 @@ all-lengths (o ∷ os) = cond (is-buffered o) (o .long) 0 + all-lengths os
 
 unfoldable pub lengths-calm : Sheet → Bool
 lengths-calm s =
-    ((no-any-source s && no-ready s) && no-query s) && all (λ b. leb (all-lengths (claims.script b (s .ops))) (b .attached)) (s .boards)
+    (((no-any-source s && no-ready s) && no-query s) && rooms-cover s) && all (λ b. leb (all-lengths (claims.script b (s .ops))) (b .attached)) (s .boards)
 
--- the four conditions together are calm
+-- the conditions together are calm
 wild-parts : (os : List Op) →
     none-wild os ≡ (all (λ o. not (is-any-source o)) os && all (λ o. not (is-ready o)) os) && all (λ o. not (tells-completion o)) os
 unfolding none-wild all
@@ -76,7 +79,7 @@ wild-parts (o ∷ os) =
 
 pub calm-parts : (s : Sheet) → calm s ≡ ((no-any-source s && no-ready s) && no-query s) && covered s
 unfolding calm no-any-source no-ready no-query covered
-calm-parts s = ap (λ (b : Bool). b && all-covered (s .boards) (s .ops)) (wild-parts (s .ops))
+calm-parts s = ap (λ (b : Bool). b && (all-covered s && rooms-cover s)) (wild-parts (s .ops))
 
 -- demand 3's claim about full orders, on the sheets that pass a test
 unfoldable pub Ends-alike-on : (Sheet → Bool) → Type 0
@@ -99,8 +102,11 @@ bytes-of p = draft-bytes (p .sheet)
 abbrev pub sheet-of : Pair-of-orders → Sheet
 sheet-of p = sheet-in (bytes-of p)
 
+abbrev pub second-of : Pair-of-orders → Bool
+second-of p = second-in (bytes-of p)
+
 abbrev pub bare-report-of : Pair-of-orders → (order : List ℕ) → List ℕ
-bare-report-of p o = without-peaks (P-of (sheet-of p)) (report (sheet-of p) (left-by (sheet-of p) o (p .inbox)))
+bare-report-of p o = without-peaks (second-of p) (P-of (sheet-of p)) (report (second-of p) (sheet-of p) (left-by (sheet-of p) o (p .inbox)))
 
 abbrev pub ends-full : Pair-of-orders → (order : List ℕ) → Bool
 ends-full p o = accepts (sheet-of p) o (p .inbox) && none-able (sheet-of p) (left-by (sheet-of p) o (p .inbox))
@@ -162,7 +168,7 @@ apart-refutes ok p h claim =
         (and-right (passes (bytes-of p)) (ok (sheet-of p)) (and-left given room first))
         (leb-true (inbox-total (sheet-of p)) (length (p .inbox)) (and-right given room first))
         (accepted (p .one) full-one) (accepted (p .other) full-other) (none-left (p .one) full-one)
-        (none-left (p .other) full-other) .1
+        (none-left (p .other) full-other) .1 (second-of p)
 
 -- THE SHEETS
 -- bench job 12: ranks 0 and 1 send to rank 2, which receives twice from any source; either message may come first
@@ -250,12 +256,33 @@ calm-pair =
       other = 1 ∷ 0 ∷ 0 ∷ 1 ∷ 1 ∷ 0 ∷ 0 ∷ 1 ∷ [];
     }
 
+-- the second edition, where a room holds one of two messages: the second is buffered once the first is received, and the boards
+-- finish; or it comes before that, is not buffered, and both boards hang
+unfoldable pub room-pair : Pair-of-orders
+room-pair =
+    record {
+      sheet = some-covered-sheet;
+      inbox = 0 ∷ 0 ∷ 0 ∷ 0 ∷ 0 ∷ 0 ∷ [];
+      one = 0 ∷ 0 ∷ 1 ∷ 1 ∷ 0 ∷ 0 ∷ 1 ∷ 0 ∷ 0 ∷ 1 ∷ 1 ∷ 1 ∷ [];
+      other = 0 ∷ 0 ∷ 0 ∷ 1 ∷ 1 ∷ 1 ∷ [];
+    }
+
+-- rooms that cover: both messages wait there, or one finds its receive posted
+unfoldable pub calm-room-pair : Pair-of-orders
+calm-room-pair =
+    record {
+      sheet = both-rooms-sheet;
+      inbox = 0 ∷ 0 ∷ 0 ∷ 0 ∷ [];
+      one = 0 ∷ 1 ∷ 0 ∷ 1 ∷ 0 ∷ 1 ∷ 0 ∷ 1 ∷ [];
+      other = 0 ∷ 0 ∷ 0 ∷ 1 ∷ 0 ∷ 1 ∷ 1 ∷ 1 ∷ [];
+    }
+
 -- the whole reports of two full orders differ, and only in peaks
 unfoldable pub peaks-apart : Pair-of-orders → Bool
 peaks-apart p =
     both-full calm p
-    && (not (same (report (sheet-of p) (left-by (sheet-of p) (p .one) (p .inbox)))
-    (report (sheet-of p) (left-by (sheet-of p) (p .other) (p .inbox))))
+    && (not (same (report (second-of p) (sheet-of p) (left-by (sheet-of p) (p .one) (p .inbox)))
+    (report (second-of p) (sheet-of p) (left-by (sheet-of p) (p .other) (p .inbox))))
     && same (bare-report-of p (p .one)) (bare-report-of p (p .other)))
 
 -- THE LAWS: what calm still asks when one of its conditions is dropped, and orders that then end apart
@@ -275,9 +302,13 @@ query-apart : ends-apart (λ s. (no-any-source s && no-ready s) && covered s) qu
 unfolding definitions ends-apart no-any-source no-ready covered query-pair
 query-apart = refl
 
-uncovered-apart : ends-apart (λ s. (no-any-source s && no-ready s) && no-query s) uncovered-pair ≡ true
+uncovered-apart : ends-apart (λ s. ((no-any-source s && no-ready s) && no-query s) && rooms-cover s) uncovered-pair ≡ true
 unfolding definitions ends-apart no-any-source no-ready no-query uncovered-pair two-buffered
 uncovered-apart = refl
+
+room-apart : ends-apart (λ s. ((no-any-source s && no-ready s) && no-query s) && all-covered s) room-pair ≡ true
+unfolding definitions ends-apart no-any-source no-ready no-query room-pair
+room-apart = refl
 
 lengths-apart : ends-apart lengths-calm lengths-pair ≡ true
 unfolding definitions ends-apart lengths-calm no-any-source no-ready no-query all-lengths lengths-pair two-buffered
@@ -301,8 +332,13 @@ pub query-matters : Ends-alike-on (λ s. (no-any-source s && no-ready s) && cove
 query-matters = apart-refutes (λ s. (no-any-source s && no-ready s) && covered s) query-pair query-apart
 
 -- nor buffers that the charges may outgrow
-pub cover-matters : Ends-alike-on (λ s. (no-any-source s && no-ready s) && no-query s) → ⊥
-cover-matters = apart-refutes (λ s. (no-any-source s && no-ready s) && no-query s) uncovered-pair uncovered-apart
+pub cover-matters : Ends-alike-on (λ s. ((no-any-source s && no-ready s) && no-query s) && rooms-cover s) → ⊥
+cover-matters =
+    apart-refutes (λ s. ((no-any-source s && no-ready s) && no-query s) && rooms-cover s) uncovered-pair uncovered-apart
+
+-- nor rooms that cover some of the standard sends only
+pub room-matters : Ends-alike-on (λ s. ((no-any-source s && no-ready s) && no-query s) && all-covered s) → ⊥
+room-matters = apart-refutes (λ s. ((no-any-source s && no-ready s) && no-query s) && all-covered s) room-pair room-apart
 
 -- nor buffers that cover the lengths and not the charges
 pub overhead-matters : Ends-alike-on lengths-calm → ⊥
@@ -312,3 +348,8 @@ overhead-matters = apart-refutes lengths-calm lengths-pair lengths-apart
 pub peaks-matter : peaks-apart calm-pair ≡ true
 unfolding definitions peaks-apart calm-pair two-buffered
 peaks-matter = refl
+
+-- the room's peaks too
+pub room-peaks-matter : peaks-apart calm-room-pair ≡ true
+unfolding definitions peaks-apart calm-room-pair
+room-peaks-matter = refl

@@ -1,12 +1,13 @@
 -- Why an exchange of two able steps must be harmless where the sheet is not calm (Statements: Harmless), as to probes and queries
--- (document 02, K9). Without the condition that a query tells the same before the other step and after it, and where races for
--- probes are allowed and races for receives are not, there is an exchange that leaves reports which differ in more than peaks.
+-- (document 02, K9) and to rooms (K6). Without the condition that a query tells the same before the other step and after it, or that
+-- a standard send is buffered before it exactly if it is after it, and where races for probes are allowed and races for receives
+-- are not, there is an exchange that leaves reports which differ in more than peaks.
 -- The exchanges are those of SwapCounterexamples, computed.
---   Goes-on, No-race, Both-tell-same   the conditions of Harmless
+--   Goes-on, No-race, Both-tell-same, Both-keep-same   the conditions of Harmless
 --   parts-harmless               together they are Harmless
 --   Swap-where                   an exchange leaves jobs alike where a condition holds of it; with Harmless it is promised
 --   harm-refutes                 an exchange that ends apart, and of which the condition holds, refutes Swap-where
---   query-step-matters, probe-race-matters
+--   query-step-matters, probe-race-matters, room-step-matters
 -- Assumes nothing.
 use mathlib.Core.Path.{_≡_, refl}
 use mathlib.Core.Logic.{_≢_}
@@ -23,9 +24,9 @@ use Rattle.rules.specs.Claims.{is-any-source, accepts, left-by, Alike}
 use Rattle.rules.specs.BenchJob.{all}
 use Rattle.rules.specs.Definitions.{definitions}
 use Rattle.laws.specs.Tests.{and-left, and-right, true-not-false}
-use Rattle.promises.specs.Statements.{Lent, Tells-same, Harmless, Swap-general}
+use Rattle.promises.specs.Statements.{Lent, Tells-same, Keeps-same, Harmless, Swap-general}
 use Rattle.promises.specs.SwapCounterexamples.{Exchange, bytes-of, sheet-of, job-before, swaps-apart, apart-of}
-use Rattle.promises.specs.SwapCounterexamples.{any-probe-exchange, query-exchange}
+use Rattle.promises.specs.SwapCounterexamples.{any-probe-exchange, query-exchange, room-exchange}
 
 -- THE CONDITIONS OF HARMLESS, one by one: the steps stop the job in neither order
 unfoldable pub Goes-on : Sheet → Job → (p q : ℕ) → Type 0
@@ -42,16 +43,22 @@ No-race counts s x p q =
 unfoldable pub Both-tell-same : Sheet → Job → (p q : ℕ) → Type 0
 Both-tell-same s x p q = Tells-same s x p q × Tells-same s x q p
 
+-- a standard send among them is buffered before the other step exactly if it is after it
+unfoldable pub Both-keep-same : Sheet → Job → (p q : ℕ) → Type 0
+Both-keep-same s x p q = Keeps-same s x p q × Keeps-same s x q p
+
 pub parts-harmless : (s : Sheet) (x : Job) (p q : ℕ) →
-    Goes-on s x p q → No-race is-any-source s x p q → Both-tell-same s x p q → Harmless s x p q
-unfolding Goes-on No-race Both-tell-same
-parts-harmless s x p q g r n =
+    Goes-on s x p q → No-race is-any-source s x p q → Both-tell-same s x p q → Both-keep-same s x p q → Harmless s x p q
+unfolding Goes-on No-race Both-tell-same Both-keep-same
+parts-harmless s x p q g r n k =
     record {
       goes-on = g .0;
       goes-on-swapped = g .1;
       no-race = r;
       tells-same = n .0;
       tells-same-swapped = n .1;
+      keeps-same = k .0;
+      keeps-same-swapped = k .1;
     }
 
 -- Swap-general's claim that what the steps left is alike, where a condition holds of the two steps
@@ -87,6 +94,10 @@ query-apart : swaps-apart (λ s. true) query-exchange ≡ true
 unfolding definitions swaps-apart query-exchange
 query-apart = refl
 
+room-apart : swaps-apart (λ s. true) room-exchange ≡ true
+unfolding definitions swaps-apart room-exchange
+room-apart = refl
+
 -- a query and the receive that completes its send: nothing stops, and the query sends nothing that could race
 query-goes-on : Goes-on (sheet-of query-exchange) (job-before query-exchange) 0 1
 unfolding Goes-on definitions query-exchange
@@ -96,6 +107,10 @@ query-no-race : No-race is-any-source (sheet-of query-exchange) (job-before quer
 unfolding No-race definitions query-exchange
 query-no-race r u v m n c f g = true-not-false m refl
 
+query-keeps-same : Both-keep-same (sheet-of query-exchange) (job-before query-exchange) 0 1
+unfolding Both-keep-same Keeps-same definitions query-exchange
+query-keeps-same = (λ h t. refl, λ h t. refl)
+
 -- two sends to a board that probes for any source: nothing stops, no receive is from any source, and neither is a query
 any-probe-goes-on : Goes-on (sheet-of any-probe-exchange) (job-before any-probe-exchange) 0 1
 unfolding Goes-on definitions any-probe-exchange
@@ -104,6 +119,23 @@ any-probe-goes-on = (refl, refl)
 any-probe-tells-same : Both-tell-same (sheet-of any-probe-exchange) (job-before any-probe-exchange) 0 1
 unfolding Both-tell-same Tells-same definitions any-probe-exchange
 any-probe-tells-same = (λ t. true-not-false t refl, λ t. true-not-false t refl)
+
+any-probe-keeps-same : Both-keep-same (sheet-of any-probe-exchange) (job-before any-probe-exchange) 0 1
+unfolding Both-keep-same Keeps-same definitions any-probe-exchange
+any-probe-keeps-same = (λ h t. refl, λ h t. refl)
+
+-- a standard send and the receive that frees its room: nothing stops, the receive sends nothing, and neither is a query
+room-goes-on : Goes-on (sheet-of room-exchange) (job-before room-exchange) 0 1
+unfolding Goes-on definitions room-exchange
+room-goes-on = (refl, refl)
+
+room-no-race : No-race is-any-source (sheet-of room-exchange) (job-before room-exchange) 0 1
+unfolding No-race definitions room-exchange
+room-no-race r u v m n c f g = true-not-false n refl
+
+room-tells-same : Both-tell-same (sheet-of room-exchange) (job-before room-exchange) 0 1
+unfolding Both-tell-same Tells-same definitions room-exchange
+room-tells-same = (λ t. true-not-false t refl, λ t. true-not-false t refl)
 
 -- what holds of no operation of a list, nor of what stands behind it, holds of none at any place
 nowhere : (f : Op → Bool) (os : List Op) (r : ℕ) → all (λ o. not (f o)) os ≡ true → f no-op ≡ false → f (getD os r no-op) ≡ false
@@ -121,15 +153,23 @@ any-probe-no-race r u v m n c f g =
     true-not-false c (nowhere is-any-receive (sheet-of any-probe-exchange .ops) r refl refl)
 
 -- THE LAWS: with the other conditions of Harmless alone a query's step may not be exchanged
-pub query-step-matters : Swap-where (λ s x p q. Goes-on s x p q × No-race is-any-source s x p q) → ⊥
+pub query-step-matters : Swap-where (λ s x p q. Goes-on s x p q × No-race is-any-source s x p q × Both-keep-same s x p q) → ⊥
 unfolding query-exchange
 query-step-matters =
-    harm-refutes (λ s x p q. Goes-on s x p q × No-race is-any-source s x p q) query-exchange query-apart
-    (query-goes-on, query-no-race)
+    harm-refutes (λ s x p q. Goes-on s x p q × No-race is-any-source s x p q × Both-keep-same s x p q) query-exchange query-apart
+    (query-goes-on, query-no-race, query-keeps-same)
 
 -- nor two sends that race for an any-source probe, though they race for no receive
-pub probe-race-matters : Swap-where (λ s x p q. Goes-on s x p q × No-race is-any-receive s x p q × Both-tell-same s x p q) → ⊥
+pub probe-race-matters :
+    Swap-where (λ s x p q. Goes-on s x p q × No-race is-any-receive s x p q × Both-tell-same s x p q × Both-keep-same s x p q) → ⊥
 unfolding any-probe-exchange
 probe-race-matters =
-    harm-refutes (λ s x p q. Goes-on s x p q × No-race is-any-receive s x p q × Both-tell-same s x p q) any-probe-exchange any-probe-apart
-    (any-probe-goes-on, any-probe-no-race, any-probe-tells-same)
+    harm-refutes (λ s x p q. Goes-on s x p q × No-race is-any-receive s x p q × Both-tell-same s x p q × Both-keep-same s x p q)
+    any-probe-exchange any-probe-apart (any-probe-goes-on, any-probe-no-race, any-probe-tells-same, any-probe-keeps-same)
+
+-- nor a standard send whose room the other step frees (document 02, K6)
+pub room-step-matters : Swap-where (λ s x p q. Goes-on s x p q × No-race is-any-source s x p q × Both-tell-same s x p q) → ⊥
+unfolding room-exchange
+room-step-matters =
+    harm-refutes (λ s x p q. Goes-on s x p q × No-race is-any-source s x p q × Both-tell-same s x p q) room-exchange room-apart
+    (room-goes-on, room-no-race, room-tells-same)

@@ -3,6 +3,8 @@
 --   Statements           each claim in words and in antt, over `rules` only
 --   ProbeStatements      those about probes and queries
 --   ServiceStatements    the same of what a call of follow or run leaves
+--   EditionStatements    the two editions
+--   EditionWitness       two sheets that it speaks of
 --   Theorems             each claim, proved
 --   Counterexamples      why demand 3 asks for calm sheets and sets the peaks aside, by computed sheets
 --   SwapCounterexamples  the same where two steps are exchanged
@@ -13,6 +15,8 @@
 pub mod Statements
 pub mod ProbeStatements
 pub mod ServiceStatements
+pub mod EditionStatements
+pub mod EditionWitness
 pub mod Theorems
 pub mod Counterexamples
 pub mod SwapCounterexamples

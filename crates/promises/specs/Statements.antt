@@ -11,11 +11,11 @@ use Prim.Native.Nat.{ℕ, zero, suc, _+_, _-_, _≤_, _<_, max}
 use lib.Dec.{ltb, leb, eqb}
 use lib.ListN.{length, getD, drop}
 use Rattle.rules.specs.Limits.{absent, order-room}
-use Rattle.rules.specs.Sheet.{Sheet, op, board, sheet-in, P-of, N-of, rank-of, inbox-total, is-send, is-receive, is-buffered, is-ready}
+use Rattle.rules.specs.Sheet.{Sheet, op, board, sheet-in, P-of, N-of, rank-of, inbox-total, is-send, is-receive, is-standard, is-buffered, is-ready}
 use Rattle.rules.specs.Sheet.{takes-slot, frees-slot, tells-completion}
-use Rattle.rules.specs.Job.{Job, Entry, Stop, entry, entry-at, place-at, started, with-stop, with-steps}
+use Rattle.rules.specs.Job.{Job, Entry, Stop, Store, in-attached, in-use-at, peak-at, entry, entry-at, place-at, started, with-stop, with-steps}
 use Rattle.rules.specs.Step.{able, step, next-op, waited, complete-if, in-waiting-half, is-finished, fits-with, is-cut, copied, area-start}
-use Rattle.rules.specs.Step.{charge-of}
+use Rattle.rules.specs.Step.{kept-in, size-of, charge-of, fits-room}
 use Rattle.rules.specs.Order.{follow, run, none-able}
 use Rattle.rules.specs.Report.{verdict-of, count-from, pending-messages, pending-receives, cut-messages}
 use Rattle.rules.specs.Claims.{passes, is-any-source, accepts, left-by, Alike, Given}
@@ -38,10 +38,10 @@ pub record Told : Type 0 where
   pub cuts : ℕ
   -- the row of an operation
   pub row : ℕ → Entry
-  -- of a board: operations finished, buffer in use and peak, whether it is finished, whether it is able
+  -- of a board: operations finished, bytes in use of each store and their peak, whether it is finished, whether it is able
   pub finished : ℕ → ℕ
-  pub in-use : ℕ → ℕ
-  pub peak : ℕ → ℕ
+  pub in-use : Store → ℕ → ℕ
+  pub peak : Store → ℕ → ℕ
   pub is-done : ℕ → Bool
   pub is-able : ℕ → Bool
 
@@ -56,8 +56,8 @@ told-by s x =
       cuts = cut-messages s x;
       row = λ i. entry-at x i;
       finished = λ r. place-at x r .finished;
-      in-use = λ r. place-at x r .in-use;
-      peak = λ r. place-at x r .peak;
+      in-use = λ w r. in-use-at w x r;
+      peak = λ w r. peak-at w x r;
       is-done = λ r. is-finished s x r;
       is-able = λ r. able s x r;
     }
@@ -193,8 +193,12 @@ unfoldable pub Slot-held : Sheet → Told → (r k : ℕ) → Type 0
 Slot-held s t r k =
     (i : ℕ) × (rank-of s i ≡ r) × (takes-slot (op s i) ≡ true) × (op s i .slot ≡ k) × (1 ≤ t .row i .state) × (Waited-for s t i → ⊥)
 
+-- A message is buffered by its mode: its send is a buffered one, or a standard one of a board that has a room (document 02, K6).
+unfoldable pub Kept-by-mode : Sheet → (m : ℕ) → Type 0
+Kept-by-mode s m = (is-buffered (op s m) ≡ true) ⊎ ((is-standard (op s m) ≡ true) × (0 < board s (rank-of s m) .room))
+
 -- So every request is complete (state 2 or more) and every slot is free; every receive is matched, and none is pending; a send
--- is matched, or it is a buffered one whose message nobody received.
+-- is matched, or its message is buffered, and nobody received it.
 pub record None-left (s : Sheet) (t : Told) : Type 0 where
   pub waited-for : (i : ℕ) → takes-slot (op s i) ≡ true → Waited-for s t i
   pub requests-complete : (i : ℕ) → takes-slot (op s i) ≡ true → 2 ≤ t .row i .state
@@ -202,7 +206,7 @@ pub record None-left (s : Sheet) (t : Told) : Type 0 where
   pub receives-matched : (q : ℕ) → is-receive (op s q) ≡ true → t .row q .state ≡ 3
   pub none-pending : t .receives ≡ 0
   pub sends-matched : (m : ℕ) → is-send (op s m) ≡ true →
-      (t .row m .state ≡ 3) ⊎ ((t .row m .state ≡ 2) × (is-buffered (op s m) ≡ true))
+      (t .row m .state ≡ 3) ⊎ ((t .row m .state ≡ 2) × Kept-by-mode s m)
 
 unfoldable pub Finished-leaves-none : Sheet → Told → Type 0
 Finished-leaves-none s t = t .verdict ≡ 1 → None-left s t
@@ -222,7 +226,7 @@ pub record Stop-reason (s : Sheet) (t : Told) (p : Stop) : Type 0 where
   pub none-posted : (q : ℕ) → is-receive (op s q) ≡ true → t .row q .state ≡ 1 → fits-with s (p .at-op) q ≡ false
   pub overflow :
       (p .verdict ≡ 3) ↔ ((is-buffered (op s (p .at-op)) ≡ true)
-      × (board s (p .rank) .attached < t .in-use (p .rank) + charge-of (op s (p .at-op))))
+      × (board s (p .rank) .attached < t .in-use in-attached (p .rank) + charge-of in-attached (op s (p .at-op))))
   pub not-ready : (p .verdict ≡ 4) ↔ (is-ready (op s (p .at-op)) ≡ true)
 
 unfoldable pub Why-stopped : Sheet → Told → Type 0
@@ -262,36 +266,46 @@ pub record Counted (s : Sheet) (t : Told) : Type 0 where
 unfoldable pub Counts : Type 0
 Counts = Of-jobs Counted
 
--- In use is the sum of the charges of the board's buffered sends that are pending (state 2).
-unfoldable pub pending-charges : (n : ℕ) → Sheet → Told → (r : ℕ) → ℕ
-pending-charges zero s t r = 0
-pending-charges (suc j) s t r =
-    pending-charges j s t r + cond (eqb (rank-of s j) r && eqb (t .row j .state) 2) (charge-of (op s j)) 0
+-- Of either store, in use is the sum of the charges of the board's sends that are kept there and pending (state 2): of the
+-- attached buffer its buffered sends, of the room the lengths of its standard ones.
+unfoldable pub pending-charges : Store → (n : ℕ) → Sheet → Told → (r : ℕ) → ℕ
+pending-charges w zero s t r = 0
+pending-charges w (suc j) s t r =
+    pending-charges w j s t r
+    + cond (eqb (rank-of s j) r && (kept-in w (op s j) && eqb (t .row j .state) 2)) (charge-of w (op s j)) 0
 
 unfoldable pub Charged : Sheet → Told → Type 0
-Charged s t = (r : ℕ) → r < P-of s → t .in-use r ≡ pending-charges (N-of s) s t r
+Charged s t = (w : Store) (r : ℕ) → r < P-of s → t .in-use w r ≡ pending-charges w (N-of s) s t r
 
 unfoldable pub In-use : Type 0
 In-use = Of-jobs Charged
 
+-- A message that is buffered (state 2) is charged to the one account or to the other: its send is a buffered one, or a standard
+-- one of a board that has a room.
+unfoldable pub Buffered-by-mode : Sheet → Told → Type 0
+Buffered-by-mode s t = (m : ℕ) → t .row m .state ≡ 2 → Kept-by-mode s m
+
+unfoldable pub Kept-in-one : Type 0
+Kept-in-one = Of-jobs Buffered-by-mode
+
 -- The peak is the most in use after any step so far, 0 before the first.
-unfoldable pub most-in-use : Sheet → (order : List ℕ) → Job → (r : ℕ) → ℕ
-most-in-use s [] x r = 0
-most-in-use s (q ∷ qs) x r =
-    cond (able s x q) (max (place-at (step s q x) r .in-use) (most-in-use s qs (step s q x) r)) 0
+unfoldable pub most-in-use : Store → Sheet → (order : List ℕ) → Job → (r : ℕ) → ℕ
+most-in-use w s [] x r = 0
+most-in-use w s (q ∷ qs) x r =
+    cond (able s x q) (max (in-use-at w (step s q x) r) (most-in-use w s qs (step s q x) r)) 0
 
 unfoldable pub Peaks : Type 0
 Peaks =
-    (bs i rs : List ℕ) (r : ℕ) → Lent bs i →
+    (bs i rs : List ℕ) (w : Store) (r : ℕ) → Lent bs i →
     let s = sheet-in bs in
-    place-at (left-by s rs i) r .peak ≡ most-in-use s rs (started s i) r
+    peak-at w (left-by s rs i) r ≡ most-in-use w s rs (started s i) r
 
--- In use never exceeds the peak, nor the peak the attached size.
-unfoldable pub Within-attached : Sheet → Told → Type 0
-Within-attached s t = (r : ℕ) → r < P-of s → (t .in-use r ≤ t .peak r) × (t .peak r ≤ board s r .attached)
+-- In use never exceeds the peak, nor the peak the store's size: the attached size, or the room.
+unfoldable pub Within-size : Sheet → Told → Type 0
+Within-size s t = (w : Store) (r : ℕ) → r < P-of s → (t .in-use w r ≤ t .peak w r) × (t .peak w r ≤ size-of w (board s r))
 
 unfoldable pub Buffers-hold : Type 0
-Buffers-hold = Of-jobs Within-attached
+Buffers-hold = Of-jobs Within-size
 
 -- RUN
 
@@ -332,10 +346,17 @@ Tells-same s x p q =
     tells-completion (op s (next-op s x p)) ≡ true →
     complete-if (step s q x) (waited s (next-op s x p)) ≡ complete-if x (waited s (next-op s x p))
 
--- Swap-same's claim on any sheet, any-source receives and probes, queries, ready sends and small buffers included, where the
--- exchange is harmless: the two steps stop the job in neither order, they do not enter two messages that one any-source receive or
--- probe fits (as two sends to one board and communicator whose script has such an operation may), and a query among them tells the
--- same before the other step and after it.
+-- A standard send that p's next step initiates is buffered before q's step exactly if it is after it (document 02, K6). On a sheet
+-- whose rooms are 0 or cover all it always is so.
+unfoldable pub Keeps-same : Sheet → Job → (p q : ℕ) → Type 0
+Keeps-same s x p q =
+    in-waiting-half s x p ≡ false → is-standard (op s (next-op s x p)) ≡ true →
+    fits-room s p (next-op s x p) (step s q x) ≡ fits-room s p (next-op s x p) x
+
+-- Swap-same's claim on any sheet, any-source receives and probes, queries, ready sends, small buffers and small rooms included,
+-- where the exchange is harmless: the two steps stop the job in neither order, they do not enter two messages that one any-source
+-- receive or probe fits (as two sends to one board and communicator whose script has such an operation may), a query among them
+-- tells the same before the other step and after it, and a standard send among them is buffered before it exactly if it is after it.
 pub record Harmless (s : Sheet) (x : Job) (p q : ℕ) : Type 0 where
   pub goes-on : step s q (step s p x) .stop ≡ none
   pub goes-on-swapped : step s p (step s q x) .stop ≡ none
@@ -345,6 +366,8 @@ pub record Harmless (s : Sheet) (x : Job) (p q : ℕ) : Type 0 where
       fits-with s (next-op s x p) r ≡ true → fits-with s (next-op s x q) r ≡ true → ⊥
   pub tells-same : Tells-same s x p q
   pub tells-same-swapped : Tells-same s x q p
+  pub keeps-same : Keeps-same s x p q
+  pub keeps-same-swapped : Keeps-same s x q p
 
 unfoldable pub Swap-general : Type 0
 Swap-general =

@@ -1,4 +1,4 @@
--- Why demand 3 asks for calm sheets where two neighbouring able steps are exchanged: with three of the four conditions of calm
+-- Why demand 3 asks for calm sheets where two neighbouring able steps are exchanged: with four of the five conditions of calm
 -- alone there is a sheet, a beginning of an order and two able ranks whose exchange leaves reports that differ in more than
 -- peaks; and so where probes are from any source and receives are not (document 02, K9), and where buffers cover lengths and not
 -- charges. The sheets are those of Counterexamples, computed.
@@ -7,7 +7,7 @@
 --   Apart, apart-of   what an exchange that ends apart has: able ranks, and jobs that are not alike
 --   swap-refutes      an exchange that ends apart refutes Swap-same-on
 --   any-source-swap-matters, any-source-probe-swap-matters, ready-swap-matters, query-swap-matters, cover-swap-matters,
---   overhead-swap-matters
+--   room-swap-matters, overhead-swap-matters
 -- Assumes nothing.
 use mathlib.Core.Path.{_≡_, refl, subst, _∙_}
 use mathlib.Core.Logic.{_≢_}
@@ -17,14 +17,15 @@ use Prim.Native.Nat.{ℕ, _≤_}
 use lib.Dec.{leb, eqb}
 use lib.ListN.{length}
 use borrow.Author.Tests.{leb-true, not-true, eq-eqb}
-use Rattle.rules.specs.Sheet.{Sheet, P-of, inbox-total, sheet-in}
+use Rattle.rules.specs.Sheet.{Sheet, P-of, inbox-total, second-in, sheet-in}
 use Rattle.rules.specs.Step.{able}
 use Rattle.rules.specs.Report.{report}
 use Rattle.rules.specs.Job.{Job}
-use Rattle.rules.specs.Claims.{passes, accepts, left-by, without-peaks, Alike}
+use Rattle.rules.specs.Claims.{passes, all-covered, rooms-cover, accepts, left-by, without-peaks, Alike}
 use Rattle.rules.specs.BenchJob.{Draft, draft-bytes, same}
 use Rattle.rules.specs.BenchNumbered.{ready-sheet, any-source-sheet}
 use Rattle.rules.specs.BenchProbes.{any-probe-sheet, query-sheet}
+use Rattle.rules.specs.BenchStandard.{some-covered-sheet}
 use Rattle.rules.specs.Definitions.{definitions}
 use Rattle.laws.specs.Tests.{and-left, and-right, true-not-false}
 use Rattle.promises.specs.Counterexamples.{no-any-source, no-ready, no-query, covered, no-any-receive, lengths-calm, all-lengths}
@@ -52,6 +53,9 @@ bytes-of e = draft-bytes (e .sheet)
 abbrev pub sheet-of : Exchange → Sheet
 sheet-of e = sheet-in (bytes-of e)
 
+abbrev pub second-of : Exchange → Bool
+second-of e = second-in (bytes-of e)
+
 -- the job where the two ranks stand next; and the job after the beginning, these two ranks and the rest, with its report
 -- without peaks
 abbrev pub job-before : Exchange → Job
@@ -61,7 +65,7 @@ abbrev pub job-after : Exchange → (p q : ℕ) → Job
 job-after e p q = left-by (sheet-of e) (e .before ++ (p ∷ q ∷ e .after)) (e .inbox)
 
 abbrev report-after : Exchange → (p q : ℕ) → List ℕ
-report-after e p q = without-peaks (P-of (sheet-of e)) (report (sheet-of e) (job-after e p q))
+report-after e p q = without-peaks (second-of e) (P-of (sheet-of e)) (report (second-of e) (sheet-of e) (job-after e p q))
 
 abbrev passing : (Sheet → Bool) → Exchange → Bool
 passing ok e = passes (bytes-of e) && (ok (sheet-of e) && leb (inbox-total (sheet-of e)) (length (e .inbox)))
@@ -104,7 +108,7 @@ apart-of ok e h =
       able-one = and-left (able-there e (e .one)) (able-there e (e .other)) (and-right others ranks two);
       able-other = and-right (able-there e (e .one)) (able-there e (e .other)) (and-right others ranks two);
       not-alike =
-          λ a. true-not-false (subst (λ (z : List ℕ). same (report-after e (e .one) (e .other)) z ≡ true) (a .1) (same-refl _))
+          λ a. true-not-false (subst (λ (z : List ℕ). same (report-after e (e .one) (e .other)) z ≡ true) (a .1 (second-of e)) (same-refl _))
           (not-true (same (report-after e (e .one) (e .other)) (report-after e (e .other) (e .one)))
           (and-right (both-able e) (differ e) later));
     }
@@ -201,6 +205,18 @@ uncovered-exchange =
       after = [];
     }
 
+-- a room that holds one of two messages: the second before the first one's receive, or after it
+unfoldable pub room-exchange : Exchange
+room-exchange =
+    record {
+      sheet = some-covered-sheet;
+      inbox = 0 ∷ 0 ∷ 0 ∷ 0 ∷ 0 ∷ 0 ∷ [];
+      before = 0 ∷ 0 ∷ [];
+      one = 0;
+      other = 1;
+      after = [];
+    }
+
 -- a buffer for two lengths: the first send before its receive, or after it
 unfoldable pub lengths-exchange : Exchange
 lengths-exchange =
@@ -229,9 +245,13 @@ query-apart : swaps-apart (λ s. (no-any-source s && no-ready s) && covered s) q
 unfolding definitions swaps-apart no-any-source no-ready covered query-exchange
 query-apart = refl
 
-uncovered-apart : swaps-apart (λ s. (no-any-source s && no-ready s) && no-query s) uncovered-exchange ≡ true
+uncovered-apart : swaps-apart (λ s. ((no-any-source s && no-ready s) && no-query s) && rooms-cover s) uncovered-exchange ≡ true
 unfolding definitions swaps-apart no-any-source no-ready no-query uncovered-exchange two-buffered
 uncovered-apart = refl
+
+room-apart : swaps-apart (λ s. ((no-any-source s && no-ready s) && no-query s) && all-covered s) room-exchange ≡ true
+unfolding definitions swaps-apart no-any-source no-ready no-query room-exchange
+room-apart = refl
 
 lengths-apart : swaps-apart lengths-calm lengths-exchange ≡ true
 unfolding definitions swaps-apart lengths-calm no-any-source no-ready no-query all-lengths lengths-exchange two-buffered
@@ -251,8 +271,13 @@ ready-swap-matters = swap-refutes (λ s. (no-any-source s && no-query s) && cove
 pub query-swap-matters : Swap-same-on (λ s. (no-any-source s && no-ready s) && covered s) → ⊥
 query-swap-matters = swap-refutes (λ s. (no-any-source s && no-ready s) && covered s) query-exchange query-apart
 
-pub cover-swap-matters : Swap-same-on (λ s. (no-any-source s && no-ready s) && no-query s) → ⊥
-cover-swap-matters = swap-refutes (λ s. (no-any-source s && no-ready s) && no-query s) uncovered-exchange uncovered-apart
+pub cover-swap-matters : Swap-same-on (λ s. ((no-any-source s && no-ready s) && no-query s) && rooms-cover s) → ⊥
+cover-swap-matters =
+    swap-refutes (λ s. ((no-any-source s && no-ready s) && no-query s) && rooms-cover s) uncovered-exchange uncovered-apart
+
+pub room-swap-matters : Swap-same-on (λ s. ((no-any-source s && no-ready s) && no-query s) && all-covered s) → ⊥
+room-swap-matters =
+    swap-refutes (λ s. ((no-any-source s && no-ready s) && no-query s) && all-covered s) room-exchange room-apart
 
 pub overhead-swap-matters : Swap-same-on lengths-calm → ⊥
 overhead-swap-matters = swap-refutes lengths-calm lengths-exchange lengths-apart

@@ -1,16 +1,19 @@
--- Each claim of Statements, ProbeStatements and ServiceStatements under its name in small letters, proved.
+-- Each claim of Statements, ProbeStatements, ServiceStatements and EditionStatements under its name in small letters, proved.
 --   demand 2             none-fit, no-overtaking, no-overtaking-receives, statuses, send-statuses (claims.Matching);
 --                        probes, queries, told-at-its-step, probe-then-receive, told-then-received (claims.Telling);
 --                        by-arrival (claims.Arrivals); stop-reasons, stopping-steps (claims.Stops);
---                        deliveries, verdicts, no-request-left, steps, counts, in-use, peaks, buffers-hold (claims.OneJob)
+--                        deliveries, verdicts, no-request-left, steps, counts, in-use, kept-in-one, peaks, buffers-hold
+--                        (claims.OneJob)
 --   run, demand 3        run-ends, ends-alike (claims.EndsAlike); swap-general, swap-same (claims.SwapSame)
 --   of the services      follow-reports, run-reports, follow-by-arrival (claims.Reported); run-replayed (claims.Replays);
 --                        follows-alike, run-alike (claims.EndsAlike); follow-swaps (claims.SwapSame)
+--   the two editions     wider-rows, follow-editions, run-editions (claims.Editions)
 -- Assumes nothing.
 use Rattle.promises.specs.Statements.{None-fit, No-overtaking, No-overtaking-receives, By-arrival, Statuses, Send-statuses, Deliveries}
 use Rattle.promises.specs.ProbeStatements.{Probes, Queries, Told-at-its-step, Probe-then-receive, Told-then-received}
-use Rattle.promises.specs.Statements.{Verdicts, No-request-left, Stop-reasons, Stopping-steps, Steps, Counts, In-use, Peaks, Buffers-hold, Run-ends, Ends-alike, Swap-same, Swap-general}
+use Rattle.promises.specs.Statements.{Verdicts, No-request-left, Stop-reasons, Stopping-steps, Steps, Counts, In-use, Kept-in-one, Peaks, Buffers-hold, Run-ends, Ends-alike, Swap-same, Swap-general}
 use Rattle.promises.specs.ServiceStatements.{Follow-reports, Run-reports, Run-replayed, Follow-by-arrival, Follows-alike, Run-alike, Follow-swaps}
+use Rattle.promises.specs.EditionStatements.{Wider-rows, Follow-editions, Run-editions}
 use Rattle.promises.specs.claims.Matching
 use Rattle.promises.specs.claims.OneJob
 use Rattle.promises.specs.claims.Telling
@@ -20,6 +23,7 @@ use Rattle.promises.specs.claims.EndsAlike
 use Rattle.promises.specs.claims.SwapSame
 use Rattle.promises.specs.claims.Reported
 use Rattle.promises.specs.claims.Replays
+use Rattle.promises.specs.claims.Editions
 
 -- DEMAND 2
 pub none-fit : None-fit
@@ -79,6 +83,9 @@ counts = OneJob.counts
 pub in-use : In-use
 in-use = OneJob.in-use
 
+pub kept-in-one : Kept-in-one
+kept-in-one = OneJob.kept-in-one
+
 pub peaks : Peaks
 peaks = OneJob.peaks
 
@@ -121,3 +128,13 @@ run-alike = EndsAlike.calls-run-alike
 
 pub follow-swaps : Follow-swaps
 follow-swaps = SwapSame.calls-swap
+
+-- THE TWO EDITIONS
+pub wider-rows : Wider-rows
+wider-rows = Editions.wider-rows
+
+pub follow-editions : Follow-editions
+follow-editions = Editions.follow-editions
+
+pub run-editions : Run-editions
+run-editions = Editions.run-editions

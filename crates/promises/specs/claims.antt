@@ -15,6 +15,7 @@
 --   EndsAlike     full orders end alike
 --   Reported      demand 2 of the services
 --   Replays       the order that a run wrote, followed
+--   Editions      sheets without rooms, in both editions
 --   SwapSame      exchanged steps
 pub mod Deliveries
 pub mod Verdicts
@@ -33,3 +34,4 @@ pub mod EndsAlike
 pub mod SwapSame
 pub mod Reported
 pub mod Replays
+pub mod Editions

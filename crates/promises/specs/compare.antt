@@ -1,5 +1,6 @@
 -- Two jobs of one sheet, compared.
 --   Behind                a job behind another can only catch up
+--   NewlyKept             a send that enters is buffered by what was in use
 --   BothBehind            jobs behind each other have the same rows
 --   AfterStep             the stop and the places after a step
 --   ArrivalGrowth         the order of arrival along several steps
@@ -13,6 +14,7 @@
 --   CalmSheets            calm sheets never stop
 --   EveryEnd              every order stays behind every full one
 pub mod Behind
+pub mod NewlyKept
 pub mod BothBehind
 pub mod AfterStep
 pub mod ArrivalGrowth

@@ -1,19 +1,19 @@
 -- Refusal 5 as a walk over the board table: what holds before board r, one board more, and what the walk answers.
 -- Assumes nothing.
 use mathlib.Core.Path.{_≡_, refl, sym, _∙_, ap}
-use mathlib.Core.Bool.{Bool, true, false, _&&_, not, cond}
+use mathlib.Core.Bool.{Bool, true, false, not, cond}
 use Prim.Native.Nat.{ℕ, suc, _+_, _-_, _*_, _<_, _≤_}
 use native.Mathlib.Omega.{arith}
 use native.Mathlib.Numerals.{add-one}
-use lib.Dec.{eqb, leb}
-use borrow.Author.Tests.{leb-true, eq-eqb, ne-eqb}
-use Rattle.rules.specs.Limits.{most-attached, most-inbox}
+use lib.Dec.{eqb}
+use borrow.Author.Tests.{eq-eqb, ne-eqb}
+use Rattle.rules.specs.Limits.{most-inbox}
 use Rattle.rules.specs.Sheet.{Sheet, board, P-of, N-of, counts-before, inbox-start}
 use Rattle.rules.specs.Refusal.{Refusal, refusal, accepted, or-else, first-broken, board-good, boards-refusal}
 use Rattle.rules.specs.Service.{answers}
 use Rattle.laws.specs.Answers.{told-is}
-use Rattle.laws.specs.Tests.{and-right}
 use Rattle.laws.specs.Broken.{or-else-passed, or-else-stopped, rule-kept, rule-broken, broken-more, broken-here, broken-none}
+use Rattle.laws.specs.Tabled.{board-entry}
 use Rattle.laws.specs.Ranks.{counts-more, inbox-start-more, counts-none, inbox-start-none}
 
 -- the search from board r on, and the test of the counts' total behind it
@@ -49,15 +49,11 @@ module _ {s : Sheet} {r sum total : ℕ} (w : Walked s r sum total) where
     -- a good entry: the walk goes on, with the board's count and inbox added
     pub walked-more : not good ≡ false → (count t : ℕ) → count ≡ board s r .count → count < 65536 → t ≡ total + board s r .inbox
         → Walked s (r + 1) (sum + count) t
-    unfolding board-good
     walked-more h count t ec lc et =
         let counts = counts-more s r l in
         let starts = inbox-start-more s r l in
         let next : r + 1 ≡ suc r = add-one r in
-        let attached = leb (board s r .attached) most-attached in
-        let inboxes = leb (inbox-start s (suc r)) most-inbox in
-        let sizes = and-right (eqb (board s r .first) (counts-before s r)) (attached && inboxes) (rule-kept told h) in
-        let fits = leb-true (inbox-start s (suc r)) most-inbox (and-right attached inboxes sizes) in
+        let fits = board-entry s r (rule-kept told h) .inbox in
         let on = broken-more 5 (board-good s) (P-of s - r) r (omega arith) (rule-kept told h) in
         let rest : entries-broken s r ≡ entries-broken s (r + 1) = on ∙ ap (λ (n : ℕ). first-broken 5 (board-good s) n (r + 1)) (omega arith) in
         record {

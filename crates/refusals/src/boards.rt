@@ -1,4 +1,4 @@
-// Refusal 5: board entries (document 01, "The sheet, byte by byte").
+// Refusal 5: board entries (document 01, "The sheet, byte by byte"; their rooms: document 02, K6).
 ghost use Rattle.rules.specs.Sheet.{sheet-in};
 ghost use Rattle.rules.specs.Refusal.{boards-refusal};
 ghost use Rattle.rules.specs.Service.{answers};
@@ -19,7 +19,8 @@ pub fn refusal(s: &[u8]) -> Answer
     while r < p {
         total += boards::inbox(s, r);
         if !((boards::first(s, r) == sum)
-            & ((boards::attached(s, r) <= limits::MOST_ATTACHED) & (total <= limits::MOST_INBOX))) {
+            & (((boards::attached(s, r) <= limits::MOST_ATTACHED) & (total <= limits::MOST_INBOX))
+                & (boards::room(s, r) <= limits::MOST_ROOM))) {
             return Answer {
                 number: 5,
                 place: r as u64,

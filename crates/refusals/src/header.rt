@@ -18,7 +18,8 @@ pub fn sizes_are_good(s: &[u8]) -> bool
         & ((n <= limits::MOST_OPS) & (l <= limits::MOST_PAYLOAD))
 }
 
-// Refusal 3: the offsets and the sheet's length are those of the sizes.
+// Refusal 3: the offsets and the sheet's length are those of the sizes, in the edition that the second offset tells (document
+// 02, K6).
 pub fn layout_is_good(s: &[u8]) -> bool
     requires { ⌜ 15 < length (now s) ⌝ }
     ensures { λ r. ⌜ r ≡ layout-good (now (s .entry)) ⌝ }
@@ -26,10 +27,11 @@ pub fn layout_is_good(s: &[u8]) -> bool
     let p = header::boards(s);
     let n = header::ops(s);
     let l = header::payload(s);
+    let second = header::is_second(s);
     (((header::boards_offset(s) == limits::HEADER_SIZE)
-        & (header::ops_offset(s) == limits::ops_at(p)))
-        & (header::payload_offset(s) == limits::payload_at(p, n)))
-        & (s.len() == limits::sheet_size(p, n, l))
+        & (header::ops_offset(s) == limits::ops_at(second, p)))
+        & (header::payload_offset(s) == limits::payload_at(second, p, n)))
+        & (s.len() == limits::sheet_size(second, p, n, l))
 }
 
 // Refusal 4: the CRC is the header's.

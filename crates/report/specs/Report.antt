@@ -1,14 +1,15 @@
 -- The report of the job that stands in scratch: board states, the verdict, and the stretches side by side. Assumes nothing.
---   state-finished, state-other   a board's state; row-is: its row, with the figures as they were read
+--   state-finished, state-other   a board's state; row-is: the front of its row, with the figures as they were read
+--   row-first, row-second         its row, by the edition
 --   Finishing                     all boards before r are finished
 --   verdict-stopped, ..           the verdict, by what was found
 --   stop-rank, stop-op            the stop, as the control block has it
 --   front-bytes, back-bytes       the header's two halves; header-is: side by side they are the header
 --   report-whole                  header, board rows and operation rows side by side are the report, in front of what stays
-use mathlib.Core.Path.{_≡_, sym, ap, ap₂, _∙_}
+use mathlib.Core.Path.{_≡_, refl, sym, ap, ap₂, _∙_}
 use mathlib.Core.Logic.{_⊎_, inl, inr}
 use mathlib.Core.Bool.{Bool, true, false, _&&_, cond}
-use mathlib.Core.List.{List, _∷_, _++_, append-assoc}
+use mathlib.Core.List.{List, [], _∷_, _++_, append-assoc}
 use mathlib.Core.Option.{Option, none, some}
 use Prim.Native.Nat.{ℕ, suc, _+_, _-_, _*_, _/_, _%_, _≤_, _<_}
 use native.Mathlib.Omega.{arith}
@@ -23,7 +24,7 @@ use Rattle.rules.specs.Sheet.{Sheet, op, board, P-of, N-of, sheet-in}
 use Rattle.rules.specs.Job.{Job, Entry, Place, Stop, place-at}
 use Rattle.rules.specs.Step.{splice, able, is-finished}
 use Rattle.rules.specs.Order.{none-able}
-use Rattle.rules.specs.Report.{low-two, count-from, pending-messages, pending-receives, cut-messages, all-finished, verdict-of, stop-bytes, header-bytes, board-state, board-row, op-rows, report}
+use Rattle.rules.specs.Report.{low-two, count-from, pending-messages, pending-receives, cut-messages, all-finished, verdict-of, stop-bytes, header-bytes, board-state, room-bytes, board-row, op-rows, report}
 use Rattle.rules.specs.Service.{in-front}
 use Rattle.state.specs.declared.Control.{Control}
 use Rattle.state.specs.Layout.{seat-at}
@@ -34,8 +35,13 @@ use Rattle.laws.specs.Splice.{splice-then}
 use Rattle.simulation.specs.Represents.{Represents}
 use Rattle.steps.specs.Able.{finished-is}
 use Rattle.report.specs.ReportCounts.{message-row, receive-row, cut-row, messages-are, receives-are, cut-are}
-use Rattle.report.specs.ReportRows.{low-of, four, board-row-at, joined, joined-length, row-in, row-in-length, board-rows-joined, op-rows-joined}
-use Rattle.laws.specs.ReportRows.{board-row-length}
+use Rattle.report.specs.ReportRows.{low-of, four, board-row-at, joined, joined-length, board-rows-long, row-in, row-in-length, board-rows-joined, op-rows-joined}
+
+-- what both editions have of a board's row
+unfoldable pub row-front : Sheet → Job → (r : ℕ) → List ℕ
+row-front s x r =
+    low-two (place-at x r .finished)
+    ++ (low-two (place-at x r .attached .in-use) ++ (low-two (place-at x r .attached .peak) ++ (board-state s x r ∷ 0 ∷ [])))
 
 -- bytes at the very front
 front-splice : (met vs : List ℕ) → splice met 0 vs ≡ in-front vs met
@@ -70,18 +76,37 @@ module _ {bs lent c : List ℕ} {t : Control} {x : Job} (d : Represents bs lent 
       ap (λ (f : Bool). cond f 1 0) (sym w ∙ p)
       ∙ ap (λ (f : Bool). cond f 2 (cond (able s x r) 1 0)) (sym (finished-no q))
 
-  -- a board row, with its figures as they were read
-  pub row-is : {charged peak state : ℕ} → charged ≡ place-in c (seat-at r) .in-use → peak ≡ place-in c (seat-at r) .peak →
-      state ≡ board-state s x r → state ≤ 2 →
-      four done charged peak state ≡ board-row s x r
-  unfolding board-row low-two
+  -- the front of a board row, with its figures as they were read
+  pub row-is : {charged peak state : ℕ} → charged ≡ place-in c (seat-at r) .attached .in-use →
+      peak ≡ place-in c (seat-at r) .attached .peak → state ≡ board-state s x r → state ≤ 2 →
+      four done charged peak state ≡ row-front s x r
+  unfolding row-front low-two
   row-is {charged} {peak} {state} u p v small =
       let place : place-in c (seat-at r) ≡ place-at x r = place-is s c t x (d .decodes) r l in
-      let one : charged ≡ place-at x r .in-use = u ∙ ap (λ (q : Place). q .in-use) place in
-      let two : peak ≡ place-at x r .peak = p ∙ ap (λ (q : Place). q .peak) place in
+      let one : charged ≡ place-at x r .attached .in-use = u ∙ ap (λ (q : Place). q .attached .in-use) place in
+      let two : peak ≡ place-at x r .attached .peak = p ∙ ap (λ (q : Place). q .attached .peak) place in
       let low : state % 256 ≡ board-state s x r = (let m : state % 256 ≡ state = omega arith in m) ∙ v in
       let high : state / 256 % 256 ≡ 0 = omega arith in
       cc (done-is, one, two, low, high)
+
+-- A BOARD'S ROW: in the first edition its front, in the second the room's figures behind it
+module _ (s : Sheet) (x : Job) (r : ℕ) where
+  pub row-first : (e : Bool) → e ≡ false → row-front s x r ≡ board-row e s x r
+  unfolding row-front board-row room-bytes low-two
+  row-first e h = rw h
+
+  row-whole : row-front s x r ++ room-bytes true (place-at x r) ≡ board-row true s x r
+  unfolding row-front board-row room-bytes low-two
+  row-whole = refl
+
+  pub row-second : (e : Bool) → e ≡ true → (met front out : List ℕ) (at : ℕ) → at + board-row-size e ≤ length met →
+      front ≡ splice met at (row-front s x r) → out ≡ splice front (at + 8) (room-bytes true (place-at x r)) →
+      out ≡ splice met at (board-row e s x r)
+  unfolding row-front room-bytes low-two
+  row-second e h met front out at l a b =
+      splice-then met front out at 8 (row-front s x r) (room-bytes true (place-at x r)) a refl b
+      (omega (arith, ap (λ (z : Bool). board-row-size z) h))
+      ∙ (ap (λ (vs : List ℕ). splice met at vs) row-whole ∙ ap (λ (z : Bool). splice met at (board-row z s x r)) (sym h))
 
 -- ALL FINISHED: every board before r is
 abbrev pub Finishing : Sheet → Job → (r : ℕ) → Type 0
@@ -216,16 +241,16 @@ module _ {bs lent c : List ℕ} {t : Control} {x : Job} (d : Represents bs lent 
   header-long = ap (λ (b : List ℕ). length (verdict-of (x .stop) here x ∷ (b ++ rest (x .steps) (pending-messages here x) (pending-receives here x) (cut-messages here x)))) stop-bytes-are
 
   -- THE WHOLE: three stretches side by side
-  pub report-whole : (met : List ℕ) {one two all : List ℕ} → report-size (P-of here) (N-of here) ≤ length met →
-      one ≡ splice met 0 (header-bytes here x) → two ≡ splice one report-header-size (joined (board-row here x) 0 (P-of here)) →
-      all ≡ splice two (board-row-at (P-of here)) (joined (row-in c) 0 (N-of here)) → all ≡ in-front (report here x) met
+  pub report-whole : (e : Bool) (met : List ℕ) {one two all : List ℕ} → report-size e (P-of here) (N-of here) ≤ length met →
+      one ≡ splice met 0 (header-bytes here x) → two ≡ splice one report-header-size (joined (board-row e here x) 0 (P-of here)) →
+      all ≡ splice two (board-row-at e (P-of here)) (joined (row-in c) 0 (N-of here)) → all ≡ in-front (report e here x) met
   unfolding report in-front
-  report-whole met {one} {two} {all} room a b z =
+  report-whole e met {one} {two} {all} room a b z =
       let head = header-bytes here x in
-      let rows = joined (board-row here x) 0 (P-of here) in
+      let rows = joined (board-row e here x) 0 (P-of here) in
       let ops = joined (row-in c) 0 (N-of here) in
-      let place = board-row-at (P-of here) in
-      let rows-long = joined-length board-row-size (board-row here x) (board-row-length here x) 0 (P-of here) in
+      let place = board-row-at e (P-of here) in
+      let rows-long = board-rows-long e here x (P-of here) in
       let ops-long = joined-length op-row-size (row-in c) (row-in-length c) 0 (N-of here) in
       let long : length (head ++ rows) ≡ place = omega (arith, length-append head rows, header-long) in
       let both : two ≡ splice met 0 (head ++ rows) =
@@ -234,6 +259,6 @@ module _ {bs lent c : List ℕ} {t : Control} {x : Job} (d : Represents bs lent 
       let last : all ≡ splice two (0 + place) ops = z ∙ ap (λ (n : ℕ). splice two n ops) at in
       splice-then met two all 0 place (head ++ rows) ops both long last (omega arith)
       ∙ ap (λ (vs : List ℕ). splice met 0 vs) (append-assoc head rows ops)
-      ∙ ap₂ (λ (u v : List ℕ). splice met 0 (head ++ (u ++ v))) (sym (board-rows-joined here x 0 (P-of here)))
+      ∙ ap₂ (λ (u v : List ℕ). splice met 0 (head ++ (u ++ v))) (sym (board-rows-joined e here x 0 (P-of here)))
       (sym (ap (λ (es : List Entry). op-rows es) (d .decodes .entries-are) ∙ op-rows-joined c (N-of here)))
-      ∙ front-splice met (report here x)
+      ∙ front-splice met (report e here x)

@@ -1,10 +1,12 @@
--- Rows of a report, written one after another: board rows of 8 bytes, operation rows of 12. Operation rows are copied from
+-- Rows of a report, written one after another: board rows of 8 or 12 bytes, by the edition, operation rows of 12. Operation rows are copied from
 -- scratch, whose rows have the report's own format. Assumes nothing.
 --   joined             rows f 0, f 1 and so on, side by side
 --   Rowing             the first i rows are written
+--   board-rows-long    how many bytes board rows have
 --   board-rows-joined  the report's board rows are such rows; op-rows-joined: so are its operation rows
 --   row-copied         ten bytes of scratch and two zeros are an operation row
 use mathlib.Core.Path.{_≡_, refl, sym, ap, ap₂, _∙_}
+use mathlib.Core.Bool.{Bool}
 use mathlib.Core.List.{List, [], _∷_, _++_, append-assoc, append-nil}
 use Prim.Native.Nat.{ℕ, zero, suc, _+_, _*_, _/_, _%_, _≤_, _<_}
 use native.Mathlib.Omega.{arith}
@@ -12,11 +14,12 @@ use native.Mathlib.Nat.{add-comm, mul-zero, mul-suc}
 use native.Mathlib.Numerals.{add-one}
 use lib.ListN.{length, getD, take, drop, length-append}
 use lib.Seq.{drop-cons}
-use Rattle.rules.specs.Limits.{report-header-size, board-row-size, op-row-size}
+use Rattle.rules.specs.Limits.{report-header-size, board-rows-size, op-row-size}
 use Rattle.rules.specs.Sheet.{Sheet, two}
 use Rattle.rules.specs.Job.{Job}
 use Rattle.rules.specs.Step.{splice}
 use Rattle.rules.specs.Report.{low-two, board-row, board-rows, op-row, op-rows, entry-in}
+use Rattle.laws.specs.Editions.{rows-none, rows-more}
 use Rattle.laws.specs.ReportRows.{board-row-length}
 use Rattle.laws.specs.Splice.{splice-none, splice-then, splice-length}
 use Rattle.words.specs.Tab.{tab}
@@ -57,15 +60,14 @@ rowing-none f at met h =
       is = sym (splice-none met at h);
     }
 
--- row i, of w bytes, is put behind them
-pub rowing-more : {f : ℕ → List ℕ} {at : ℕ} {met out after : List ℕ} {i : ℕ} (w : ℕ) → ((k : ℕ) → length (f k) ≡ w) →
-    Rowing f at met out i → after ≡ splice out (at + w * i) (f i) → at + (w * i + w) ≤ length met → Rowing f at met after (i + 1)
-rowing-more {f} {at} {met} {out} {after} {i} w each q e h =
-    let long = joined-length w f each 0 i in
-    let fits : at + (length (joined f 0 i) + length (f i)) ≤ length met = omega (arith, long, each i) in
+-- row i is put behind them, who have k bytes
+pub rowing-more : {f : ℕ → List ℕ} {at : ℕ} {met out after : List ℕ} {i : ℕ} (k : ℕ) → length (joined f 0 i) ≡ k →
+    Rowing f at met out i → after ≡ splice out (at + k) (f i) → at + (k + length (f i)) ≤ length met → Rowing f at met after (i + 1)
+rowing-more {f} {at} {met} {out} {after} {i} k long q e h =
+    let fits : at + (length (joined f 0 i) + length (f i)) ≤ length met = omega (arith, long) in
     let next : joined f 0 (i + 1) ≡ joined f 0 i ++ f i =
     ap (λ (k : ℕ). joined f 0 k) (add-one i) ∙ joined-more f 0 i ∙ ap (λ (k : ℕ). joined f 0 i ++ f k) (omega arith) in
-    let is : after ≡ splice met at (joined f 0 i ++ f i) = splice-then met out after at (w * i) (joined f 0 i) (f i) (q .is) long e fits in
+    let is : after ≡ splice met at (joined f 0 i ++ f i) = splice-then met out after at k (joined f 0 i) (f i) (q .is) long e fits in
     record {
       size =
           ap (λ (z : List ℕ). length z) is
@@ -75,17 +77,25 @@ rowing-more {f} {at} {met} {out} {after} {i} w each q e h =
 
 -- THE REPORT'S ROWS
 -- where the row of board r stands; behind the last board's row those of operations start
-abbrev pub board-row-at : (r : ℕ) → ℕ
-board-row-at r = report-header-size + board-row-size * r
+abbrev pub board-row-at : (second : Bool) → (r : ℕ) → ℕ
+board-row-at e r = report-header-size + board-rows-size e r
+
+pub board-rows-long : (e : Bool) (s : Sheet) (x : Job) (n : ℕ) → length (joined (board-row e s x) 0 n) ≡ board-rows-size e n
+unfolding joined
+board-rows-long e s x zero = sym (rows-none e)
+board-rows-long e s x (suc n) =
+    ap length (joined-more (board-row e s x) 0 n)
+    ∙ (length-append (joined (board-row e s x) 0 n) (board-row e s x (0 + n))
+    ∙ omega (arith, board-rows-long e s x n, board-row-length e s x (0 + n), rows-more e n))
 
 -- four numbers side by side
 abbrev pub four : (k l m n : ℕ) → List ℕ
 four k l m n = (low-two k ++ low-two l) ++ (low-two m ++ low-two n)
 
-pub board-rows-joined : (s : Sheet) (x : Job) (r n : ℕ) → board-rows n r s x ≡ joined (board-row s x) r n
+pub board-rows-joined : (e : Bool) (s : Sheet) (x : Job) (r n : ℕ) → board-rows e n r s x ≡ joined (board-row e s x) r n
 unfolding board-rows joined
-board-rows-joined s x r zero = refl
-board-rows-joined s x r (suc n) = ap (λ (z : List ℕ). board-row s x r ++ z) (board-rows-joined s x (suc r) n)
+board-rows-joined e s x r zero = refl
+board-rows-joined e s x r (suc n) = ap (λ (z : List ℕ). board-row e s x r ++ z) (board-rows-joined e s x (suc r) n)
 
 -- the operation row that scratch holds of operation i
 unfoldable pub row-in : (c : List ℕ) → (i : ℕ) → List ℕ

@@ -1,21 +1,25 @@
 // The report (document 01, "The report"), made from what scratch and the control block hold of a job: a header, a row a board, a
 // row an operation. Each function writes one stretch; the room behind the report keeps its bytes.
 ghost use mathlib.Core.Path.{_≡_};
+ghost use mathlib.Core.Bool.{true};
 ghost use Prim.Native.Nat.{_+_, _*_, _<_, _≤_};
 ghost use lib.ListN.{length};
-ghost use Rattle.rules.specs.Limits.{most-ops, scratch-size, report-header-size, op-row-size, report-size};
-ghost use Rattle.rules.specs.Sheet.{sheet-in, P-of, N-of};
+ghost use Rattle.rules.specs.Limits.{most-ops, most-boards, scratch-size, report-header-size, board-row-size, op-row-size, report-size};
+ghost use Rattle.rules.specs.Sheet.{second-in, sheet-in, P-of, N-of};
 ghost use Rattle.rules.specs.Step.{splice};
 ghost use Rattle.rules.specs.Order.{none-able};
-ghost use Rattle.rules.specs.Report.{all-finished, verdict-of, header-bytes, board-state, board-row, report};
+ghost use Rattle.rules.specs.Report.{all-finished, verdict-of, header-bytes, board-state, room-bytes, board-row, report};
 ghost use Rattle.rules.specs.Service.{in-front};
 ghost use Rattle.laws.specs.Laid.{Laid};
 ghost use Rattle.state.specs.declared.Control.{Control};
+ghost use Rattle.state.specs.Layout.{seat-at};
+ghost use Rattle.state.specs.Decoded.{place-in};
 ghost use Rattle.simulation.specs.Represents.{Represented};
 ghost use Rattle.orders.specs.Jobs.{Every};
-ghost use Rattle.report.specs.Report.{stop-rank as Report·stop-rank, stop-op as Report·stop-op, front-bytes, back-bytes};
+ghost use Rattle.report.specs.Report.{stop-rank as Report·stop-rank, stop-op as Report·stop-op, row-front, front-bytes, back-bytes};
 ghost use Rattle.report.specs.ReportCounts.{Bit, message-row, receive-row, cut-row, Rows-counted};
 ghost use Rattle.report.specs.ReportRows.{row-in, joined, board-row-at, four};
+use account::Store;
 use orders::lowest;
 use sheet::boards;
 use sheet::header;
@@ -75,39 +79,60 @@ fn board_state(s: &[u8], c: &[u8], t: Control, r: usize) -> usize
     0
 }
 
-// Where the row of board r stands; that of board P would stand where the rows of operations start.
-fn board_row_place(r: usize) -> usize
+// Where the row of board r stands in a report of an edition; that of board P would stand where the rows of operations start.
+fn board_row_place(second: bool, r: usize) -> usize
     requires { ⌜ r < 65536 ⌝ }
-    ensures { λ a. ⌜ a ≡ board-row-at r ⌝ }
+    ensures { λ a. ⌜ a ≡ board-row-at second r ⌝ }
 {
-    limits::REPORT_HEADER_SIZE + limits::BOARD_ROW_SIZE * r
+    limits::REPORT_HEADER_SIZE + limits::board_rows_size(second, r)
 }
 
-// The row of board r: operations finished, buffer in use, peak, state and a zero byte.
-fn board_row(s: &[u8], c: &[u8], t: Control, r: usize, out: &mut [u8])
-    requires { ⌜ Represented (now s) (now c) t × (r < P-of (sheet-in (now s))) × (board-row-at (r + 1) ≤ length (now out)) ⌝ }
+// The front of board r's row, which both editions have: operations finished, buffer in use, peak, state and a zero byte.
+fn row_front(s: &[u8], c: &[u8], t: Control, r: usize, at: usize, out: &mut [u8])
+    requires { ⌜ Represented (now s) (now c) t × (r < P-of (sheet-in (now s))) × (at + 8 ≤ length (now out)) ⌝ }
     ensures { λ _. ⌜ Every (now (s .entry)) (now (c .entry)) t
-        (λ x. now (out .exit) ≡ splice (now (out .entry)) (board-row-at r) (board-row (sheet-in (now (s .entry))) x r)) ⌝ }
+        (λ x. now (out .exit) ≡ splice (now (out .entry)) at (row-front (sheet-in (now (s .entry))) x r)) ⌝ }
 {
-    let at = board_row_place(r);
     let finished = places::finished_of(c, r);
-    let in_use = places::in_use_of(c, r);
-    let peak = places::peak_of(c, r);
+    let attached = places::figures_of(c, r, Store::Attached);
     let state = board_state(s, c, t, r);
-    put_four(out, at, finished, in_use, peak, state);
+    put_four(out, at, finished, attached.in_use, attached.peak, state);
+}
+
+// What the second edition has besides: room in use, and its peak (document 02, K6).
+fn row_room(c: &[u8], r: usize, at: usize, out: &mut [u8])
+    requires { ⌜ (r < most-boards) × (scratch-size ≤ length (now c)) × (at + 4 ≤ length (now out)) ⌝ }
+    ensures { λ _. ⌜ now (out .exit) ≡ splice (now (out .entry)) at (room-bytes true (place-in (now (c .entry)) (seat-at r))) ⌝ }
+{
+    let room = places::figures_of(c, r, Store::Room);
+    words::put_pair(out, at, room.in_use, room.peak);
+}
+
+// The row of board r.
+fn board_row(s: &[u8], c: &[u8], t: Control, second: bool, r: usize, out: &mut [u8])
+    requires { ⌜ Represented (now s) (now c) t × (r < P-of (sheet-in (now s)))
+        × (board-row-at second r + board-row-size second ≤ length (now out)) ⌝ }
+    ensures { λ _. ⌜ Every (now (s .entry)) (now (c .entry)) t
+        (λ x. now (out .exit) ≡ splice (now (out .entry)) (board-row-at second r) (board-row second (sheet-in (now (s .entry))) x r)) ⌝ }
+{
+    let at = board_row_place(second, r);
+    row_front(s, c, t, r, at, out);
+    if second {
+        row_room(c, r, at + 8, out);
+    }
 }
 
 // The rows of all boards.
-fn board_rows(s: &[u8], c: &[u8], t: Control, out: &mut [u8])
-    requires { ⌜ Represented (now s) (now c) t × (board-row-at (P-of (sheet-in (now s))) ≤ length (now out)) ⌝ }
+fn board_rows(s: &[u8], c: &[u8], t: Control, second: bool, out: &mut [u8])
+    requires { ⌜ Represented (now s) (now c) t × (board-row-at second (P-of (sheet-in (now s))) ≤ length (now out)) ⌝ }
     ensures { λ _. ⌜ Every (now (s .entry)) (now (c .entry)) t
         (λ x. now (out .exit) ≡ splice (now (out .entry)) report-header-size
-        (joined (board-row (sheet-in (now (s .entry))) x) 0 (P-of (sheet-in (now (s .entry)))))) ⌝ }
+        (joined (board-row second (sheet-in (now (s .entry))) x) 0 (P-of (sheet-in (now (s .entry)))))) ⌝ }
 {
     let p = header::boards(s);
     let mut r = 0;
     while r < p {
-        board_row(s, c, t, r, out);
+        board_row(s, c, t, second, r, out);
         r += 1;
     }
 }
@@ -267,16 +292,26 @@ fn put_header(s: &[u8], c: &[u8], t: Control, out: &mut [u8])
     header_back(s, c, out);
 }
 
-// The whole report, in front of what else the room holds.
+// How many bytes a sheet's report has: its board rows are of the sheet's edition (document 02, K6). Sums of it never wrap.
+pub fn size(s: &[u8]) -> usize
+    requires { ⌜ Laid (now s) ⌝ }
+    ensures { λ r. ⌜ (r ≡ report-size (second-in (now (s .entry))) (P-of (sheet-in (now (s .entry)))) (N-of (sheet-in (now (s .entry)))))
+        × (r ≤ report-header-size + board-row-size true * most-boards + op-row-size * most-ops) ⌝ }
+{
+    limits::report_size(header::is_second(s), header::boards(s), header::ops(s))
+}
+
+// The whole report, in front of what else the room holds; its board rows are of the sheet's edition (document 02, K6).
 pub fn write(s: &[u8], c: &[u8], t: Control, out: &mut [u8])
     requires { ⌜ Represented (now s) (now c) t
-        × (report-size (P-of (sheet-in (now s))) (N-of (sheet-in (now s))) ≤ length (now out)) ⌝ }
+        × (report-size (second-in (now s)) (P-of (sheet-in (now s))) (N-of (sheet-in (now s))) ≤ length (now out)) ⌝ }
     ensures { λ _. ⌜ Every (now (s .entry)) (now (c .entry)) t
-        (λ x. now (out .exit) ≡ in-front (report (sheet-in (now (s .entry))) x) (now (out .entry))) ⌝ }
+        (λ x. now (out .exit) ≡ in-front (report (second-in (now (s .entry))) (sheet-in (now (s .entry))) x) (now (out .entry))) ⌝ }
 {
     put_header(s, c, t, out);
-    board_rows(s, c, t, out);
+    let second = header::is_second(s);
+    board_rows(s, c, t, second, out);
     let n = header::ops(s);
-    let at = board_row_place(header::boards(s));
+    let at = board_row_place(second, header::boards(s));
     op_rows(c, n, at, out);
 }

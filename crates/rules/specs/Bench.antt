@@ -1,9 +1,9 @@
 -- The bench (document 01, "Bench jobs" and "When the desk says no"): the jobs of BenchNumbered and BenchFurther in one list,
--- the calls of BenchRefused, those of BenchRooms, and for document 02's K9 the jobs of BenchProbes and the calls of
--- BenchProbesRefused, each under one claim, which the checker computes. A job: its sheet passes check, its order is taken,
--- report and inboxes come out as written by hand. The edits in must-fail/ put wrong definitions in the place of those tested
--- here; a claim refuses each. A claim cites the one before it, the first that of BenchPremise: once one is refused the rest
--- is not computed.
+-- the calls of BenchRefused and those of BenchRooms; for document 02's K9 the jobs of BenchProbes and the calls of
+-- BenchProbesRefused, for K6 those of BenchStandard and BenchStandardRefused; each under one claim, which the checker computes.
+-- A job: its sheet passes check, its order is taken, report and inboxes come out as written by hand. The edits in must-fail/ put
+-- wrong definitions in the place of those tested here; a claim refuses each. A claim cites the one before it, the first that of
+-- BenchPremise: once one is refused the rest is not computed.
 -- Assumes nothing.
 use mathlib.Core.Path.{_≡_, refl}
 use mathlib.Core.Bool.{Bool, true}
@@ -18,6 +18,8 @@ use Rattle.rules.specs.BenchRefusal.{as-answered, scratch-asked}
 use Rattle.rules.specs.BenchRefused.{bench-calls}
 use Rattle.rules.specs.BenchRooms.{bench-rooms}
 use Rattle.rules.specs.BenchProbesRefused.{probe-calls}
+use Rattle.rules.specs.BenchStandard.{room-jobs}
+use Rattle.rules.specs.BenchStandardRefused.{room-calls}
 use Rattle.rules.specs.BenchPremise.{questions-answered}
 use Rattle.rules.specs.Definitions.{definitions}
 
@@ -62,4 +64,17 @@ pub probe-calls-hold : all as-answered probe-calls ≡ true
 unfolding definitions
 probe-calls-hold =
     let before = probe-jobs-hold in
+    refl
+
+-- the second edition
+pub room-jobs-hold : all as-expected room-jobs ≡ true
+unfolding definitions
+room-jobs-hold =
+    let before = probe-calls-hold in
+    refl
+
+pub room-calls-hold : all as-answered room-calls ≡ true
+unfolding definitions
+room-calls-hold =
+    let before = room-jobs-hold in
     refl

@@ -7,7 +7,7 @@ use mathlib.Core.Option.{Option, none, some}
 use Prim.Native.Nat.{ℕ, zero, suc, _+_, _*_, _/_, _%_}
 use lib.Dec.{eqb}
 use lib.ListN.{length, getD, take, drop}
-use Rattle.rules.specs.Sheet.{Sheet, sheet-in}
+use Rattle.rules.specs.Sheet.{Sheet, second-in, sheet-in}
 use Rattle.rules.specs.Refusal.{sheet-refusal}
 use Rattle.rules.specs.Job.{Job}
 use Rattle.rules.specs.Step.{is-none}
@@ -42,20 +42,25 @@ pub data Line : Type 0 where
   probe : (source comm tag : ℕ) → Line
   query : (slot : ℕ) → Line
 
--- a board: its attached buffer size, its inbox size, its operations
+-- a board: its attached buffer size, its inbox size, its operations; of the second edition (document 02, K6) its standard room too
 pub data Script : Type 0 where
   script : (attached inbox : ℕ) → List Line → Script
+  roomed : (attached inbox room : ℕ) → List Line → Script
 
--- a sheet: how many communicators; its CRC, a number from another program than these definitions; its payload; its boards
+-- a sheet: how many communicators; its CRC, a number from another program than these definitions; its payload; its boards, which
+-- are all `script` in `draft`, and all `roomed` in `draft-2`, a sheet of the second edition
 pub data Draft : Type 0 where
   draft : (comms crc : ℕ) → (payload : List ℕ) → List Script → Draft
+  draft-2 : (comms crc : ℕ) → (payload : List ℕ) → List Script → Draft
 
 unfoldable pub scripts-of : Draft → List Script
 scripts-of (draft c k pay ss) = ss
+scripts-of (draft-2 c k pay ss) = ss
 
 unfoldable pub lines-of : List Script → List Line
 lines-of [] = []
 lines-of (script a i ls ∷ ss) = ls ++ lines-of ss
+lines-of (roomed a i m ls ∷ ss) = ls ++ lines-of ss
 
 -- P and N: how many boards and how many operations
 unfoldable pub P-drafted : Draft → ℕ
@@ -86,14 +91,25 @@ all-line-bytes (l ∷ ls) = line-bytes l ++ all-line-bytes ls
 unfoldable pub entry-bytes : (first : ℕ) → List Script → List ℕ
 entry-bytes f [] = []
 entry-bytes f (script a i ls ∷ ss) = as-words (f ∷ length ls ∷ a ∷ i ∷ []) ++ entry-bytes (f + length ls) ss
+entry-bytes f (roomed a i m ls ∷ ss) = as-words (f ∷ length ls ∷ a ∷ i ∷ m ∷ []) ++ entry-bytes (f + length ls) ss
 
-unfoldable pub draft-bytes : Draft → List ℕ
-draft-bytes (draft c k pay ss) =
+-- a sheet whose board entries have so many bytes
+unfoldable pub laid-out : (entry comms crc : ℕ) → (payload : List ℕ) → List Script → List ℕ
+laid-out w c k pay ss =
     let p = length ss in
     let n = length (lines-of ss) in
-    let o = 16 + 8 * p in
+    let o = 16 + w * p in
     as-words (p ∷ c ∷ n ∷ 16 ∷ o ∷ (o + 16 * n) ∷ length pay ∷ k ∷ [])
     ++ (entry-bytes 0 ss ++ (all-line-bytes (lines-of ss) ++ pay))
+
+unfoldable pub draft-bytes : Draft → List ℕ
+draft-bytes (draft c k pay ss) = laid-out 8 c k pay ss
+draft-bytes (draft-2 c k pay ss) = laid-out 10 c k pay ss
+
+-- how many bytes a board's row of its report has
+unfoldable pub row-width : Draft → ℕ
+row-width (draft c k pay ss) = 8
+row-width (draft-2 c k pay ss) = 12
 
 -- how a job is driven: by run, which must write this order down; or by follow, which must accept it
 pub data Drive : Type 0 where
@@ -118,9 +134,10 @@ pub data Finding : Type 0 where
   found : (probe source tag long : ℕ) → Finding
   said : (query complete : ℕ) → Finding
 
--- a board's row of the report
+-- a board's row of the report; of the second edition with use and peak of its standard room
 pub data Row : Type 0 where
   row : (done in-use peak state : ℕ) → Row
+  row-2 : (done in-use peak state room-use room-peak : ℕ) → Row
 
 -- how many messages and receives are pending; how many matches are cut
 pub data Pending : Type 0 where
@@ -177,6 +194,7 @@ opening p n (told v k ms (pending m r) (cut c) rs) = verdict-bytes v ++ as-words
 unfoldable pub rows-bytes : List Row → List ℕ
 rows-bytes [] = []
 rows-bytes (row d u p t ∷ rs) = (as-words (d ∷ u ∷ p ∷ []) ++ (t ∷ 0 ∷ [])) ++ rows-bytes rs
+rows-bytes (row-2 d u p t v q ∷ rs) = (as-words (d ∷ u ∷ p ∷ []) ++ (t ∷ 0 ∷ as-words (v ∷ q ∷ []))) ++ rows-bytes rs
 
 -- the partner that the matches give an operation, 65,535 if none
 unfoldable pub partner-by : List Match → (i : ℕ) → ℕ
@@ -205,11 +223,11 @@ unfoldable pub same-if-given : (report : List ℕ) → Option (List ℕ) → Boo
 same-if-given r none = true
 same-if-given r (some w) = same r w
 
--- a report of p boards and n operations tells what it must
-unfoldable pub reported : (p n : ℕ) → Told → List Finding → (report : List ℕ) → Bool
-reported p n (told v k ms q c rs) fs r =
-    (same (take 16 r) (opening p n (told v k ms q c rs)) && same (take (8 * p) (drop 16 r)) (rows-bytes rs))
-    && (eqb (length r) (16 + 8 * p + 12 * n) && rows-match r ms fs n 0 (16 + 8 * p))
+-- a report of p boards, whose rows have w bytes, and n operations tells what it must
+unfoldable pub reported : (w p n : ℕ) → Told → List Finding → (report : List ℕ) → Bool
+reported w p n (told v k ms q c rs) fs r =
+    (same (take 16 r) (opening p n (told v k ms q c rs)) && same (take (w * p) (drop 16 r)) (rows-bytes rs))
+    && (eqb (length r) (16 + w * p + 12 * n) && rows-match r ms fs n 0 (16 + w * p))
 
 -- whether run wrote the order down, or follow accepted it; and the job as it was left
 unfoldable pub driven : Drive → Sheet → (inboxes : List ℕ) → Bool × Job
@@ -226,9 +244,9 @@ as-expected (job d v t fs (before becomes after) w) =
     let bs = draft-bytes d in
     let s = sheet-in bs in
     let e = driven v s before in
-    let r = report s (e .1) in
+    let r = report (second-in bs) s (e .1) in
     (eqb (sheet-refusal bs .number) 0 && e .0)
-    && (reported (P-drafted d) (N-drafted d) t fs r && (same-if-given r w && same (e .1 .memory) after))
+    && (reported (row-width d) (P-drafted d) (N-drafted d) t fs r && (same-if-given r w && same (e .1 .memory) after))
 
 unfoldable pub all : {A : Type 0} → (A → Bool) → List A → Bool
 all f [] = true

@@ -1,5 +1,6 @@
 -- The premise service on sheets written by hand, in one list under one claim that the checker computes. What each must answer is
--- worked out from document 01, "What is pinned down", and document 02, K9. BenchNumbered and BenchProbes say how to read a sheet.
+-- worked out from document 01, "What is pinned down", and document 02, K6 and K9. BenchNumbered, BenchProbes and BenchStandard say how to
+-- read a sheet.
 -- The edits in must-fail/ named premise-.. put wrong definitions in the place of Premise's; this claim refuses each. Assumes
 -- nothing.
 use mathlib.Core.Path.{_≡_, refl}
@@ -8,8 +9,8 @@ use mathlib.Core.List.{List, [], _∷_}
 use Prim.Native.Nat.{ℕ}
 use lib.Dec.{eqb}
 use Rattle.rules.specs.Premise.{premise-refusal}
-use Rattle.rules.specs.BenchJob.{standard, buffered, ready, any, send, isend, receive, ireceive, wait, probe, query}
-use Rattle.rules.specs.BenchJob.{script, Draft, draft, draft-bytes, all}
+use Rattle.rules.specs.BenchJob.{standard, buffered, synchronous, ready, any, send, isend, receive, ireceive, wait, probe, query}
+use Rattle.rules.specs.BenchJob.{script, roomed, Draft, draft, draft-2, draft-bytes, all}
 use Rattle.rules.specs.BenchNumbered.{case-1-sheet, ready-sheet, any-source-sheet}
 use Rattle.rules.specs.Definitions.{definitions}
 
@@ -89,6 +90,50 @@ questions =
     22 0
     ∷ asked (draft 1 0x69c1 [] (script 0 0 (ireceive 0 0 1 0 0 0 ∷ query 0 ∷ wait 0 ∷ probe any 0 1 ∷ []) ∷ [])) 20 3
     ∷ asked (draft 1 0xaad3 [] (script 0 0 (ireceive 0 0 1 0 0 0 ∷ query 0 ∷ send ready 0 0 1 0 0 ∷ wait 0 ∷ []) ∷ [])) 21 2
+    -- two standard sends of 2 and 3 bytes (document 02, K6): a room of 5 covers them, as one of 0 does nothing and need not; with 4, which
+    -- holds either alone, 24 at rank 0
+    ∷ asked
+    (draft-2 1 0xed81 (11 ∷ 12 ∷ 13 ∷ 14 ∷ 15 ∷ [])
+    (roomed 0 1 5 (send standard 1 0 4 0 2 ∷ isend standard 1 0 4 2 3 0 ∷ wait 0 ∷ receive 1 0 4 0 1 ∷ [])
+    ∷ roomed 0 5 0 (receive 0 0 any 0 3 ∷ receive 0 0 4 3 2 ∷ send standard 0 0 4 0 1 ∷ []) ∷ []))
+    0 0
+    ∷ asked
+    (draft-2 1 0x0096 (11 ∷ 12 ∷ 13 ∷ 14 ∷ 15 ∷ [])
+    (roomed 0 1 0 (send standard 1 0 4 0 2 ∷ isend standard 1 0 4 2 3 0 ∷ wait 0 ∷ receive 1 0 4 0 1 ∷ [])
+    ∷ roomed 0 5 0 (receive 0 0 any 0 3 ∷ receive 0 0 4 3 2 ∷ send standard 0 0 4 0 1 ∷ []) ∷ []))
+    0 0
+    ∷ asked
+    (draft-2 1 0xdb7a (11 ∷ 12 ∷ 13 ∷ 14 ∷ 15 ∷ [])
+    (roomed 0 1 4 (send standard 1 0 4 0 2 ∷ isend standard 1 0 4 2 3 0 ∷ wait 0 ∷ receive 1 0 4 0 1 ∷ [])
+    ∷ roomed 0 5 0 (receive 0 0 any 0 3 ∷ receive 0 0 4 3 2 ∷ send standard 0 0 4 0 1 ∷ []) ∷ []))
+    24 0
+    -- each board covers its own sends; a room of a board without standard sends covers nothing and need not; with a byte less at rank 1, 24 there
+    ∷ asked
+    (draft-2 1 0x3fcd (11 ∷ 12 ∷ 13 ∷ 14 ∷ 15 ∷ [])
+    (roomed 0 1 5 (send standard 1 0 4 0 2 ∷ isend standard 1 0 4 2 3 0 ∷ wait 0 ∷ receive 1 0 4 0 1 ∷ [])
+    ∷ roomed 0 5 1 (receive 0 0 any 0 3 ∷ receive 0 0 4 3 2 ∷ send standard 0 0 4 0 1 ∷ []) ∷ []))
+    0 0
+    ∷ asked
+    (draft-2 1 0xf3fd (11 ∷ 12 ∷ 13 ∷ 14 ∷ 15 ∷ [])
+    (roomed 0 0 5 (send standard 1 0 4 0 2 ∷ isend standard 1 0 4 2 3 0 ∷ wait 0 ∷ [])
+    ∷ roomed 0 5 1 (receive 0 0 any 0 3 ∷ receive 0 0 4 3 2 ∷ isend synchronous 0 0 4 0 1 0 ∷ isend standard 1 0 9 0 2 1 ∷ wait 0 ∷ wait 1 ∷ []) ∷ []))
+    24 1
+    -- other modes need no room; a buffered send's buffer is asked first, and a query, though it stands behind
+    ∷ asked
+    (draft-2 1 0x0900 (11 ∷ 12 ∷ 13 ∷ [])
+    (roomed 34 0 1 (send buffered 1 0 4 0 2 ∷ send synchronous 1 0 4 0 3 ∷ [])
+    ∷ roomed 0 5 0 (receive 0 0 any 0 2 ∷ receive 0 0 4 2 3 ∷ []) ∷ []))
+    0 0
+    ∷ asked
+    (draft-2 1 0xa2c0 (11 ∷ 12 ∷ 13 ∷ [])
+    (roomed 33 0 1 (send buffered 1 0 4 0 2 ∷ send standard 1 0 4 0 3 ∷ [])
+    ∷ roomed 0 5 0 (receive 0 0 any 0 2 ∷ receive 0 0 4 2 3 ∷ []) ∷ []))
+    22 0
+    ∷ asked
+    (draft-2 1 0xcbe0 (11 ∷ 12 ∷ 13 ∷ [])
+    (roomed 0 0 1 (send standard 1 0 4 0 3 ∷ [])
+    ∷ roomed 0 5 0 (ireceive 0 0 4 0 3 0 ∷ query 0 ∷ wait 0 ∷ []) ∷ []))
+    23 2
     -- a refusal of check wins over all: another CRC, a peer that is no rank, a wait on a slot that nobody holds, a forgotten request,
     -- also where a query names it
     ∷ asked (draft 1 0x465d [] (script 0 1 (receive any 0 3 0 1 ∷ []) ∷ [])) 4 0

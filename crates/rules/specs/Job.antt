@@ -19,13 +19,18 @@ pub record Entry : Type 0 where
   pub tag : ℕ
   pub long : ℕ
 
+-- the figures of an account: bytes in use, and the most in use after any step
+pub record Figures : Type 0 where
+  pub in-use : ℕ
+  pub peak : ℕ
+
 -- where a board stands: operations finished, whether the next one is in its waiting half (an MPI blocking call that has
--- started and not returned), bytes of its attached buffer in use, and the most in use after any step
+-- started and not returned), and the figures of its two accounts: of its attached buffer and of its standard room
 pub record Place : Type 0 where
   pub finished : ℕ
   pub waiting : Bool
-  pub in-use : ℕ
-  pub peak : ℕ
+  pub attached : Figures
+  pub room : Figures
 
 -- why, where and at which operation a job stopped: verdict 3 overflow, 4 not ready
 pub record Stop : Type 0 where
@@ -59,14 +64,25 @@ entry a b c d e f =
 unfoldable pub bare-entry : (state : ℕ) → Entry
 bare-entry v = entry v 0 absent absent absent 0
 
-unfoldable pub place : (finished : ℕ) → (waiting : Bool) → (in-use peak : ℕ) → Place
+unfoldable pub figures : (in-use peak : ℕ) → Figures
+figures a b =
+    record {
+      in-use = a;
+      peak = b;
+    }
+
+unfoldable pub place : (finished : ℕ) → (waiting : Bool) → (attached room : Figures) → Place
 place a b c d =
     record {
       finished = a;
       waiting = b;
-      in-use = c;
-      peak = d;
+      attached = c;
+      room = d;
     }
+
+-- nothing finished, nothing in use
+unfoldable pub first-place : Place
+first-place = place 0 false (figures 0 0) (figures 0 0)
 
 unfoldable pub job : List Entry → List Place → (messages receives memory : List ℕ) → Option Stop → (steps : ℕ) → Job
 job e p m r i s k =
@@ -82,13 +98,35 @@ job e p m r i s k =
 
 -- the start: nothing entered, no buffer in use, the lent inboxes
 unfoldable pub started : Sheet → (inboxes : List ℕ) → Job
-started s i = job (replicate (N-of s) (bare-entry 0)) (replicate (P-of s) (place 0 false 0 0)) [] [] i none 0
+started s i = job (replicate (N-of s) (bare-entry 0)) (replicate (P-of s) first-place) [] [] i none 0
 
 unfoldable pub entry-at : Job → (i : ℕ) → Entry
 entry-at x i = getD (x .entries) i (bare-entry 0)
 
 unfoldable pub place-at : Job → (r : ℕ) → Place
-place-at x r = getD (x .places) r (place 0 false 0 0)
+place-at x r = getD (x .places) r first-place
+
+-- STORES: where a board's unmatched message is kept once its send is complete: in the attached buffer (MPI: buffered mode), or in
+-- the standard room (document 02, K6; MPI: standard mode, where the library buffers the message). Each has its own account
+pub data Store : Type 0 where
+  in-attached : Store
+  in-room : Store
+
+-- the figures of a store's account, and a place with others in their stead
+unfoldable pub account : Store → Place → Figures
+account in-attached p = p .attached
+account in-room p = p .room
+
+-- bytes in use of a store of board r, and the most in use after any step
+abbrev pub in-use-at : Store → Job → (r : ℕ) → ℕ
+in-use-at w x r = account w (place-at x r) .in-use
+
+abbrev pub peak-at : Store → Job → (r : ℕ) → ℕ
+peak-at w x r = account w (place-at x r) .peak
+
+unfoldable pub with-account : Store → Figures → Place → Place
+with-account in-attached a p = place (p .finished) (p .waiting) a (p .room)
+with-account in-room a p = place (p .finished) (p .waiting) (p .attached) a
 
 -- A JOB WITH ONE PART CHANGED
 unfoldable pub with-entries : List Entry → Job → Job

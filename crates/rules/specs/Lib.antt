@@ -9,14 +9,16 @@
 --   Report    the report, byte by byte
 --   Service   what check, follow and run answer and leave in the lent rooms
 --   Claims    the words in which the promises about orders are stated
---   Premise   whether the order can matter for a sheet, and why: numbers 20 to 23
+--   Premise   whether the order can matter for a sheet, and why: numbers 20 to 24
 --   BenchJob       a bench job as it is written down, and the test that it is put to
 --   BenchNumbered  the starred bench jobs, 1 to 12
 --   BenchFurther   jobs for the listed slips, and for rules that those leave untested
 --   BenchProbes    jobs with probes and status queries (document 02, K9)
+--   BenchStandard  jobs of the second edition, with room for standard sends (document 02, K6)
 --   BenchRefusal   a call that is refused or accepted, as it is written down, and the test of its answer
 --   BenchRefused   such calls, for numbers 1 to 9
 --   BenchProbesRefused   calls with probes and status queries
+--   BenchStandardRefused   calls with sheets of the second edition
 --   BenchRooms     calls with every byte of the lent rooms before and after
 --   Definitions    all definitions under one name, for claims that the checker computes
 --   Bench          the jobs, the calls and the rooms, each under one claim
@@ -36,9 +38,11 @@ pub mod BenchJob
 pub mod BenchNumbered
 pub mod BenchFurther
 pub mod BenchProbes
+pub mod BenchStandard
 pub mod BenchRefusal
 pub mod BenchRefused
 pub mod BenchProbesRefused
+pub mod BenchStandardRefused
 pub mod BenchRooms
 pub mod Definitions
 pub mod Bench

@@ -5,10 +5,10 @@ use mathlib.Core.List.{List}
 use Prim.Native.Nat.{ℕ, zero, suc, _+_, _-_}
 use lib.Dec.{ltb, leb, eqb}
 use lib.ListN.{length}
-use Rattle.rules.specs.Limits.{most-boards, most-comms, most-ops, most-payload, most-attached, most-inbox, tag-limit, most-length, slot-limit}
+use Rattle.rules.specs.Limits.{most-boards, most-comms, most-ops, most-payload, most-attached, most-inbox, most-room, tag-limit, most-length, slot-limit}
 use Rattle.rules.specs.Limits.{any, header-size, boards-at, ops-at, payload-at, sheet-size}
 use Rattle.rules.specs.Sheet.{Sheet, Op, op, board, P-of, N-of, rank-of, counts-before, inbox-start, is-send, is-receive, takes-slot}
-use Rattle.rules.specs.Sheet.{selects, tells-message, names-slot, frees-slot, two, P-in, C-in, N-in, L-in, sheet-in}
+use Rattle.rules.specs.Sheet.{selects, tells-message, names-slot, frees-slot, two, P-in, C-in, N-in, L-in, second-in, sheet-in}
 use Rattle.rules.specs.Crc.{crc}
 
 -- an answer: number 0 and place 0 is success
@@ -40,21 +40,24 @@ sizes-good bs =
     ((leb 1 (P-in bs) && leb (P-in bs) most-boards) && (leb 1 (C-in bs) && leb (C-in bs) most-comms))
     && (leb (N-in bs) most-ops && leb (L-in bs) most-payload)
 
--- 3: the three offsets and the sheet's length
+-- 3: the three offsets and the sheet's length, in the edition that the second offset tells
 unfoldable pub layout-good : List ℕ → Bool
 layout-good bs =
-    ((eqb (two bs 6) boards-at && eqb (two bs 8) (ops-at (P-in bs))) && eqb (two bs 10) (payload-at (P-in bs) (N-in bs)))
-    && eqb (length bs) (sheet-size (P-in bs) (N-in bs) (L-in bs))
+    let e = second-in bs in
+    ((eqb (two bs 6) boards-at && eqb (two bs 8) (ops-at e (P-in bs)))
+    && eqb (two bs 10) (payload-at e (P-in bs) (N-in bs)))
+    && eqb (length bs) (sheet-size e (P-in bs) (N-in bs) (L-in bs))
 
 -- 4: the CRC in the header
 unfoldable pub crc-good : List ℕ → Bool
 crc-good bs = eqb (crc bs) (two bs 14)
 
--- 5: a board's first operation is the sum of the counts before it; attached size; running total of the inboxes
+-- 5: a board's first operation is the sum of the counts before it; attached size; running total of the inboxes; standard room
 unfoldable pub board-good : Sheet → (r : ℕ) → Bool
 board-good s r =
     eqb (board s r .first) (counts-before s r)
-    && (leb (board s r .attached) most-attached && leb (inbox-start s (suc r)) most-inbox)
+    && ((leb (board s r .attached) most-attached && leb (inbox-start s (suc r)) most-inbox)
+    && leb (board s r .room) most-room)
 
 unfoldable pub boards-refusal : Sheet → Refusal
 boards-refusal s =

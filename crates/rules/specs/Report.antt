@@ -6,7 +6,7 @@ use Prim.Native.Nat.{ℕ, zero, suc, _+_, _/_, _%_}
 use lib.Dec.{eqb}
 use lib.ListN.{getD}
 use Rattle.rules.specs.Sheet.{Sheet, op, P-of, N-of, is-send, is-receive, two}
-use Rattle.rules.specs.Job.{Job, Entry, Stop, entry-at, place-at}
+use Rattle.rules.specs.Job.{Job, Entry, Place, Stop, entry-at, place-at}
 use Rattle.rules.specs.Step.{able, is-finished}
 use Rattle.rules.specs.Order.{none-able}
 
@@ -61,14 +61,19 @@ header-bytes s x =
 unfoldable pub board-state : Sheet → Job → (r : ℕ) → ℕ
 board-state s x r = cond (is-finished s x r) 2 (cond (able s x r) 1 0)
 
-unfoldable pub board-row : Sheet → Job → (r : ℕ) → List ℕ
-board-row s x r =
-    low-two (place-at x r .finished)
-    ++ (low-two (place-at x r .in-use) ++ (low-two (place-at x r .peak) ++ (board-state s x r ∷ 0 ∷ [])))
+-- what the second edition has of a board besides: use and peak of its standard room (document 02, K6)
+unfoldable pub room-bytes : (second : Bool) → Place → List ℕ
+room-bytes e p = cond e (low-two (p .room .in-use) ++ low-two (p .room .peak)) []
 
-unfoldable pub board-rows : (left r : ℕ) → Sheet → Job → List ℕ
-board-rows zero r s x = []
-board-rows (suc k) r s x = board-row s x r ++ board-rows k (suc r) s x
+unfoldable pub board-row : (second : Bool) → Sheet → Job → (r : ℕ) → List ℕ
+board-row e s x r =
+    low-two (place-at x r .finished)
+    ++ (low-two (place-at x r .attached .in-use)
+    ++ (low-two (place-at x r .attached .peak) ++ (board-state s x r ∷ 0 ∷ room-bytes e (place-at x r))))
+
+unfoldable pub board-rows : (second : Bool) → (left r : ℕ) → Sheet → Job → List ℕ
+board-rows e zero r s x = []
+board-rows e (suc k) r s x = board-row e s x r ++ board-rows e k (suc r) s x
 
 unfoldable pub op-row : Entry → List ℕ
 op-row e =
@@ -91,5 +96,5 @@ unfoldable pub op-rows : List Entry → List ℕ
 op-rows [] = []
 op-rows (e ∷ es) = op-row e ++ op-rows es
 
-unfoldable pub report : Sheet → Job → List ℕ
-report s x = header-bytes s x ++ (board-rows (P-of s) 0 s x ++ op-rows (x .entries))
+unfoldable pub report : (second : Bool) → Sheet → Job → List ℕ
+report e s x = header-bytes s x ++ (board-rows e (P-of s) 0 s x ++ op-rows (x .entries))

@@ -8,7 +8,7 @@ use Prim.Native.Nat.{ℕ}
 use lib.Dec.{ltb, eqb}
 use lib.ListN.{length, drop, replicate}
 use Rattle.rules.specs.Limits.{report-size, order-room, scratch-size}
-use Rattle.rules.specs.Sheet.{Sheet, sheet-in, P-of, N-of, inbox-total}
+use Rattle.rules.specs.Sheet.{Sheet, second-in, sheet-in, P-of, N-of, inbox-total}
 use Rattle.rules.specs.Refusal.{Refusal, refusal, accepted, or-else, sheet-refusal}
 use Rattle.rules.specs.Job.{Job}
 use Rattle.rules.specs.Order.{follow, run}
@@ -21,11 +21,11 @@ answers f n p = (n ≡ f .number) × (p ≡ f .place)
 unfoldable pub Check-says : (sheet : List ℕ) → (number place : ℕ) → Type 0
 Check-says bs n p = answers (sheet-refusal bs) n p
 
--- 8: a lent room is short: place 1 inbox, 2 report, 3 order out (run only), 4 scratch
-unfoldable pub room-refusal : Sheet → (inbox report order scratch : ℕ) → Refusal
-room-refusal s i r o c =
+-- 8: a lent room is short: place 1 inbox, 2 report, whose rows are of the sheet's edition, 3 order out (run only), 4 scratch
+unfoldable pub room-refusal : (second : Bool) → Sheet → (inbox report order scratch : ℕ) → Refusal
+room-refusal e s i r o c =
     cond (ltb i (inbox-total s)) (refusal 8 1)
-    (cond (ltb r (report-size (P-of s) (N-of s))) (refusal 8 2)
+    (cond (ltb r (report-size e (P-of s) (N-of s))) (refusal 8 2)
     (cond (ltb o (order-room (N-of s))) (refusal 8 3) (cond (ltb c scratch-size) (refusal 8 4) accepted)))
 
 -- 9: the order names a rank that isn't able, one above P-1 among them
@@ -49,7 +49,7 @@ scratch-left n c = cond (eqb n 0 || eqb n 9) (replicate (length c) 0) c
 unfoldable pub follow-refusal : (sheet order inbox : List ℕ) → (report scratch : ℕ) → Refusal
 follow-refusal bs o i r c =
     or-else (sheet-refusal bs)
-    (or-else (room-refusal (sheet-in bs) (length i) r (order-room (N-of (sheet-in bs))) c)
+    (or-else (room-refusal (second-in bs) (sheet-in bs) (length i) r (order-room (N-of (sheet-in bs))) c)
     (order-refusal (follow (sheet-in bs) o i .refused-at)))
 
 unfoldable pub Follow-says : (sheet order : List ℕ) → (number place : ℕ) → (inbox inbox-now report report-now scratch scratch-now : List ℕ) → Type 0
@@ -58,12 +58,12 @@ Follow-says bs o n p i i-now r r-now c c-now =
     let x = follow (sheet-in bs) o i .left in
     answers f n p
     × (i-now ≡ kept-or (f .number) (x .memory) i)
-    × (r-now ≡ kept-or (f .number) (in-front (report (sheet-in bs) x) r) r)
+    × (r-now ≡ kept-or (f .number) (in-front (report (second-in bs) (sheet-in bs) x) r) r)
     × (c-now ≡ scratch-left (f .number) c)
 
 -- RUN
 unfoldable pub run-refusal : (sheet : List ℕ) → (inbox report order scratch : ℕ) → Refusal
-run-refusal bs i r o c = or-else (sheet-refusal bs) (room-refusal (sheet-in bs) i r o c)
+run-refusal bs i r o c = or-else (sheet-refusal bs) (room-refusal (second-in bs) (sheet-in bs) i r o c)
 
 unfoldable pub Run-says : (sheet : List ℕ) → (number place : ℕ) → (inbox inbox-now report report-now order order-now scratch scratch-now : List ℕ) → Type 0
 Run-says bs n p i i-now r r-now o o-now c c-now =
@@ -71,6 +71,6 @@ Run-says bs n p i i-now r r-now o o-now c c-now =
     let e = run (sheet-in bs) i in
     answers f n p
     × (i-now ≡ kept-or (f .number) (e .end .memory) i)
-    × (r-now ≡ kept-or (f .number) (in-front (report (sheet-in bs) (e .end)) r) r)
+    × (r-now ≡ kept-or (f .number) (in-front (report (second-in bs) (sheet-in bs) (e .end)) r) r)
     × (o-now ≡ kept-or (f .number) (in-front (e .order) o) o)
     × (c-now ≡ scratch-left (f .number) c)

@@ -19,12 +19,14 @@ pub record Op : Type 0 where
   pub long : ℕ
   pub slot : ℕ
 
--- a board is an MPI process: its script, its attached buffer (MPI_Buffer_attach), its inbox
+-- a board is an MPI process: its script, its attached buffer (MPI_Buffer_attach), its inbox, and the room in which the library
+-- buffers its standard sends (document 02, K6). A board of the first edition has room 0
 pub record Board : Type 0 where
   pub first : ℕ
   pub count : ℕ
   pub attached : ℕ
   pub inbox : ℕ
+  pub room : ℕ
 
 pub record Sheet : Type 0 where
   pub comms : ℕ
@@ -53,6 +55,7 @@ no-board =
       count = 0;
       attached = 0;
       inbox = 0;
+      room = 0;
     }
 
 -- P and N of the header, which are the tables' lengths
@@ -72,6 +75,9 @@ board s r = getD (s .boards) r no-board
 -- 02, K9; MPI_PROBE, MPI_REQUEST_GET_STATUS)
 unfoldable pub is-send : Op → Bool
 is-send o = leb 1 (o .kind) && leb (o .kind) 4
+
+unfoldable pub is-standard : Op → Bool
+is-standard o = eqb (o .kind) 1
 
 unfoldable pub is-buffered : Op → Bool
 is-buffered o = eqb (o .kind) 2
@@ -160,18 +166,19 @@ rank-of s i = rank-from 0 (s .boards) i
 unfoldable pub two : List ℕ → (at : ℕ) → ℕ
 two bs at = getD bs at 0 + 256 * getD bs (at + 1) 0
 
-abbrev pub board-in : List ℕ → (at : ℕ) → Board
-board-in bs at =
+abbrev pub board-in : (second : Bool) → List ℕ → (at : ℕ) → Board
+board-in e bs at =
     record {
       first = two bs at;
       count = two bs (at + 2);
       attached = two bs (at + 4);
       inbox = two bs (at + 6);
+      room = cond e (two bs (at + 8)) 0;
     }
 
-unfoldable pub boards-in : List ℕ → (left at : ℕ) → List Board
-boards-in bs zero at = []
-boards-in bs (suc k) at = board-in bs at ∷ boards-in bs k (at + board-size)
+unfoldable pub boards-in : (second : Bool) → List ℕ → (left at : ℕ) → List Board
+boards-in e bs zero at = []
+boards-in e bs (suc k) at = board-in e bs at ∷ boards-in e bs k (at + board-size e)
 
 abbrev pub op-in : List ℕ → (at : ℕ) → Op
 op-in bs at =
@@ -204,11 +211,18 @@ N-in bs = two bs 4
 abbrev pub L-in : List ℕ → ℕ
 L-in bs = two bs 12
 
+-- whether a sheet is of the second edition (document 02, K6): the offset of its operation table tells. No sheet that passes has
+-- two readings: P is at least 1, so that 16 + 8P and 16 + 10P differ
+unfoldable pub second-in : List ℕ → Bool
+second-in bs = eqb (two bs 8) (ops-at true (P-in bs))
+
+-- of the edition nothing is left but the boards' rooms, so that all that is said of a decoded sheet is said of both
 unfoldable pub sheet-in : List ℕ → Sheet
 sheet-in bs =
+    let e = second-in bs in
     record {
       comms = C-in bs;
-      boards = boards-in bs (P-in bs) boards-at;
-      ops = ops-in bs (N-in bs) (ops-at (P-in bs));
-      payload = take (L-in bs) (drop (payload-at (P-in bs) (N-in bs)) bs);
+      boards = boards-in e bs (P-in bs) boards-at;
+      ops = ops-in bs (N-in bs) (ops-at e (P-in bs));
+      payload = take (L-in bs) (drop (payload-at e (P-in bs) (N-in bs)) bs);
     }

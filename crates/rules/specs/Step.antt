@@ -7,10 +7,10 @@ use Prim.Native.Nat.{ℕ, zero, suc, _+_, _-_, min, max}
 use lib.Dec.{ltb, leb, eqb}
 use lib.ListN.{length, set, take, drop}
 use Rattle.rules.specs.Limits.{any, absent, bsend-overhead}
-use Rattle.rules.specs.Sheet.{Sheet, Op, op, board, P-of, rank-of, inbox-start, is-buffered, is-ready, is-receive, only-half, no-half, takes-slot, frees-slot}
-use Rattle.rules.specs.Sheet.{tells-message, tells-completion}
-use Rattle.rules.specs.Job.{Job, Entry, Place, Stop, place, entry, bare-entry, entry-at, place-at, with-entries, with-places, with-messages}
-use Rattle.rules.specs.Job.{with-receives, with-memory, with-stop, with-steps}
+use Rattle.rules.specs.Sheet.{Sheet, Op, Board, op, board, P-of, rank-of, inbox-start, is-standard, is-buffered, is-ready, is-receive, only-half, no-half}
+use Rattle.rules.specs.Sheet.{takes-slot, frees-slot, tells-message, tells-completion}
+use Rattle.rules.specs.Job.{Job, Entry, Figures, Place, Stop, Store, in-attached, in-room, figures, place, account, with-account, in-use-at, entry, bare-entry, entry-at}
+use Rattle.rules.specs.Job.{place-at, with-entries, with-places, with-messages, with-receives, with-memory, with-stop, with-steps}
 
 -- the operation that is next on a board
 unfoldable pub next-op : Sheet → Job → (r : ℕ) → ℕ
@@ -110,27 +110,44 @@ copied s m q = min (op s m .long) (op s q .long)
 unfoldable pub delivered : Sheet → (m q : ℕ) → List ℕ → List ℕ
 delivered s m q bs = splice bs (area-start s q) (take (copied s m q) (drop (op s m .offset) (s .payload)))
 
--- CHARGES: what an unmatched buffered send is charged, its length and the overhead (document 02, K2)
-unfoldable pub charge-of : Op → ℕ
-charge-of o = o .long + bsend-overhead
+-- CHARGES: a buffered send is kept in its board's attached buffer, a standard one in its room
+unfoldable pub store-of : Op → Store
+store-of o = cond (is-buffered o) in-attached in-room
 
-unfoldable pub charged : (n : ℕ) → Place → Place
-charged n p = place (p .finished) (p .waiting) (p .in-use + n) (max (p .peak) (p .in-use + n))
+unfoldable pub kept-in : Store → Op → Bool
+kept-in in-attached o = is-buffered o
+kept-in in-room o = is-standard o
 
-unfoldable pub released : (n : ℕ) → Place → Place
-released n p = place (p .finished) (p .waiting) (p .in-use - n) (p .peak)
+unfoldable pub size-of : Store → Board → ℕ
+size-of in-attached b = b .attached
+size-of in-room b = b .room
+
+-- what a message is charged there: in the attached buffer its length and the overhead (document 02, K2), in the room its length
+unfoldable pub charge-of : Store → Op → ℕ
+charge-of in-attached o = o .long + bsend-overhead
+charge-of in-room o = o .long
+
+unfoldable pub charged : (n : ℕ) → Figures → Figures
+charged n a = figures (a .in-use + n) (max (a .peak) (a .in-use + n))
+
+unfoldable pub released : (n : ℕ) → Figures → Figures
+released n a = figures (a .in-use - n) (a .peak)
 
 unfoldable pub with-place : (r : ℕ) → Place → Job → Job
 with-place r p x = with-places (set (x .places) r p) x
 
-unfoldable pub charge : Sheet → (r i : ℕ) → Job → Job
-charge s r i x = with-place r (charged (charge-of (op s i)) (place-at x r)) x
+unfoldable pub charge : Store → Sheet → (r i : ℕ) → Job → Job
+charge w s r i x =
+    let p = place-at x r in
+    with-place r (with-account w (charged (charge-of w (op s i)) (account w p)) p) x
 
 -- a buffered message's charge goes when it is matched
 unfoldable pub release : Sheet → (m : ℕ) → Job → Job
 release s m x =
+    let w = store-of (op s m) in
+    let p = place-at x (rank-of s m) in
     cond (eqb (entry-at x m .state) 2)
-    (with-place (rank-of s m) (released (charge-of (op s m)) (place-at x (rank-of s m))) x) x
+    (with-place (rank-of s m) (with-account w (released (charge-of w (op s m)) (account w p)) p) x) x
 
 -- A MATCH of message m and receive q: both complete, neither is pending any more, the message is delivered
 unfoldable pub matched-rows : Sheet → (m q : ℕ) → Job → Job
@@ -173,27 +190,43 @@ stopped v r i x =
 
 -- an operation is finished after its last step
 unfoldable pub one-finished : Place → Place
-one-finished p = place (suc (p .finished)) false (p .in-use) (p .peak)
+one-finished p = place (suc (p .finished)) false (p .attached) (p .room)
 
 unfoldable pub now-waiting : Place → Place
-now-waiting p = place (p .finished) true (p .in-use) (p .peak)
+now-waiting p = place (p .finished) true (p .attached) (p .room)
 
 -- after an initiating step a nonblocking operation is finished, a blocking one is in its waiting half
 unfoldable pub initiated : Sheet → (r i : ℕ) → Job → Job
 initiated s r i x =
     with-place r (cond (no-half (op s i)) (one-finished (place-at x r)) (now-waiting (place-at x r))) x
 
--- a send that no posted receive fits. Ready: the job stops, not ready. Buffered: charged where its board's attached buffer
--- has room, else the job stops, overflow. Standard and synchronous: pending, not complete
-unfoldable pub fits-buffer : Sheet → (r i : ℕ) → Job → Bool
-fits-buffer s r i x = leb (place-at x r .in-use + charge-of (op s i)) (board s r .attached)
+-- operation i's charge fits beside what is in use of board r's store
+unfoldable pub fits-beside : Store → Sheet → (r i : ℕ) → Job → Bool
+fits-beside w s r i x = leb (in-use-at w x r + charge-of w (op s i)) (size-of w (board s r))
 
+unfoldable pub fits-buffer : Sheet → (r i : ℕ) → Job → Bool
+fits-buffer s r i x = fits-beside in-attached s r i x
+
+-- a standard send is buffered where its board has a room and its length fits there. Room 0 buffers nothing, empty messages
+-- included (document 02, K6)
+unfoldable pub fits-room : Sheet → (r i : ℕ) → Job → Bool
+fits-room s r i x = is-standard (op s i) && (ltb 0 (board s r .room) && fits-beside in-room s r i x)
+
+-- pending and complete, charged to a store; pending and not complete
+unfoldable pub kept : Store → Sheet → (r i : ℕ) → Job → Job
+kept w s r i x = initiated s r i (charge w s r i (pend-message i 2 x))
+
+unfoldable pub not-kept : Sheet → (r i : ℕ) → Job → Job
+not-kept s r i x = initiated s r i (pend-message i 1 x)
+
+-- a send that no posted receive fits. Ready: the job stops, not ready. Buffered: kept where its board's attached buffer has room,
+-- else the job stops, overflow. Standard: kept where it fits its board's room. Else, and synchronous: pending, not complete
 unfoldable pub unmatched : Sheet → (r i : ℕ) → Job → Job
 unmatched s r i x =
     cond (is-ready (op s i)) (stopped 4 r i x)
     (cond (is-buffered (op s i))
-    (cond (fits-buffer s r i x) (initiated s r i (charge s r i (pend-message i 2 x))) (stopped 3 r i x))
-    (initiated s r i (pend-message i 1 x)))
+    (cond (fits-buffer s r i x) (kept in-attached s r i x) (stopped 3 r i x))
+    (cond (fits-room s r i x) (kept in-room s r i x) (not-kept s r i x)))
 
 unfoldable pub sent : Sheet → (r i : ℕ) → Option ℕ → Job → Job
 sent s r i none x = unmatched s r i x

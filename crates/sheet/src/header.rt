@@ -1,7 +1,8 @@
-// The header: field readers (document 01, "The sheet, byte by byte").
+// The header: field readers (document 01, "The sheet, byte by byte"), and the edition that its offsets tell (document 02, K6).
+ghost use mathlib.Core.Path.{_≡_};
 ghost use Prim.Native.Nat.{_<_};
 ghost use lib.ListN.{length};
-ghost use Rattle.rules.specs.Sheet.{two, P-in, C-in, N-in, L-in};
+ghost use Rattle.rules.specs.Sheet.{two, P-in, C-in, N-in, L-in, second-in};
 ghost use Rattle.words.specs.Read.{Word};
 
 // P, the number of boards.
@@ -50,6 +51,14 @@ pub fn ops_offset(s: &[u8]) -> usize
     ensures { λ r. ⌜ Word (two (now (s .entry)) 8) r ⌝ }
 {
     words::two_at(s, 8)
+}
+
+// The sheet is of the second edition: the operation table stands behind board entries of its size.
+pub fn is_second(s: &[u8]) -> bool
+    requires { ⌜ 15 < length (now s) ⌝ }
+    ensures { λ b. ⌜ b ≡ second-in (now (s .entry)) ⌝ }
+{
+    ops_offset(s) == limits::ops_at(true, boards(s))
 }
 
 // The offset of the payload, as the header tells it.

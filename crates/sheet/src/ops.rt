@@ -3,13 +3,12 @@
 ghost use mathlib.Core.Path.{_≡_};
 ghost use Prim.Native.Nat.{_+_, _<_};
 ghost use lib.ListN.{length};
-ghost use Rattle.rules.specs.Sheet.{sheet-in, op, N-of, is-send, is-buffered, is-ready, is-receive, only-half, no-half, takes-slot, names-slot, frees-slot};
+ghost use Rattle.rules.specs.Sheet.{sheet-in, op, N-of, is-send, is-standard, is-buffered, is-ready, is-receive, only-half, no-half, takes-slot, names-slot, frees-slot};
 ghost use Rattle.rules.specs.Sheet.{tells-message, tells-completion, tells, selects};
-ghost use Rattle.rules.specs.Step.{charge-of};
 ghost use Rattle.rules.specs.Claims.{is-any-source};
 ghost use Rattle.laws.specs.Laid.{Laid};
 ghost use Rattle.sheet.specs.Fields.{Op-at};
-ghost use Rattle.words.specs.Read.{Word, Byte, Word-sum};
+ghost use Rattle.words.specs.Read.{Word, Byte};
 use crate::header;
 
 // Where operation i stands.
@@ -99,6 +98,14 @@ pub fn is_send(s: &[u8], i: usize) -> bool
 {
     let k = kind(s, i);
     (1 <= k) & (k <= 4)
+}
+
+// A standard send.
+pub fn is_standard(s: &[u8], i: usize) -> bool
+    requires { ⌜ Laid (now s) × (i < N-of (sheet-in (now s))) ⌝ }
+    ensures { λ b. ⌜ b ≡ is-standard (op (sheet-in (now (s .entry))) i) ⌝ }
+{
+    kind(s, i) == 1
 }
 
 // A buffered send.
@@ -207,12 +214,4 @@ pub fn frees_slot(s: &[u8], i: usize) -> bool
     ensures { λ b. ⌜ b ≡ frees-slot (op (sheet-in (now (s .entry))) i) ⌝ }
 {
     kind(s, i) == 6
-}
-
-// What it is charged where it is a buffered send that nothing fits.
-pub fn charge(s: &[u8], i: usize) -> usize
-    requires { ⌜ Laid (now s) × (i < N-of (sheet-in (now s))) ⌝ }
-    ensures { λ v. ⌜ Word-sum (charge-of (op (sheet-in (now (s .entry))) i)) v ⌝ }
-{
-    long(s, i) + limits::BSEND_OVERHEAD
 }

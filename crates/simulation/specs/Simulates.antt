@@ -4,7 +4,8 @@
 --   Simulates       every such job becomes the job that a function of sheet and job makes of it
 --   held-after      what is held after a part
 --   in-turn         one part after another
---   simulates-as    the same under another name for what is made
+--   simulates-as, simulates-told   the same under another name for what is made; the name may go by what is held
+--   simulates-from  the same from other names for the bytes before
 --   simulates-of    the same where more is asked
 --   simulates-change   what changes scratch does, of jobs of which what it asks holds, under another name for what is made
 -- Assumes nothing.
@@ -61,9 +62,17 @@ module _ {bs c b : List ℕ} {t u : Control} {ok : Sheet → Job → Type 0} {f 
       Leads (sheet-in bs) ok f then → Simulates bs b u d v then g → Simulates bs c t d v ok (λ s x. g s (f s x))
   in-turn m next n = record { after = λ x d q. n .after (f (sheet-in bs) x) (m .after x d q) (next x q) }
 
+  pub simulates-told : {g : Sheet → Job → Job} →
+      ((x : Job) → Decodes (sheet-in bs) c t x → ok (sheet-in bs) x → f (sheet-in bs) x ≡ g (sheet-in bs) x) →
+      Simulates bs c t b u ok f → Simulates bs c t b u ok g
+  simulates-told e m = record { after = λ x d q. subst (λ (y : Job). Decodes (sheet-in bs) b u y) (e x d q) (m .after x d q) }
+
   pub simulates-as : {g : Sheet → Job → Job} → ((x : Job) → ok (sheet-in bs) x → f (sheet-in bs) x ≡ g (sheet-in bs) x) →
       Simulates bs c t b u ok f → Simulates bs c t b u ok g
-  simulates-as e m = record { after = λ x d q. subst (λ (y : Job). Decodes (sheet-in bs) b u y) (e x q) (m .after x d q) }
+  simulates-as e m = simulates-told (λ x d q. e x q) m
+
+  pub simulates-from : {d : List ℕ} → c ≡ d → Simulates bs c t b u ok f → Simulates bs d t b u ok f
+  simulates-from e m = subst (λ (l : List ℕ). Simulates bs l t b u ok f) e m
 
   pub simulates-of : {more : Sheet → Job → Type 0} → ((x : Job) → more (sheet-in bs) x → ok (sheet-in bs) x) →
       Simulates bs c t b u ok f → Simulates bs c t b u more f

@@ -9,18 +9,19 @@ use lib.Dec.{leb}
 use lib.ListN.{set}
 use Rattle.rules.specs.Limits.{most-ops, absent}
 use Rattle.rules.specs.Sheet.{Sheet, op, N-of, P-of, rank-of}
-use Rattle.rules.specs.Job.{Job, Entry, Place, job, entry, bare-entry, place-at, with-entries, with-messages, with-receives}
-use Rattle.rules.specs.Step.{splice, without, is-cut, with-place, with-row, with-state, matched-rows, charged}
+use Rattle.rules.specs.Job.{Job, Entry, Figures, Place, Store, figures, job, entry, bare-entry, place-at, account, with-account}
+use Rattle.rules.specs.Job.{with-entries}
+use Rattle.rules.specs.Step.{splice, without, is-cut, with-place, with-row, with-state, matched-rows, charged, released}
 use Rattle.rules.specs.Report.{low-two, op-row}
 use Rattle.state.specs.declared.BoardPlace.{BoardPlace}
 use Rattle.state.specs.declared.Control.{Control}
-use Rattle.state.specs.Layout.{row-at, seat-at, word-at, messages-at, receives-at}
-use Rattle.state.specs.Decoded.{place-in, place-row, place-of, Place-read, Fits-place}
+use Rattle.state.specs.declared.StoreFigures.{StoreFigures}
+use Rattle.state.specs.Layout.{row-at, seat-at, word-at}
+use Rattle.state.specs.Decoded.{place-in, place-row, figures-of, place-of, Place-read, Fits-place}
 use Rattle.state.specs.declared.Queue.{Queue}
 use Rattle.state.specs.declared.Queue.the-variants.{Messages, Receives}
 use Rattle.state.specs.Queues.{base-of, count-of, recounted, list-of, with-list, pended}
 use Rattle.state.specs.Lists.{behind, First-at}
-use Rattle.state.specs.Controls.{counted}
 use Rattle.state.specs.Decodes.{Decodes, decodes-as, place-is, entry-put, state-put, place-put, list-append, list-remove}
 
 -- wherever scratch c and control block t hold a job of which `ok` holds, b and u hold the job that f makes of it
@@ -36,10 +37,17 @@ pub record Can-finish (r : ℕ) (s : Sheet) (x : Job) : Type 0 where
   pub there : r < P-of s
   pub room : suc (place-at x r .finished) < 65536
 
--- a charge of n bytes to the account of board r, whose buffer has a size: taken where there is room, which `ok` says
-pub record Charges (c b : List ℕ) (r size n : ℕ) (ok : Bool) : Type 0 where
-  pub says : (s : Sheet) (t : Control) (x : Job) → Decodes s c t x → r < P-of s → ok ≡ leb (place-at x r .in-use + n) size
-  pub taken : ok ≡ true → Changes c b (λ s x. r < P-of s) (λ s x. with-place r (charged n (place-at x r)) x)
+-- a place whose store is charged n bytes, and one from whose store they go
+abbrev pub charged-in : Store → (n : ℕ) → Place → Place
+charged-in w n p = with-account w (charged n (account w p)) p
+
+abbrev pub released-in : Store → (n : ℕ) → Place → Place
+released-in w n p = with-account w (released n (account w p)) p
+
+-- a charge of n bytes to the account of board r's store, which has a size: taken where there is room, which `ok` says
+pub record Charges (w : Store) (c b : List ℕ) (r size n : ℕ) (ok : Bool) : Type 0 where
+  pub says : (s : Sheet) (t : Control) (x : Job) → Decodes s c t x → r < P-of s → ok ≡ leb (account w (place-at x r) .in-use + n) size
+  pub taken : ok ≡ true → Changes c b (λ s x. r < P-of s) (λ s x. with-place r (charged-in w n (place-at x r)) x)
   pub refused : ok ≡ false → b ≡ c
 
 -- what an operation that tells puts into its row fits its bytes
@@ -145,12 +153,21 @@ module _ (s : Sheet) (c : List ℕ) (t : Control) (x : Job) (d : Decodes s c t x
   pub place-read : (r : ℕ) (old : BoardPlace) → r < P-of s → Place-read (place-in c (seat-at r)) old → place-of old ≡ place-at x r
   place-read r old l q = q .is ∙ place-is s c t x d r l
 
-  -- a place changed by a function: the place that was put is what the function makes of the place that was read
-  pub place-change : (f : Place → Place) (r : ℕ) (old new : BoardPlace) (b : List ℕ) → r < P-of s →
-      Place-read (place-in c (seat-at r)) old → place-of new ≡ f (place-of old) → Fits-place (place-of new) →
-      b ≡ splice c (seat-at r) (place-row (place-of new)) → Decodes s b t (with-place r (f (place-at x r)) x)
-  place-change f r old new b l q e h w =
-      let same : place-of new ≡ f (place-at x r) = e ∙ ap f (place-read r old l q) in
-      decodes-as s b (splice c (seat-at r) (place-row (place-of new))) t t (with-place r (f (place-at x r)) x) w refl
-      (subst (λ (z : Place). Decodes s (splice c (seat-at r) (place-row (place-of new))) t (with-place r z x)) same
-      (place-put s c t x d r (place-of new) h l))
+  -- a place changed by a function: what was put is what the function makes of the place that was read
+  pub place-change : (f : Place → Place) (r : ℕ) (old : BoardPlace) (b : List ℕ) → r < P-of s →
+      Place-read (place-in c (seat-at r)) old → Fits-place (f (place-of old)) →
+      b ≡ splice c (seat-at r) (place-row (f (place-of old))) → Decodes s b t (with-place r (f (place-at x r)) x)
+  place-change f r old b l q h w =
+      let put = splice c (seat-at r) (place-row (f (place-of old))) in
+      decodes-as s b put t t (with-place r (f (place-at x r)) x) w refl
+      (subst (λ (z : Place). Decodes s put t (with-place r z x)) (ap f (place-read r old l q))
+      (place-put s c t x d r (f (place-of old)) h l))
+
+  -- whether there is room in a store is asked of the figures that were read
+  pub room-asked : (w : Store) (r size n : ℕ) (old : BoardPlace) (f : StoreFigures) → r < P-of s →
+      Place-read (place-in c (seat-at r)) old → figures-of f ≡ account w (place-of old) →
+      leb (f .in_use + n) size ≡ leb (account w (place-at x r) .in-use + n) size
+  unfolding figures
+  room-asked w r size n old f l q e =
+      ap (λ (a : Figures). leb (a .in-use + n) size) e
+      ∙ ap (λ (z : Place). leb (account w z .in-use + n) size) (place-read r old l q)

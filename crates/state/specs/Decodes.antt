@@ -1,7 +1,6 @@
 -- Scratch and its control block hold a job. Each change of scratch is the change of the job that rules names, so that an engine above
 -- never speaks of bytes. Nothing is held of the inbox memory: deliveries are made at the end, from the rows. Assumes nothing.
 use mathlib.Core.Path.{_≡_, refl, sym, _∙_, ap, subst}
-use mathlib.Core.Bool.{false}
 use mathlib.Core.List.{List, [], _∷_, _++_}
 use mathlib.Core.Option.{Option, some}
 use Prim.Native.Nat.{ℕ, _+_, _-_, _*_, _<_, _≤_}
@@ -9,7 +8,7 @@ use native.Mathlib.Omega.{arith}
 use lib.ListN.{length, getD, set, take}
 use Rattle.rules.specs.Limits.{most-ops, most-boards, scratch-size}
 use Rattle.rules.specs.Sheet.{Sheet, N-of, P-of, two}
-use Rattle.rules.specs.Job.{Job, Entry, Place, Stop, job, entry, bare-entry, place, entry-at, place-at, with-entries, with-places, with-messages, with-receives, with-memory, with-stop, with-steps}
+use Rattle.rules.specs.Job.{Job, Entry, Place, Stop, job, entry, bare-entry, first-place, entry-at, place-at, with-entries, with-places, with-messages, with-receives, with-memory, with-stop, with-steps}
 use Rattle.rules.specs.Step.{splice, without, with-place, with-state, stopped}
 use Rattle.rules.specs.Report.{low-two, op-row, op-rows, entry-in}
 use Rattle.laws.specs.ReportRows.{Fits-row}
@@ -57,7 +56,7 @@ module _ (s : Sheet) (c : List ℕ) (t : Control) (x : Job) (d : Decodes s c t x
 
   pub place-is : (r : ℕ) → r < P-of s → place-in c (seat-at r) ≡ place-at x r
   unfolding place-at
-  place-is r l = sym (ap (λ (ps : List Place). getD ps r (place 0 false 0 0)) (d .places-are) ∙ places-at-rank c (P-of s) r l)
+  place-is r l = sym (ap (λ (ps : List Place). getD ps r first-place) (d .places-are) ∙ places-at-rank c (P-of s) r l)
 
   -- a waiting list
   pub list-are : (q : Queue) → list-of q x ≡ words-in c (base-of q) (count-of q t)

@@ -9,7 +9,8 @@
 --   Controls  the numbers that are kept beside scratch
 --   Queues   the two waiting lists as one
 --   Decodes  scratch and its control block hold a job; what each change of them does to the job, in the words of rules
---   Changes  changes in two places, and a place changed by a function
+--   Changes  changes in two places, a place changed by a function, a charge
+--   Charged  a store charged and released by its account
 --   Start    the start of a job
 pub mod Layout
 pub mod Decoded
@@ -22,4 +23,5 @@ pub mod Controls
 pub mod Queues
 pub mod Decodes
 pub mod Changes
+pub mod Charged
 pub mod Start

@@ -1,6 +1,5 @@
 -- The start of a job: bare rows and zero places, whatever scratch held before. Assumes nothing.
 use mathlib.Core.Path.{_≡_, refl, sym, _∙_, ap, ap₂, subst}
-use mathlib.Core.Bool.{false}
 use mathlib.Core.List.{List, [], _∷_, _++_, append-assoc, append-nil}
 use Prim.Native.Nat.{ℕ, zero, suc, _+_, _-_, _*_, _<_, _≤_}
 use native.Mathlib.Omega.{arith}
@@ -10,14 +9,14 @@ use lib.Seq.{take-at}
 use lib.ListN.{drop, length, getD, replicate, length-replicate, getD-replicate}
 use Rattle.rules.specs.Limits.{most-ops, most-boards, scratch-size}
 use Rattle.rules.specs.Sheet.{Sheet, N-of, P-of, two}
-use Rattle.rules.specs.Job.{Entry, job, entry, bare-entry, place, started}
+use Rattle.rules.specs.Job.{Entry, job, entry, bare-entry, figures, place, first-place, started}
 use Rattle.rules.specs.Step.{splice}
 use Rattle.rules.specs.Report.{op-row, op-rows, entry-in}
 use Rattle.laws.specs.ReportRows.{Fits-row}
 use Rattle.laws.specs.Splice.{splice-length, splice-none, splice-within, splice-apart, splice-then, splice-take-before}
 use Rattle.words.specs.Tab.{tab-snoc, tab-all, replicate-more}
-use Rattle.state.specs.Layout.{row-at, seat-at, places-at}
-use Rattle.state.specs.Decoded.{entries-in, place-in, places-in, words-in}
+use Rattle.state.specs.Layout.{row-at, seat-size, seat-at, places-at}
+use Rattle.state.specs.Decoded.{entries-in, figures-in, place-in, places-in, words-in}
 use Rattle.state.specs.Rows.{row-length, row-put, entries-same}
 use Rattle.state.specs.Indexed.{Indexed, indexed-kept}
 use Rattle.state.specs.Written.{rows-length}
@@ -94,33 +93,41 @@ entries-filled c (suc n) e f m h =
     ∙ replicate-more n e))
 
 -- zero bytes are places at the start
-seat-zero : (c : List ℕ) (at : ℕ) → ((j : ℕ) → at ≤ j → j < at + 8 → getD c j 0 ≡ 0) → place-in c at ≡ place 0 false 0 0
-unfolding place two
-seat-zero c at z =
-    let a = z at (omega arith) (omega arith) in
-    let b = z (at + 1) (omega arith) (omega arith) in
-    let i = z (at + 2) (omega arith) (omega arith) in
-    let j : getD c ((at + 2) + 1) 0 ≡ 0 = z ((at + 2) + 1) (omega arith) (omega arith) in
-    let p = z (at + 4) (omega arith) (omega arith) in
-    let q : getD c ((at + 4) + 1) 0 ≡ 0 = z ((at + 4) + 1) (omega arith) (omega arith) in
-    let w = z (at + 6) (omega arith) (omega arith) in
+two-zero : (c : List ℕ) (at : ℕ) → ((j : ℕ) → at ≤ j → j < at + 2 → getD c j 0 ≡ 0) → two c at ≡ 0
+unfolding two
+two-zero c at z = omega (arith, z at (omega arith) (omega arith), z (at + 1) (omega arith) (omega arith))
+
+figures-zero : (c : List ℕ) (at : ℕ) → ((j : ℕ) → at ≤ j → j < at + 4 → getD c j 0 ≡ 0) → figures-in c at ≡ figures 0 0
+unfolding figures
+figures-zero c at z =
+    let i = two-zero c at (λ j l u. z j (omega arith) (omega arith)) in
+    let p = two-zero c (at + 2) (λ j l u. z j (omega arith) (omega arith)) in
     cc
 
-places-zero : (c : List ℕ) (p : ℕ) → p ≤ most-boards → scratch-size ≤ length c → places-in (splice c places-at (replicate (8 * p) 0)) p ≡ replicate p (place 0 false 0 0)
+seat-zero : (c : List ℕ) (at : ℕ) → ((j : ℕ) → at ≤ j → j < at + seat-size → getD c j 0 ≡ 0) → place-in c at ≡ first-place
+unfolding first-place place
+seat-zero c at z =
+    let f = two-zero c at (λ j l u. z j (omega arith) (omega arith)) in
+    let a = figures-zero c (at + 2) (λ j l u. z j (omega arith) (omega arith)) in
+    let w = z (at + 6) (omega arith) (omega arith) in
+    let b = figures-zero c (at + 8) (λ j l u. z j (omega arith) (omega arith)) in
+    cc
+
+places-zero : (c : List ℕ) (p : ℕ) → p ≤ most-boards → scratch-size ≤ length c → places-in (splice c places-at (replicate (seat-size * p) 0)) p ≡ replicate p first-place
 unfolding places-in
 places-zero c p m h =
-    let zs : List ℕ = replicate (8 * p) 0 in
-    let long : length zs ≡ 8 * p = length-replicate {A = ℕ} (8 * p) 0 in
-    let byte : (j : ℕ) → places-at ≤ j → j < places-at + 8 * p → getD (splice c places-at zs) j 0 ≡ 0 =
+    let zs : List ℕ = replicate (seat-size * p) 0 in
+    let long : length zs ≡ seat-size * p = length-replicate {A = ℕ} (seat-size * p) 0 in
+    let byte : (j : ℕ) → places-at ≤ j → j < places-at + seat-size * p → getD (splice c places-at zs) j 0 ≡ 0 =
     λ j l u.
     let k = j - places-at in
     let e : places-at + k ≡ j = omega arith in
-    subst (λ (i : ℕ). getD (splice c places-at zs) i 0 ≡ 0) e (splice-within c places-at zs (omega arith) k (omega arith) ∙ getD-replicate (8 * p) k 0 0 (omega arith)) in
-    tab-all (λ r. place-in (splice c places-at zs) (seat-at r)) p (place 0 false 0 0) (λ r l. seat-zero (splice c places-at zs) (seat-at r) (λ j a b. byte j (omega arith) (omega arith)))
+    subst (λ (i : ℕ). getD (splice c places-at zs) i 0 ≡ 0) e (splice-within c places-at zs (omega arith) k (omega arith) ∙ getD-replicate (seat-size * p) k 0 0 (omega arith)) in
+    tab-all (λ r. place-in (splice c places-at zs) (seat-at r)) p first-place (λ r l. seat-zero (splice c places-at zs) (seat-at r) (λ j a b. byte j (omega arith) (omega arith)))
 
 -- what `init` leaves in scratch
 abbrev pub started-bytes : List ℕ → (p n : ℕ) → List ℕ
-started-bytes c p n = splice (splice c 0 (bare-rows n)) places-at (replicate (8 * p) 0)
+started-bytes c p n = splice (splice c 0 (bare-rows n)) places-at (replicate (seat-size * p) 0)
 
 pub started-decodes : (s : Sheet) (c inboxes : List ℕ) → N-of s ≤ most-ops → P-of s ≤ most-boards → scratch-size ≤ length c → Indexed s c → Decodes s (started-bytes c (P-of s) (N-of s))
     no-control (started s inboxes)
@@ -129,8 +136,8 @@ started-decodes s c inboxes n p h x =
     let rows = filled-length (N-of s) (bare-entry 0) in
     let b = splice c 0 (bare-rows (N-of s)) in
     let one : length b ≡ length c = splice-length c 0 (bare-rows (N-of s)) (omega arith) in
-    let zs : List ℕ = replicate (8 * P-of s) 0 in
-    let long : length zs ≡ 8 * P-of s = length-replicate {A = ℕ} (8 * P-of s) 0 in
+    let zs : List ℕ = replicate (seat-size * P-of s) 0 in
+    let long : length zs ≡ seat-size * P-of s = length-replicate {A = ℕ} (seat-size * P-of s) 0 in
     let two : length (splice b places-at zs) ≡ length b = splice-length b places-at zs (omega arith) in
     record {
       few-ops = n;

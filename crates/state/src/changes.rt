@@ -5,18 +5,25 @@ ghost use Prim.Native.Nat.{ℕ, _<_, _≤_};
 ghost use lib.ListN.{length};
 ghost use Rattle.rules.specs.Limits.{most-ops, most-boards, scratch-size, absent};
 ghost use Rattle.rules.specs.Sheet.{N-of, P-of};
-ghost use Rattle.rules.specs.Job.{entry, place-at};
-ghost use Rattle.rules.specs.Step.{without, with-place, with-row, with-state, matched-rows, released, one-finished, now-waiting};
+ghost use Rattle.rules.specs.Job.{entry, place-at, with-account};
+ghost use Rattle.rules.specs.Step.{splice, without, with-place, with-row, with-state, matched-rows, one-finished, now-waiting};
+ghost use Rattle.account.specs.Stores.{stands-for};
+ghost use Rattle.account.specs.Accounts.{figures-of as account-figures};
+ghost use Rattle.state.specs.Layout.{seat-at};
+ghost use Rattle.state.specs.Decoded.{place-row, place-of};
 ghost use Rattle.state.specs.Lists.{First-at};
 ghost use Rattle.state.specs.Queues.{count-of, list-of, with-list, pended};
-ghost use Rattle.state.specs.Changes.{Becomes, Changes, Can-finish, Charges, Tellable, Status};
+ghost use Rattle.state.specs.Changes.{Becomes, Changes, Can-finish, released-in, Charges, Tellable, Status};
 use crate::BoardPlace;
 use crate::Control;
 use crate::Queue;
+use crate::StoreFigures;
 use crate::controls;
 use crate::lists;
 use crate::places;
 use crate::rows;
+use account::Account;
+use account::Store;
 
 // Operation i gets a state and neither partner nor status.
 pub fn set_state(c: &mut [u8], i: usize, v: u8)
@@ -68,43 +75,47 @@ pub fn take(c: &mut [u8], t: Control, q: Queue, k: usize) -> Control
     controls::recounting(t, q, left)
 }
 
-// Board r is charged n bytes where its attached buffer of the size has room, and says whether: the account is lent and changed
-// where it stands.
-pub fn charge(c: &mut [u8], r: usize, size: usize, n: usize) -> bool
+// The place q of board r with a store's account a.
+fn put_account(c: &mut [u8], r: usize, q: BoardPlace, w: Store, a: Account)
+    requires { ⌜ (r < most-boards) × (scratch-size ≤ length (now c)) ⌝ }
+    ensures { λ _. ⌜ now (c .exit) ≡ splice (now (c .entry)) (seat-at r)
+        (place-row (with-account (stands-for w) (account-figures a) (place-of q))) ⌝ }
+{
+    let f = StoreFigures {
+        in_use: a.in_use,
+        peak: a.peak,
+    };
+    let next = places::with_figures(q, w, f);
+    places::put_place(c, r, next);
+}
+
+// A store of board r, of the size, is charged n bytes where it has room, and says whether: the account is lent and changed where
+// it stands.
+pub fn charge(c: &mut [u8], r: usize, w: Store, size: usize, n: usize) -> bool
     requires { ⌜ (r < most-boards) × (size < 65536) × (scratch-size ≤ length (now c)) ⌝ }
-    ensures { λ b. ⌜ Charges (now (c .entry)) (now (c .exit)) r size n b ⌝ }
+    ensures { λ b. ⌜ Charges (stands-for w) (now (c .entry)) (now (c .exit)) r size n b ⌝ }
 {
     let q = places::place_of(c, r);
-    let charged = account::charging(size, q.in_use, q.peak, n);
+    let f = places::figures_in(q, w);
+    let charged = account::charging(size, f.in_use, f.peak, n);
     if !charged.ok {
         return false;
     }
     let after = charged.account;
-    let next = BoardPlace {
-        finished: q.finished,
-        waiting: q.waiting,
-        in_use: after.in_use,
-        peak: after.peak,
-    };
-    places::put_place(c, r, next);
+    put_account(c, r, q, w, after);
     true
 }
 
-// A charge of n bytes goes.
-pub fn release(c: &mut [u8], r: usize, size: usize, n: usize)
+// A charge of n bytes to a store goes.
+pub fn release(c: &mut [u8], r: usize, w: Store, size: usize, n: usize)
     requires { ⌜ (r < most-boards) × (scratch-size ≤ length (now c)) ⌝ }
     ensures { λ _. ⌜ Changes (now (c .entry)) (now (c .exit)) (λ s x. r < P-of s)
-        (λ s x. with-place r (released n (place-at x r)) x) ⌝ }
+        (λ s x. with-place r (released-in (stands-for w) n (place-at x r)) x) ⌝ }
 {
     let q = places::place_of(c, r);
-    let after = account::releasing(size, q.in_use, q.peak, n);
-    let next = BoardPlace {
-        finished: q.finished,
-        waiting: q.waiting,
-        in_use: after.in_use,
-        peak: after.peak,
-    };
-    places::put_place(c, r, next);
+    let f = places::figures_in(q, w);
+    let left = account::releasing(size, f.in_use, f.peak, n);
+    put_account(c, r, q, w, left);
 }
 
 // Board r has finished one operation more.
@@ -114,12 +125,7 @@ pub fn finish_one(c: &mut [u8], r: usize)
         (λ s x. with-place r (one-finished (place-at x r)) x) ⌝ }
 {
     let q = places::place_of(c, r);
-    let next = BoardPlace {
-        finished: q.finished + 1,
-        waiting: false,
-        in_use: q.in_use,
-        peak: q.peak,
-    };
+    let next = places::standing(q, q.finished + 1, false);
     places::put_place(c, r, next);
 }
 
@@ -130,11 +136,6 @@ pub fn start_waiting(c: &mut [u8], r: usize)
         (λ s x. with-place r (now-waiting (place-at x r)) x) ⌝ }
 {
     let q = places::place_of(c, r);
-    let next = BoardPlace {
-        finished: q.finished,
-        waiting: true,
-        in_use: q.in_use,
-        peak: q.peak,
-    };
+    let next = places::standing(q, q.finished, true);
     places::put_place(c, r, next);
 }

@@ -12,7 +12,10 @@ pub mod waits;
 // Where each part stands; another limit changes a number of `limits`, and the layout follows.
 const PLACES: usize = limits::OP_ROW_SIZE * limits::MOST_OPS;
 
-const MESSAGES: usize = PLACES + limits::BOARD_ROW_SIZE * limits::MOST_BOARDS;
+// A board's place has as many bytes as its row of the second edition (document 02, K6).
+const SEAT_SIZE: usize = limits::SECOND_BOARD_ROW_SIZE;
+
+const MESSAGES: usize = PLACES + SEAT_SIZE * limits::MOST_BOARDS;
 
 const RECEIVES: usize = MESSAGES + 2 * limits::MOST_OPS;
 
@@ -37,10 +40,17 @@ pub enum Queue {
     Receives,
 }
 
-// The place of a board, by value: operations finished, whether the next one is in its waiting half, bytes in use, their peak.
+// The figures of a store's account: bytes in use, and the most in use after any step.
+pub struct StoreFigures {
+    pub in_use: usize,
+    pub peak: usize,
+}
+
+// The place of a board, by value: operations finished, whether the next one is in its waiting half, and the figures of its attached
+// buffer and of its standard room.
 pub struct BoardPlace {
     pub finished: usize,
     pub waiting: bool,
-    pub in_use: usize,
-    pub peak: usize,
+    pub attached: StoreFigures,
+    pub room: StoreFigures,
 }

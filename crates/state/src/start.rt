@@ -6,6 +6,7 @@ ghost use Rattle.rules.specs.Limits.{most-ops, most-boards, scratch-size};
 ghost use Rattle.rules.specs.Step.{splice};
 ghost use Rattle.state.specs.Start.{bare-rows, started-bytes};
 use crate::PLACES;
+use crate::SEAT_SIZE;
 use crate::rows;
 
 // The first n rows: not entered, with neither partner nor status.
@@ -26,5 +27,5 @@ pub fn init(c: &mut [u8], p: usize, n: usize)
     ensures { λ _. ⌜ now (c .exit) ≡ started-bytes (now (c .entry)) p n ⌝ }
 {
     put_rows(c, n);
-    words::fill(c, PLACES, limits::BOARD_ROW_SIZE * p, 0);
+    words::fill(c, PLACES, SEAT_SIZE * p, 0);
 }

@@ -6,21 +6,21 @@
 use mathlib.Core.Path.{_≡_, refl, sym, _∙_, ap, subst}
 use mathlib.Core.Bool.{Bool, true, false, cond}
 use mathlib.Core.List.{List}
-use Prim.Native.Nat.{ℕ, suc, _+_, _<_, _≤_}
+use Prim.Native.Nat.{ℕ, _<_}
 use native.Mathlib.Omega.{arith}
 use native.Mathlib.Decide.{ℕ-discrete, decLt}
 use lib.Dec.{eqb}
 use lib.ListN.{length, getD, set}
 use lib.Seq.{getD-set-same, getD-set-other, set-out}
 use borrow.Author.Tests.{eq-eqb, ne-eqb}
-use Rattle.rules.specs.Sheet.{Sheet, sheet-in, op, P-of, N-of, rank-of, only-half, no-half}
-use Rattle.rules.specs.Job.{Job, Entry, Place, job, place, entry-at, place-at, with-entries, with-places}
-use Rattle.rules.specs.Step.{charge-of, released, release, with-place, with-row, one-finished, now-waiting, initiated, half-row, ended}
-use Rattle.state.specs.declared.Control.{Control}
+use Rattle.rules.specs.Sheet.{Sheet, op, rank-of, only-half, no-half}
+use Rattle.rules.specs.Job.{Job, Entry, Place, Store, job, first-place, account, entry-at, place-at, with-entries, with-places}
+use Rattle.rules.specs.Step.{store-of, charge-of, released, release, with-place, with-row, one-finished, now-waiting, initiated, half-row, ended}
 use Rattle.state.specs.declared.Queue.{Queue}
 use Rattle.state.specs.declared.Queue.the-variants.{Messages, Receives}
 use Rattle.state.specs.Queues.{list-of}
-use Rattle.state.specs.Changes.{Can-finish}
+use Rattle.laws.specs.Stores.{finished-stays}
+use Rattle.state.specs.Changes.{Can-finish, released-in}
 use Rattle.telling.specs.Telling.{Looks}
 
 -- AFTER AN INITIATING STEP
@@ -56,10 +56,10 @@ row-can-finish s r i e x h =
     }
 
 -- A RELEASE
-pub release-charged : (s : Sheet) (m rank n : ℕ) (x : Job) → entry-at x m .state ≡ 2 → rank ≡ rank-of s m → n ≡ charge-of (op s m) →
-    with-place rank (released n (place-at x rank)) x ≡ release s m x
+pub release-charged : (s : Sheet) (m rank n : ℕ) (w : Store) (x : Job) → entry-at x m .state ≡ 2 → rank ≡ rank-of s m →
+    w ≡ store-of (op s m) → n ≡ charge-of w (op s m) → with-place rank (released-in w n (place-at x rank)) x ≡ release s m x
 unfolding release
-release-charged s m rank n x e er en = let t = eq-eqb (entry-at x m .state) 2 e in rw t (cc)
+release-charged s m rank n w x e er ew en = let t = eq-eqb (entry-at x m .state) 2 e in rw t (cc)
 
 pub release-none : (s : Sheet) (m : ℕ) (x : Job) → (entry-at x m .state ≡ 2 → ⊥) → x ≡ release s m x
 unfolding release
@@ -70,23 +70,27 @@ pub place-put-finished : (x : Job) (k r : ℕ) (q : Place) → q .finished ≡ p
 unfolding place-at with-place with-places job
 place-put-finished x k r q e = go (ℕ-discrete r k) (decLt k (length (x .places)))
   where
-    none : Place
-    none = place 0 false 0 0
-
-    go : Dec (r ≡ k) → Dec (k < length (x .places)) → getD (set (x .places) k q) r none .finished ≡ getD (x .places) r none .finished
-    go (no d) l = ap (λ (p : Place). p .finished) (getD-set-other (x .places) k r q none d)
+    go : Dec (r ≡ k) → Dec (k < length (x .places)) → getD (set (x .places) k q) r first-place .finished ≡ getD (x .places) r first-place .finished
+    go (no d) l = ap (λ (p : Place). p .finished) (getD-set-other (x .places) k r q first-place d)
     go (yes d) (yes l) =
-        subst (λ (n : ℕ). getD (set (x .places) k q) n none .finished ≡ getD (x .places) n none .finished) (sym d)
-        (ap (λ (p : Place). p .finished) (getD-set-same (x .places) k q none l) ∙ e)
-    go (yes d) (no l) = ap (λ (ps : List Place). getD ps r none .finished) (set-out (x .places) k q (omega arith))
+        subst (λ (n : ℕ). getD (set (x .places) k q) n first-place .finished ≡ getD (x .places) n first-place .finished) (sym d)
+        (ap (λ (p : Place). p .finished) (getD-set-same (x .places) k q first-place l) ∙ e)
+    go (yes d) (no l) = ap (λ (ps : List Place). getD ps r first-place .finished) (set-out (x .places) k q (omega arith))
+
+-- the place of a message's board once its charge is gone
+abbrev freed : Sheet → (m : ℕ) → Job → Place
+freed s m x = released-in (store-of (op s m)) (charge-of (store-of (op s m)) (op s m)) (place-at x (rank-of s m))
 
 pub released-finished : (s : Sheet) (m : ℕ) (x : Job) (r : ℕ) → place-at (release s m x) r .finished ≡ place-at x r .finished
-unfolding release released place
+unfolding release
 released-finished s m x r = go (eqb (entry-at x m .state) 2)
   where
-    go : (b : Bool) → place-at (cond b (with-place (rank-of s m) (released (charge-of (op s m)) (place-at x (rank-of s m))) x) x) r .finished ≡ place-at x r .finished
+    go : (b : Bool) → place-at (cond b (with-place (rank-of s m) (freed s m x) x) x) r .finished ≡ place-at x r .finished
     go false = refl
-    go true = place-put-finished x (rank-of s m) r (released (charge-of (op s m)) (place-at x (rank-of s m))) refl
+    go true =
+        let w = store-of (op s m) in
+        let p = place-at x (rank-of s m) in
+        place-put-finished x (rank-of s m) r (freed s m x) (finished-stays w (released (charge-of w (op s m)) (account w p)) p)
 
 -- a place that is put, and a release, leave the waiting lists
 pub place-put-list : (list : Queue) (x : Job) (r : ℕ) (q : Place) → list-of list (with-place r q x) ≡ list-of list x
@@ -98,6 +102,6 @@ pub released-list : (list : Queue) (s : Sheet) (m : ℕ) (x : Job) → list-of l
 unfolding release
 released-list list s m x = go (eqb (entry-at x m .state) 2)
   where
-    go : (b : Bool) → list-of list (cond b (with-place (rank-of s m) (released (charge-of (op s m)) (place-at x (rank-of s m))) x) x) ≡ list-of list x
-    go true = place-put-list list x (rank-of s m) (released (charge-of (op s m)) (place-at x (rank-of s m)))
+    go : (b : Bool) → list-of list (cond b (with-place (rank-of s m) (freed s m x) x) x) ≡ list-of list x
+    go true = place-put-list list x (rank-of s m) (freed s m x)
     go false = refl

@@ -4,15 +4,15 @@ ghost use mathlib.Core.Path.{_≡_};
 ghost use mathlib.Core.Bool.{cond};
 ghost use Prim.Native.Nat.{_<_};
 ghost use lib.Dec.{ltb};
-ghost use Rattle.rules.specs.Sheet.{sheet-in, N-of, two};
+ghost use Rattle.rules.specs.Sheet.{N-of, two};
 ghost use Rattle.rules.specs.Step.{initiated, release, matched-rows};
 ghost use Rattle.state.specs.Layout.{word-at};
 ghost use Rattle.state.specs.Queues.{base-of, count-of};
 ghost use Rattle.simulation.specs.Simulates.{Holds, Simulates};
 ghost use Rattle.steps.specs.Pairing.{Both, message-of, receive-of, matched-with, Pairs};
 use crate::parts;
-use sheet::boards;
 use sheet::ops;
+use sheet::stores;
 use state::Control;
 use state::Queue;
 use state::changes;
@@ -20,7 +20,7 @@ use state::lists;
 use state::ranks;
 use state::rows;
 
-// A buffered message's charge goes when it is matched.
+// A buffered message's charge goes when it is matched, from the store that it is kept in.
 fn release_charge(s: &[u8], c: &mut [u8], t: Control, m: usize)
     requires { ⌜ Holds (now s) (now c) t (λ s x. m < N-of s) ⌝ }
     ensures { λ _. ⌜ Simulates (now (s .entry)) (now (c .entry)) t (now (c .exit)) t (λ s x. m < N-of s)
@@ -28,7 +28,14 @@ fn release_charge(s: &[u8], c: &mut [u8], t: Control, m: usize)
 {
     if rows::state_of(c, m) == 2 {
         let sender = ranks::rank_at(c, m);
-        changes::release(c, sender, boards::attached(s, sender), ops::charge(s, m));
+        let w = stores::store_of(s, m);
+        changes::release(
+            c,
+            sender,
+            w,
+            stores::size(s, w, sender),
+            stores::charge(s, w, m),
+        );
     }
 }
 

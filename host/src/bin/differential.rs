@@ -3,14 +3,14 @@
 //! generated sheets. Prints how many cases of each kind got each answer; at
 //! the first difference prints what is needed to see it and exits with 1, as
 //! it does where an answer of premise to accepted sheets, or a case around an
-//! attached buffer, the most operations, a forgotten request, a probe or a query
-//! never came up.
+//! attached buffer, the most operations, a forgotten request, a probe, a query or
+//! the second edition never came up.
 
 use jamturret::lent::Answer;
 use jamturret_host::command::{argument, difference, tally};
 use jamturret_host::generate::{self, KINDS};
 use jamturret_host::random::Random;
-use jamturret_host::{buffers, guarded, judge, lengths, probes, requests_left};
+use jamturret_host::{buffers, editions, guarded, judge, lengths, probes, requests_left};
 use std::process;
 use std::time::Instant;
 
@@ -25,7 +25,7 @@ const NAIVE_EVERY: u64 = 4;
 const ENOUGH: u64 = 10_000;
 
 /// Check's numbers, and then premise's of sheets that check accepts.
-const NUMBERS: [u32; 13] = [0, 1, 2, 3, 4, 5, 6, 7, 0, 20, 21, 22, 23];
+const NUMBERS: [u32; 14] = [0, 1, 2, 3, 4, 5, 6, 7, 0, 20, 21, 22, 23, 24];
 const PREMISE: usize = 8;
 
 /// Answers counted for each kind, a column a number.
@@ -60,10 +60,7 @@ fn main() {
     let cases = argument("differential", 2, CASES);
     let start = Instant::now();
     let mut counts: Counts = [[0; NUMBERS.len()]; KINDS.len()];
-    let mut covered = [0; buffers::COVERED.len()];
-    let mut asked = [0; lengths::ASKED.len()];
-    let mut requests = [0; requests_left::ASKED.len()];
-    let mut probed = [0; probes::ASKED.len()];
+    let mut cases_made = Made::none();
     let mut naive = 0;
     for number in 0..cases {
         let (kind, sheet, mut random) = generate::case(seed, number);
@@ -75,32 +72,72 @@ fn main() {
                 .unwrap_or_else(|answers| difference(seed, number, KINDS[kind].0, &sheet, &answers))
         });
         count(&mut counts[kind], check, premise);
-        tally(&mut asked, lengths::asked(&sheet, check, premise));
-        let found = requests_left::asked(&sheet, check, premise);
-        tally(&mut requests, found);
-        tally(&mut probed, probes::asked(&sheet, check, premise));
-        if check.number == 0 {
-            tally(&mut covered, buffers::covered(&sheet, premise));
-        }
+        cases_made.count(&sheet, check, premise);
     }
     let totals = print(&counts);
-    for (name, count) in buffers::COVERED.iter().zip(covered) {
-        println!("premise {name:<40}{count:>8}");
-    }
-    let lengths = lengths::ASKED.iter().zip(asked);
-    let requests_left = requests_left::ASKED.iter().zip(requests);
-    let probes = probes::ASKED.iter().zip(probed);
-    for (name, count) in lengths.chain(requests_left).chain(probes) {
-        println!("{name:<48}{count:>8}");
-    }
+    let made = cases_made.print();
     println!(
         "seed {seed}: {cases} cases agree, {naive} of them with the naive judge too, in {:.1} s",
         start.elapsed().as_secs_f64()
     );
-    let reached = [&totals[..], &covered, &asked, &requests, &probed].concat();
-    if cases >= ENOUGH && reached.contains(&0) {
+    if cases >= ENOUGH && [&totals[..], &made].concat().contains(&0) {
         eprintln!("an answer or a case never came up: see the zeros above");
         process::exit(1);
+    }
+}
+
+/// How often each case around a rule was made.
+struct Made {
+    buffers: [u64; buffers::COVERED.len()],
+    lengths: [u64; lengths::ASKED.len()],
+    requests: [u64; requests_left::ASKED.len()],
+    probes: [u64; probes::ASKED.len()],
+    editions: [u64; editions::ASKED.len()],
+}
+
+impl Made {
+    fn none() -> Made {
+        Made {
+            buffers: [0; buffers::COVERED.len()],
+            lengths: [0; lengths::ASKED.len()],
+            requests: [0; requests_left::ASKED.len()],
+            probes: [0; probes::ASKED.len()],
+            editions: [0; editions::ASKED.len()],
+        }
+    }
+
+    fn count(&mut self, sheet: &[u8], check: Answer, premise: Answer) {
+        tally(&mut self.lengths, lengths::asked(sheet, check, premise));
+        let requests = requests_left::asked(sheet, check, premise);
+        tally(&mut self.requests, requests);
+        tally(&mut self.probes, probes::asked(sheet, check, premise));
+        tally(&mut self.editions, editions::asked(sheet, check, premise));
+        if check.number == 0 {
+            tally(&mut self.buffers, buffers::covered(sheet, premise));
+        }
+    }
+
+    /// Prints all counts and returns them.
+    fn print(&self) -> Vec<u64> {
+        for (name, count) in buffers::COVERED.iter().zip(self.buffers) {
+            println!("premise {name:<40}{count:>8}");
+        }
+        let names = [
+            &lengths::ASKED[..],
+            &requests_left::ASKED,
+            &probes::ASKED,
+            &editions::ASKED,
+        ];
+        let counts = [
+            &self.lengths[..],
+            &self.requests,
+            &self.probes,
+            &self.editions,
+        ];
+        for (name, count) in names.concat().iter().zip(counts.concat()) {
+            println!("{name:<48}{count:>8}");
+        }
+        [&self.buffers[..], &counts.concat()].concat()
     }
 }
 
@@ -134,7 +171,7 @@ fn count(row: &mut Row, check: Answer, premise: Answer) {
         let column = NUMBERS[PREMISE..]
             .iter()
             .position(|&number| number == premise.number);
-        row[PREMISE + column.expect("0 or 20 to 23")] += 1;
+        row[PREMISE + column.expect("0 or 20 to 24")] += 1;
     }
 }
 

@@ -2,9 +2,10 @@
 //! the edge of its range. The CRC is mended by the caller, save in `crc`.
 
 use super::{size, valid};
-use crate::layout::{self, board, header as head, kind, operation as op, word, HEADER_BYTES};
+use crate::layout::{self, board, header as head, kind, operation as op, word};
+use crate::layout::{Edition, HEADER_BYTES};
 use crate::random::Random;
-use crate::sheet::{add_word, board_at, operation_at, set_word};
+use crate::sheet::{add_word, edition, entry_at, entry_of, operation_at, set_word};
 
 pub type Damage = fn(&mut Vec<u8>, &mut Random);
 
@@ -26,7 +27,7 @@ pub fn header(sheet: &mut Vec<u8>, random: &mut Random) {
 /// One of the three offsets, or bytes missing or left over at the end.
 pub fn offset_or_length(sheet: &mut Vec<u8>, random: &mut Random) {
     let near = [-16, -8, -2, -1, 1, 2, 8, 16, 256, -256, 0x4000];
-    match random.below(5) {
+    match random.below(7) {
         0 => add_word(sheet, head::BOARD_TABLE, random.pick(&near)),
         1 => add_word(sheet, head::OPERATION_TABLE, random.pick(&near)),
         2 => add_word(sheet, head::PAYLOAD, random.pick(&near)),
@@ -34,10 +35,38 @@ pub fn offset_or_length(sheet: &mut Vec<u8>, random: &mut Random) {
             let extra = random.between(1, 17);
             sheet.extend(random.bytes(extra));
         }
+        4 | 5 => other_table(sheet, random),
         _ => {
             let kept = sheet.len().saturating_sub(random.between(1, 17));
             sheet.truncate(kept.max(HEADER_BYTES));
         }
+    }
+}
+
+/// The operation table as entries of 8, 9 or 10 bytes would place it (document
+/// 02, K6), at times with the payload's offset or the sheet's length of such
+/// entries.
+fn other_table(sheet: &mut Vec<u8>, random: &mut Random) {
+    let boards = usize::from(word(sheet, head::BOARDS)).min(layout::MOST_BOARDS);
+    let table = HEADER_BYTES + random.pick(&[8, 9, 9, 10]) * boards;
+    let moved = table as i32 - i32::from(word(sheet, head::OPERATION_TABLE));
+    let [mut offset, mut payload, mut length] = [true, false, false];
+    match random.below(5) {
+        0 => payload = true,
+        1 => length = true,
+        2 => (payload, length) = (true, true),
+        3 => (offset, payload) = (false, true),
+        _ => {}
+    }
+    if offset {
+        set_word(sheet, head::OPERATION_TABLE, table as u16);
+    }
+    if payload {
+        add_word(sheet, head::PAYLOAD, moved);
+    }
+    if length {
+        let bytes = (sheet.len() as i32 + moved).max(HEADER_BYTES as i32);
+        sheet.resize(bytes as usize, 0);
     }
 }
 
@@ -67,15 +96,18 @@ pub fn flip_bit(sheet: &mut [u8], random: &mut Random) {
 /// P as the header says it, if the board table stands in the sheet.
 fn boards(sheet: &[u8]) -> Option<usize> {
     let boards = usize::from(word(sheet, head::BOARDS));
-    (boards > 0 && board_at(boards) <= sheet.len()).then_some(boards)
+    (boards > 0 && entry_at(sheet, boards) <= sheet.len()).then_some(boards)
 }
 
 /// One field of a board entry, or several that belong together.
 pub fn board(sheet: &mut Vec<u8>, random: &mut Random) {
     let Some(boards) = boards(sheet) else { return };
     let rank = random.below(boards);
-    let at = board_at(rank);
+    let at = entry_at(sheet, rank);
     let near = random.pick(&[-1, 1, 2, 256]);
+    if edition(sheet) == Edition::Second && random.chance(40) {
+        return room(sheet, boards, rank, random);
+    }
     match random.below(9) {
         0 => add_word(sheet, at + board::FIRST, near),
         1 => add_word(sheet, at + board::COUNT, near),
@@ -89,15 +121,34 @@ pub fn board(sheet: &mut Vec<u8>, random: &mut Random) {
         6 => inbox_total(sheet, boards, rank, random),
         7 => counts(sheet, boards, rank, near),
         _ => {
-            let last = board_at(boards - 1);
+            let last = entry_at(sheet, boards - 1);
             add_word(sheet, last + board::COUNT, near);
         }
     }
 }
 
+/// A room at its limit or above it (document 02, K6), at times beside another
+/// wrong number of the entry, or of another one.
+fn room(sheet: &mut [u8], boards: usize, rank: usize, random: &mut Random) {
+    let rank = random.pick(&[0, boards - 1, rank]);
+    let [at, other] = [rank, random.below(boards)].map(|rank| entry_at(sheet, rank));
+    let sizes = [
+        16_383, 16_384, 16_384, 16_385, 16_385, 16_385, 32_768, 65_535,
+    ];
+    set_word(sheet, at + board::ROOM, random.pick(&sizes));
+    let beside = random.pick(&[at, other]);
+    match random.below(8) {
+        0 => set_word(sheet, beside + board::ATTACHED, 16_385),
+        1 => add_word(sheet, beside + board::FIRST, 1),
+        2 => set_word(sheet, beside + board::INBOX, 16_385),
+        3 => set_word(sheet, other + board::ROOM, 16_385),
+        _ => {}
+    }
+}
+
 /// Brings the running total at a rank to the limit or just above it.
 fn inbox_total(sheet: &mut [u8], boards: usize, rank: usize, random: &mut Random) {
-    let inbox = |of: usize| usize::from(word(sheet, board_at(of) + board::INBOX));
+    let inbox = |of: usize| entry_of(sheet, of, board::INBOX);
     let before: usize = (0..rank).map(inbox).sum();
     let after: usize = (rank + 1..boards).map(inbox).sum();
     let beside = if random.chance(50) {
@@ -107,24 +158,26 @@ fn inbox_total(sheet: &mut [u8], boards: usize, rank: usize, random: &mut Random
     };
     let wanted = layout::MOST_INBOX_TOTAL + random.below(2);
     if let Some(size) = wanted.checked_sub(beside) {
-        set_word(sheet, board_at(rank) + board::INBOX, size as u16);
+        let at = entry_at(sheet, rank);
+        set_word(sheet, at + board::INBOX, size as u16);
     }
 }
 
 /// Changes a count and every later first operation with it, so that only the
 /// total is wrong.
 fn counts(sheet: &mut [u8], boards: usize, rank: usize, amount: i32) {
-    add_word(sheet, board_at(rank) + board::COUNT, amount);
+    let of = edition(sheet);
+    add_word(sheet, of.entry_at(rank) + board::COUNT, amount);
     for later in rank + 1..boards {
-        add_word(sheet, board_at(later) + board::FIRST, amount);
+        add_word(sheet, of.entry_at(later) + board::FIRST, amount);
     }
 }
 
 /// Where a random operation starts, if there is one.
 fn some_operation(sheet: &[u8], random: &mut Random) -> Option<usize> {
-    let boards = boards(sheet)?;
+    boards(sheet)?;
     let operations = usize::from(word(sheet, head::OPERATIONS));
-    if operations == 0 || operation_at(boards, operations) > sheet.len() {
+    if operations == 0 || operation_at(sheet, operations) > sheet.len() {
         return None;
     }
     let index = match random.below(6) {
@@ -132,7 +185,7 @@ fn some_operation(sheet: &[u8], random: &mut Random) -> Option<usize> {
         1 => operations - 1,
         _ => random.below(operations),
     };
-    Some(operation_at(boards, index))
+    Some(operation_at(sheet, index))
 }
 
 /// One field of an operation.
@@ -188,7 +241,7 @@ fn end_of_area(sheet: &mut [u8], at: usize, random: &mut Random) {
     let boards = usize::from(word(sheet, head::BOARDS));
     let room = match random.chance(50) {
         true => word(sheet, head::PAYLOAD_LENGTH),
-        false => word(sheet, board_at(random.below(boards)) + board::INBOX),
+        false => entry_of(sheet, random.below(boards), board::INBOX) as u16,
     };
     let length = word(sheet, at + op::LENGTH);
     let end = room.wrapping_sub(length);

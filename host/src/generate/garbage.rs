@@ -3,9 +3,9 @@
 
 use super::script::free_all;
 use super::{size, valid};
-use crate::layout::{ANY, HEADER_BYTES};
+use crate::layout::{Edition, ANY, HEADER_BYTES};
 use crate::random::Random;
-use crate::sheet::{board_at, mend_crc, Board, Operation, Sheet};
+use crate::sheet::{mend_crc, operation_at, Board, Operation, Sheet};
 
 /// A right sheet cut at any length or followed by other bytes, mostly with
 /// its own CRC, at times with a mended one.
@@ -43,7 +43,7 @@ pub fn any(random: &mut Random) -> Vec<u8> {
 fn right_header(random: &mut Random) -> Vec<u8> {
     let size = size::small(random);
     let mut sheet = valid::sheet(random, &size).bytes();
-    let from = random.pick(&[HEADER_BYTES, board_at(size.boards)]);
+    let from = random.pick(&[HEADER_BYTES, operation_at(&sheet, 0)]);
     for byte in &mut sheet[from..] {
         *byte = random.byte();
     }
@@ -57,11 +57,14 @@ fn random_fields(random: &mut Random) -> Vec<u8> {
     let boards = (0..random.between(1, 3)).map(|_| Board {
         attached: random.pick(&[0, 16_384, 16_384, 16_385]),
         inbox: random.pick(&[0, 4, 8]),
+        room: random.pick(&[0, 1, 5, 16_384, 16_384, 16_385]),
         script: random_script(random),
     });
+    let boards = boards.collect();
     Sheet {
+        edition: random.pick(&Edition::BOTH),
         communicators: 2,
-        boards: boards.collect(),
+        boards,
         payload: vec![7; 6],
     }
     .bytes()

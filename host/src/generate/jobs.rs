@@ -1,12 +1,14 @@
 //! Sheets whose messages mostly have a receive: boards that talk to each
 //! other, so that steps, matches, buffers and deliveries are tried. Few
 //! ranks, tags and communicators, so that several messages fit one receive. Some
-//! have probes before their receives, and queries (document 02, K9).
+//! have probes before their receives, and queries (document 02, K9), and some are
+//! of edition 2 (K6).
 
+use super::editions::add_rooms;
 use super::probes::receive_as_told;
 use super::script::{Surroundings, Writer};
 use crate::layout::kind::{BUFFERED, READY, RECEIVE, STANDARD, SYNCHRONOUS};
-use crate::layout::{ANY, BSEND_OVERHEAD, MOST_ATTACHED, MOST_BOARDS};
+use crate::layout::{Edition, ANY, BSEND_OVERHEAD, MOST_ATTACHED, MOST_BOARDS};
 use crate::layout::{MOST_INBOX_TOTAL, MOST_LENGTH, MOST_OPERATIONS, MOST_PAYLOAD};
 use crate::random::Random;
 use crate::sheet::{Board, Operation, Sheet};
@@ -40,6 +42,35 @@ struct Manner {
     queries: usize,
     /// The kinds that sends are drawn from.
     kinds: &'static [u8],
+    rooms: Rooms,
+}
+
+/// Whether a job is of edition 2, and what rooms its boards have.
+#[derive(Clone, Copy, PartialEq, Eq)]
+enum Rooms {
+    /// Edition 1.
+    None,
+    /// Each is 0 or covers all standard sends of its board.
+    Covering,
+    Any,
+}
+
+impl Rooms {
+    fn any(random: &mut Random, calm: bool) -> Rooms {
+        match random.chance(45) {
+            false => Rooms::None,
+            true if calm => Rooms::Covering,
+            true => Rooms::Any,
+        }
+    }
+
+    fn add_to(self, sheet: &mut Sheet, random: &mut Random) {
+        match self {
+            Rooms::None => {}
+            Rooms::Covering => add_rooms(sheet, true, random),
+            Rooms::Any => add_rooms(sheet, false, random),
+        }
+    }
 }
 
 const ALL_KINDS: &[u8] = &[
@@ -52,12 +83,15 @@ const ALL_KINDS: &[u8] = &[
     READY,
 ];
 const WITHOUT_READY: &[u8] = &[STANDARD, BUFFERED, BUFFERED, SYNCHRONOUS];
+const STANDARD_MOSTLY: &[u8] = &[STANDARD, STANDARD, STANDARD, BUFFERED];
+const UNBUFFERED: &[u8] = &[STANDARD, SYNCHRONOUS];
 
 /// Two of them differ only in the high byte.
 const TAGS: [u16; 4] = [0, 256, 1, 32_767];
 
 fn manner(random: &mut Random, calm: bool) -> Manner {
     let without_ready = calm || random.chance(50);
+    let rooms = Rooms::any(random, calm);
     Manner {
         boards: random.between(2, 4),
         messages: random.between(1, 14),
@@ -86,9 +120,11 @@ fn manner(random: &mut Random, calm: bool) -> Manner {
             false => random.pick(&[0, 0, 20, 50]),
         },
         kinds: match without_ready {
-            true => random.pick(&[WITHOUT_READY, &[BUFFERED], &[STANDARD, SYNCHRONOUS]]),
+            _ if rooms == Rooms::Any && random.chance(40) => STANDARD_MOSTLY,
+            true => random.pick(&[WITHOUT_READY, STANDARD_MOSTLY, &[BUFFERED], UNBUFFERED]),
             false => random.pick(&[ALL_KINDS, &[READY], &[BUFFERED, READY]]),
         },
+        rooms,
     }
 }
 
@@ -110,6 +146,22 @@ pub fn nearly_calm(random: &mut Random) -> Sheet {
         any_source_probes: 80,
         queries,
         nonblocking: random.pick(&[20, 60, 100]),
+        ..manner(random, true)
+    };
+    sheet(random, &manner)
+}
+
+/// Calm, but for rooms that may cover some standard sends of a board only. Where
+/// such a send has no receive, whether its board goes on may depend on the
+/// order.
+pub fn nearly_covered(random: &mut Random) -> Sheet {
+    let manner = Manner {
+        boards: random.between(3, 4),
+        messages: random.between(4, 14),
+        stray: random.pick(&[10, 20, 30]),
+        displaced: random.pick(&[0, 10, 40]),
+        kinds: STANDARD_MOSTLY,
+        rooms: Rooms::Any,
         ..manner(random, true)
     };
     sheet(random, &manner)
@@ -178,13 +230,16 @@ fn sheet(random: &mut Random, manner: &Manner) -> Sheet {
             attached: attached(random, manner, &script),
             inbox: inbox as u16,
             script,
+            ..Board::default()
         }
     });
     let mut sheet = Sheet {
+        edition: Edition::First,
         communicators: manner.communicators as u16,
         boards: boards.collect(),
         payload: random.bytes(manner.payload),
     };
+    manner.rooms.add_to(&mut sheet, random);
     if manner.probes > 0 && manner.messages < MANY && random.chance(70) {
         receive_as_told(&mut sheet);
     }

@@ -1,11 +1,16 @@
 //! Both sides of every limit of document 01, each on a sheet that is
 //! otherwise right, with the answer written down by hand.
 
-use super::script::held_at_end;
-use crate::layout::kind::{BUFFERED, RECEIVE, STANDARD, WAIT};
-use crate::layout::{board, header, ANY, HEADER_BYTES, MOST_BOARDS, MOST_OPERATIONS};
+use super::limit_sheets::{
+    all_slots, as_of, behind, field, freed, in_second, last_board, last_operations, of_length,
+    probe, query, receive, rooms, script, second, send, shifted, shifted_second, six_and_five,
+    six_and_room, sized, sized_second, wait, with, ROOM,
+};
+use crate::layout::kind::{RECEIVE, STANDARD, WAIT};
+use crate::layout::Edition::{First, Second};
+use crate::layout::{board, header, ANY, HEADER_BYTES};
 use crate::random::Random;
-use crate::sheet::{add_word, board_at, mend_crc, Board, Operation, Sheet};
+use crate::sheet::Operation;
 
 /// Name, sheet, number and place of the answer.
 pub type Limit = (&'static str, fn() -> Vec<u8>, u32, u64);
@@ -14,126 +19,6 @@ pub type Limit = (&'static str, fn() -> Vec<u8>, u32, u64);
 pub fn any(random: &mut Random) -> Vec<u8> {
     let (_, sheet, _, _) = random.pick(LIMITS);
     sheet()
-}
-
-/// The payload and each inbox of the sheets for operation fields: more than
-/// the longest message.
-const ROOM: u16 = 5000;
-
-/// Two boards and two communicators; the operation stands at index 1.
-fn field(operation: Operation) -> Vec<u8> {
-    let empty = Operation::send(BUFFERED, 0, 0, 0, 0);
-    freed(&[&[empty], &[operation]])
-}
-
-/// The operation stands at index 2, behind a receive that holds slot 31 and
-/// the area from 100 to 109.
-fn behind(operation: Operation) -> Vec<u8> {
-    let held = Operation::receive(0, 0, 100, 10).nonblocking(31);
-    let empty = Operation::send(BUFFERED, 0, 0, 0, 0);
-    freed(&[&[empty], &[held, operation]])
-}
-
-/// Each script ends with waits for all slots that it holds.
-fn freed(scripts: &[&[Operation]]) -> Vec<u8> {
-    let scripts: Vec<Vec<Operation>> = scripts.iter().map(|each| with_waits(each)).collect();
-    let scripts: Vec<&[Operation]> = scripts.iter().map(Vec::as_slice).collect();
-    script(&scripts)
-}
-
-fn with_waits(script: &[Operation]) -> Vec<Operation> {
-    let waits = held_at_end(script).into_iter().map(Operation::wait);
-    script.iter().copied().chain(waits).collect()
-}
-
-fn script(scripts: &[&[Operation]]) -> Vec<u8> {
-    let mut sheet = Sheet::of_scripts(scripts, ROOM).attach(0, 16_384);
-    sheet.communicators = 2;
-    sheet.payload = vec![3; usize::from(ROOM)];
-    sheet.bytes()
-}
-
-fn send() -> Operation {
-    Operation::send(STANDARD, 0, 0, 0, 8)
-}
-
-fn receive() -> Operation {
-    Operation::receive(0, 0, 0, 8)
-}
-
-fn wait() -> Operation {
-    Operation::wait(31)
-}
-
-fn query() -> Operation {
-    Operation::query(31)
-}
-
-fn probe() -> Operation {
-    Operation::probe(0, 0)
-}
-
-fn sized(boards: usize, communicators: u16, operations: usize, payload: usize) -> Vec<u8> {
-    let mut entries = vec![Board::default(); boards];
-    if let Some(first) = entries.first_mut() {
-        first.attached = 16_384;
-        first.script = vec![Operation::send(BUFFERED, 0, 0, 0, 0); operations];
-    }
-    Sheet {
-        communicators,
-        boards: entries,
-        payload: vec![5; payload],
-    }
-    .bytes()
-}
-
-fn rooms(attached: u16, inboxes: [u16; 2]) -> Vec<u8> {
-    let mut sheet = Sheet::of_scripts(&[&[], &[]], 0).attach(1, attached);
-    sheet.boards[0].inbox = inboxes[0];
-    sheet.boards[1].inbox = inboxes[1];
-    sheet.bytes()
-}
-
-/// Sixteen boards, the last one changed.
-fn last_board(change: fn(&mut Board)) -> Vec<u8> {
-    let empty: &[Operation] = &[];
-    let mut sheet = Sheet::of_scripts(&[empty; MOST_BOARDS], 0);
-    change(&mut sheet.boards[MOST_BOARDS - 1]);
-    sheet.bytes()
-}
-
-/// The most operations on one board, the last ones given.
-fn last_operations(last: &[Operation]) -> Vec<u8> {
-    let others = vec![Operation::send(BUFFERED, 0, 0, 0, 0); MOST_OPERATIONS - last.len()];
-    script(&[&[&others, last].concat(), &[]])
-}
-
-/// Two boards of one operation each with an amount added to a field.
-fn shifted(at: usize, amount: i32) -> Vec<u8> {
-    let mut sheet = script(&[&[send()], &[send()]]);
-    add_word(&mut sheet, at, amount);
-    mend_crc(&mut sheet);
-    sheet
-}
-
-fn of_length(change: i32) -> Vec<u8> {
-    let mut sheet = script(&[&[send()], &[send()]]);
-    let length = sheet.len() as i32 + change;
-    sheet.resize(length as usize, 9);
-    mend_crc(&mut sheet);
-    sheet
-}
-
-fn with(operation: Operation, change: fn(&mut Operation)) -> Operation {
-    let mut changed = operation;
-    change(&mut changed);
-    changed
-}
-
-/// A nonblocking receive in each slot, the highest first.
-fn all_slots() -> Vec<Operation> {
-    let receive = |slot: u16| Operation::receive(0, 0, slot, 1).nonblocking(slot);
-    (0..32).rev().map(receive).collect()
 }
 
 #[rustfmt::skip]
@@ -166,6 +51,33 @@ pub const LIMITS: &[Limit] = &[
     ("one byte less", || of_length(-1), 3, 0),
     ("length kept", || of_length(0), 0, 0),
     ("one byte more", || of_length(1), 3, 0),
+    // Refusals 2 and 3 of edition 2 (document 02, K6).
+    ("P 1 of edition 2", || sized_second(1, 2, 3), 0, 0),
+    ("P 16 of edition 2", || sized_second(16, 2, 3), 0, 0),
+    ("P 17 of edition 2", || sized_second(17, 2, 3), 2, 0),
+    ("N 0 of edition 2", || sized_second(16, 0, 0), 0, 0),
+    ("N 2,049 of edition 2", || sized_second(1, 2049, 0), 2, 0),
+    ("L 16,385 of edition 2", || sized_second(1, 0, 16_385), 2, 0),
+    ("edition 2, all at the limit", || sized_second(16, 2048, 16_384), 0, 0),
+    ("edition 1 as it is", || as_of(First, [None; 3]), 0, 0),
+    ("edition 2 as it is", || as_of(Second, [None; 3]), 0, 0),
+    ("operation table of edition 2 in 1", || as_of(First, [Some(10), None, None]), 3, 0),
+    ("operation table of edition 1 in 2", || as_of(Second, [Some(8), None, None]), 3, 0),
+    ("operation table between, edition 1", || as_of(First, [Some(9), None, None]), 3, 0),
+    ("operation table between, edition 2", || as_of(Second, [Some(9), None, None]), 3, 0),
+    ("entries of 9 bytes", || as_of(First, [Some(9); 3]), 3, 0),
+    ("entries of 11 bytes", || as_of(First, [Some(11); 3]), 3, 0),
+    ("entries of 12 bytes", || as_of(Second, [Some(12); 3]), 3, 0),
+    ("payload of edition 2 in 1", || as_of(First, [None, Some(10), None]), 3, 0),
+    ("payload of edition 1 in 2", || as_of(Second, [None, Some(8), None]), 3, 0),
+    ("length of edition 2 in 1", || as_of(First, [None, None, Some(10)]), 3, 0),
+    ("length of edition 1 in 2", || as_of(Second, [None, None, Some(8)]), 3, 0),
+    ("offsets of edition 2, length of 1", || as_of(First, [Some(10), Some(10), None]), 3, 0),
+    ("offsets of edition 1, length of 2", || as_of(Second, [Some(8), Some(8), None]), 3, 0),
+    ("table and length of edition 2 in 1", || as_of(First, [Some(10), None, Some(10)]), 3, 0),
+    ("table and length of edition 1 in 2", || as_of(Second, [Some(8), None, Some(8)]), 3, 0),
+    ("edition 1 read as 2", || as_of(First, [Some(10); 3]), 5, 2),
+    ("edition 2 read as 1", || as_of(Second, [Some(8); 3]), 5, 2),
     // Refusal 5.
     ("attached 16,384", || rooms(16_384, [0, 0]), 0, 0),
     ("attached 16,385", || rooms(16_385, [0, 0]), 5, 1),
@@ -174,15 +86,33 @@ pub const LIMITS: &[Limit] = &[
     ("one inbox of 16,384", || rooms(0, [16_384, 0]), 0, 0),
     ("one inbox of 16,385", || rooms(0, [16_385, 0]), 5, 0),
     ("inboxes that sum to 0 in 16 bits", || rooms(0, [1, 65_535]), 5, 1),
-    ("first operation of rank 0", || shifted(board_at(0) + board::FIRST, 1), 5, 0),
-    ("first operation of rank 1", || shifted(board_at(1) + board::FIRST, 1), 5, 1),
-    ("count of rank 0", || shifted(board_at(0) + board::COUNT, 1), 5, 1),
-    ("count of rank 1 one less", || shifted(board_at(1) + board::COUNT, -1), 5, 2),
-    ("count of rank 1 one more", || shifted(board_at(1) + board::COUNT, 1), 5, 2),
-    ("count of rank 1 65,535", || shifted(board_at(1) + board::COUNT, 65_534), 5, 2),
+    ("first operation of rank 0", || shifted(First.entry_at(0) + board::FIRST, 1), 5, 0),
+    ("first operation of rank 1", || shifted(First.entry_at(1) + board::FIRST, 1), 5, 1),
+    ("count of rank 0", || shifted(First.entry_at(0) + board::COUNT, 1), 5, 1),
+    ("count of rank 1 one less", || shifted(First.entry_at(1) + board::COUNT, -1), 5, 2),
+    ("count of rank 1 one more", || shifted(First.entry_at(1) + board::COUNT, 1), 5, 2),
+    ("count of rank 1 65,535", || shifted(First.entry_at(1) + board::COUNT, 65_534), 5, 2),
     ("attached of rank 15", || last_board(|board| board.attached = 16_385), 5, 15),
     ("inbox of rank 15", || last_board(|board| board.inbox = 16_385), 5, 15),
     ("script of rank 15", || last_board(|board| board.script = vec![send()]), 0, 0),
+    // Refusal 5 of edition 2 (document 02, K6).
+    ("all rooms 16,384", || second(|_| {}), 0, 0),
+    ("all rooms 0", || second(|boards| boards.iter_mut().for_each(|board| board.room = 0)), 0, 0),
+    ("room 16,385 of rank 0", || second(|boards| boards[0].room = 16_385), 5, 0),
+    ("room 16,385 of rank 7", || second(|boards| boards[7].room = 16_385), 5, 7),
+    ("room 16,385 of rank 15", || second(|boards| boards[15].room = 16_385), 5, 15),
+    ("room 65,535", || second(|boards| boards[3].room = 65_535), 5, 3),
+    ("two rooms", || second(|boards| (boards[9].room, boards[4].room) = (16_385, 16_385)), 5, 4),
+    ("room before attached", || second(|boards| (boards[2].room, boards[3].attached) = (16_385, 16_385)), 5, 2),
+    ("attached before room", || second(|boards| (boards[2].attached, boards[3].room) = (16_385, 16_385)), 5, 2),
+    ("room before inbox", || second(|boards| (boards[2].room, boards[3].inbox) = (16_385, 16_385)), 5, 2),
+    ("inbox before room", || second(|boards| (boards[2].inbox, boards[3].room) = (16_385, 16_385)), 5, 2),
+    ("room and attached", || second(|boards| (boards[6].room, boards[6].attached) = (16_385, 16_385)), 5, 6),
+    ("attached of edition 2", || second(|boards| boards[15].attached = 16_385), 5, 15),
+    ("inboxes of edition 2", || second(|boards| (boards[1].inbox, boards[15].inbox) = (1, 16_384)), 5, 15),
+    ("room one above of rank 1", || shifted_second(board::ROOM, 16_384), 5, 1),
+    ("first operation of edition 2", || shifted_second(board::FIRST, 1), 5, 1),
+    ("count of edition 2", || shifted_second(board::COUNT, 1), 5, 2),
     // Refusal 6.
     ("kind 0", || field(with(send(), |o| o.kind = 0)), 6, 1),
     ("kind 1", || field(with(send(), |o| o.kind = 1)), 0, 0),
@@ -352,14 +282,10 @@ pub const LIMITS: &[Limit] = &[
     ("forgotten early, 6 late", || script(&[&[send().nonblocking(0)], &[with(send(), |o| o.zero = 1)]]), 6, 1),
     // The lowest number first, then the first place.
     ("6 early, 5 late", six_and_five, 5, 1),
+    ("6 early, room late", six_and_room, 5, 1),
+    ("6 of edition 2", || in_second(&[&[send()], &[send(), with(send(), |o| o.zero = 1)]]), 6, 2),
+    ("7 of edition 2", || in_second(&[&[send()], &[send(), wait()]]), 7, 2),
     ("7 early, 6 late", || script(&[&[wait()], &[with(send(), |o| o.zero = 1)]]), 6, 1),
     ("two of 6", || script(&[&[with(send(), |o| o.kind = WAIT)], &[with(send(), |o| o.zero = 1)]]), 6, 0),
     ("two of 7", || script(&[&[send(), wait()], &[wait()]]), 7, 1),
 ];
-
-fn six_and_five() -> Vec<u8> {
-    let wrong = with(send(), |o| o.zero = 1);
-    Sheet::of_scripts(&[&[wrong], &[]], 0)
-        .attach(1, 16_385)
-        .bytes()
-}

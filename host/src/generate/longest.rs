@@ -1,8 +1,9 @@
 //! Jobs of the most operations, at times one less or one more; or with a last
 //! operation that stops the job, or lets the order matter (document 02, K11);
 //! that is nonblocking, or frees the slot of the one before it (K7), which may be
-//! queried between (K9).
+//! queried between (K9). Some are of edition 2, with any rooms (K6).
 
+use super::editions::add_rooms;
 use crate::layout::kind::{BUFFERED, READY};
 use crate::layout::{ANY, MOST_LENGTH, MOST_OPERATIONS};
 use crate::random::Random;
@@ -37,6 +38,9 @@ pub fn any(random: &mut Random) -> Vec<u8> {
         }
         8 => script.push(Operation::probe(ANY, ANY)),
         _ => script.push(last),
+    }
+    if random.chance(30) {
+        add_rooms(&mut sheet, false, random);
     }
     sheet.bytes()
 }

@@ -5,6 +5,7 @@
 //! - `size`: how large a sheet becomes.
 //! - `script`: right scripts for a board.
 //! - `valid`: whole right sheets.
+//! - `editions`: rooms for standard sends, which make a sheet one of edition 2.
 //! - `jobs`: right sheets whose messages mostly have a receive.
 //! - `damage`: one wrong field, or one at the edge of its range.
 //! - `garbage`: random bytes, truncations, extensions, random fields.
@@ -12,13 +13,16 @@
 //! - `forgotten`: slots that are held when their script ends.
 //! - `probes`: probes and queries, right and just wrong.
 //! - `premise`: sheets for which the order cannot matter, and nearly such ones.
-//! - `limits`: both sides of every limit, the sheet otherwise right.
+//! - `limits`: both sides of every limit, the sheet otherwise right;
+//!   `limit_sheets`: those sheets.
 //! - `longest`: jobs of the most operations.
 
 mod damage;
+mod editions;
 pub mod forgotten;
 mod garbage;
 pub mod jobs;
+mod limit_sheets;
 mod limits;
 mod longest;
 mod premise;

@@ -4,6 +4,7 @@
 //! whether that slot is still held there. Most scripts get the waits that
 //! they lack in the end (document 02, K7).
 
+use super::editions::add_rooms;
 use super::script::free_all;
 use super::{size, valid};
 use crate::layout::{kind, SLOTS};
@@ -55,6 +56,9 @@ pub fn all_slots_held(random: &mut Random) -> Vec<u8> {
         put_behind(&mut sheet.boards[rank], random);
     }
     free_most(&mut sheet, random);
+    if random.chance(30) {
+        add_rooms(&mut sheet, false, random);
+    }
     sheet.bytes()
 }
 

@@ -1,8 +1,9 @@
-//! Whole right sheets.
+//! Whole right sheets of both editions.
 
+use super::editions::add_rooms;
 use super::script::{Surroundings, Writer};
 use super::size::Size;
-use crate::layout::MOST_ATTACHED;
+use crate::layout::{Edition, MOST_ATTACHED};
 use crate::random::Random;
 use crate::sheet::{Board, Sheet};
 
@@ -27,13 +28,19 @@ pub fn sheet(random: &mut Random, size: &Size) -> Sheet {
             attached: attached(random),
             inbox: inbox as u16,
             script: writer.finish(random),
+            ..Board::default()
         }
     });
-    Sheet {
+    let mut sheet = Sheet {
+        edition: Edition::First,
         communicators: size.communicators,
         boards: boards.collect(),
         payload: random.bytes(size.payload),
+    };
+    if random.chance(40) {
+        add_rooms(&mut sheet, false, random);
     }
+    sheet
 }
 
 fn attached(random: &mut Random) -> u16 {

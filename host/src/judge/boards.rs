@@ -1,7 +1,8 @@
-//! The board table and refusal 5 (document 01, The sheet, byte by byte).
+//! The board table and refusal 5 (document 01, The sheet, byte by byte; the
+//! room for standard sends: document 02, K6).
 
 use super::header::Header;
-use crate::layout::{self, board as at, word};
+use crate::layout::{self, board as at, word, Edition};
 
 /// What the other refusals need of a board entry.
 #[derive(Clone, Copy, Default)]
@@ -10,6 +11,24 @@ pub struct Board {
     pub count: usize,
     pub attached: usize,
     pub inbox: usize,
+    /// For standard sends. Edition 1 has none, which is as if it were 0: then
+    /// nothing is buffered.
+    pub room: usize,
+}
+
+impl Board {
+    fn read(row: &[u8], edition: Edition) -> Board {
+        Board {
+            first: usize::from(word(row, at::FIRST)),
+            count: usize::from(word(row, at::COUNT)),
+            attached: usize::from(word(row, at::ATTACHED)),
+            inbox: usize::from(word(row, at::INBOX)),
+            room: match edition {
+                Edition::First => 0,
+                Edition::Second => usize::from(word(row, at::ROOM)),
+            },
+        }
+    }
 }
 
 /// The boards in rank order; entries from P on are empty.
@@ -26,18 +45,14 @@ impl Boards {
         let mut inboxes = 0;
         let rows = header
             .board_entries(sheet)
-            .chunks_exact(layout::BOARD_BYTES);
+            .chunks_exact(header.edition.entry_bytes());
         for (rank, row) in rows.enumerate() {
-            let board = Board {
-                first: usize::from(word(row, at::FIRST)),
-                count: usize::from(word(row, at::COUNT)),
-                attached: usize::from(word(row, at::ATTACHED)),
-                inbox: usize::from(word(row, at::INBOX)),
-            };
+            let board = Board::read(row, header.edition);
             inboxes += board.inbox;
             if board.first != operations
                 || board.attached > layout::MOST_ATTACHED
                 || inboxes > layout::MOST_INBOX_TOTAL
+                || board.room > layout::MOST_ROOM
             {
                 return Err(rank as u64);
             }

@@ -1,10 +1,12 @@
 //! The header of a sheet and refusals 1 to 3, whose place is always 0.
 
-use crate::layout::{self, header as at, word};
+use crate::layout::{self, header as at, word, Edition};
 
 /// The header's four numbers, in their ranges, of a sheet whose offsets and
-/// length agree with them.
+/// length agree with them and with its edition.
 pub struct Header {
+    /// Told by the offset of the operation table (document 02, K6).
+    pub edition: Edition,
     pub boards: usize,
     pub communicators: u16,
     pub operations: usize,
@@ -17,19 +19,22 @@ impl Header {
         if sheet.len() < layout::HEADER_BYTES {
             return Err(1);
         }
+        let number = |place| usize::from(word(sheet, place));
+        let boards = number(at::BOARDS);
+        let told = Edition::told_by(boards, number(at::OPERATION_TABLE));
         let header = Header {
-            boards: usize::from(word(sheet, at::BOARDS)),
+            edition: told.unwrap_or_default(),
+            boards,
             communicators: word(sheet, at::COMMUNICATORS),
-            operations: usize::from(word(sheet, at::OPERATIONS)),
-            payload: usize::from(word(sheet, at::PAYLOAD_LENGTH)),
+            operations: number(at::OPERATIONS),
+            payload: number(at::PAYLOAD_LENGTH),
         };
         if !header.in_range() {
             return Err(2);
         }
-        let offset = |place| usize::from(word(sheet, place));
-        let agrees = offset(at::BOARD_TABLE) == layout::HEADER_BYTES
-            && offset(at::OPERATION_TABLE) == header.operation_table()
-            && offset(at::PAYLOAD) == header.payload_start()
+        let agrees = told.is_some()
+            && number(at::BOARD_TABLE) == layout::HEADER_BYTES
+            && number(at::PAYLOAD) == header.payload_start()
             && sheet.len() == header.payload_start() + header.payload;
         if agrees {
             Ok(header)
@@ -46,11 +51,11 @@ impl Header {
     }
 
     fn operation_table(&self) -> usize {
-        layout::HEADER_BYTES + layout::BOARD_BYTES * self.boards
+        self.edition.entry_at(self.boards)
     }
 
     fn payload_start(&self) -> usize {
-        self.operation_table() + layout::OPERATION_BYTES * self.operations
+        self.edition.operation_at(self.boards, self.operations)
     }
 
     /// The bytes of the board table.

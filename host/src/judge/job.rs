@@ -1,5 +1,6 @@
 //! The state of a job and its steps (document 01, How a board steps; probes and
-//! queries: document 02, K9). Plain lists, searched from the front.
+//! queries: document 02, K9; rooms for standard sends: K6). Plain lists, searched
+//! from the front.
 
 use super::script::Script;
 use crate::layout::{kind, SLOTS};
@@ -9,6 +10,7 @@ use crate::layout::{kind, SLOTS};
 pub enum State {
     NotEntered,
     Pending,
+    /// In an attached buffer or in a room for standard sends.
     Buffered,
     Matched {
         partner: usize,
@@ -44,13 +46,22 @@ pub enum Stop {
     NotReady,
 }
 
+/// What is charged and not yet matched, and the most of it after any step.
+#[derive(Clone, Copy, Default)]
+pub struct Account {
+    pub in_use: usize,
+    pub peak: usize,
+}
+
 #[derive(Clone, Default)]
 pub struct Board {
     pub finished: usize,
     /// The next operation is blocking and its initiating step is done.
     in_waiting_half: bool,
-    pub in_use: usize,
-    pub peak: usize,
+    /// Of buffered sends.
+    pub attached: Account,
+    /// Of standard sends.
+    pub standard: Account,
     /// The operation that holds each slot.
     holders: [Option<usize>; SLOTS],
 }
@@ -175,7 +186,9 @@ impl<'a> Job<'a> {
             }
         }
         for board in &mut self.boards {
-            board.peak = board.peak.max(board.in_use);
+            for account in [&mut board.attached, &mut board.standard] {
+                account.peak = account.peak.max(account.in_use);
+            }
         }
     }
 
@@ -250,28 +263,45 @@ impl<'a> Job<'a> {
         }
         match script.operations[index].kind {
             kind::BUFFERED => {
-                let in_use = self.boards[rank].in_use + script.operations[index].charge();
+                let in_use = self.boards[rank].attached.in_use + script.operations[index].charge();
                 if in_use > script.boards[rank].attached {
                     self.stop = Some((Stop::Overflow, index));
                     return;
                 }
-                self.boards[rank].in_use = in_use;
+                self.boards[rank].attached.in_use = in_use;
                 self.states[index] = State::Buffered;
             }
             kind::READY => {
                 self.stop = Some((Stop::NotReady, index));
                 return;
             }
+            kind::STANDARD if self.has_room(rank, index) => {
+                let length = script.operations[index].length;
+                self.boards[rank].standard.in_use += usize::from(length);
+                self.states[index] = State::Buffered;
+            }
             _ => self.states[index] = State::Pending,
         }
         self.messages.push(index);
     }
 
+    /// Whether a standard send fits beside the standard bytes in use. A room of
+    /// 0 has no room for an empty one either (document 02, K6).
+    fn has_room(&self, rank: usize, index: usize) -> bool {
+        let room = self.script.boards[rank].room;
+        let length = usize::from(self.script.operations[index].length);
+        room > 0 && self.boards[rank].standard.in_use + length <= room
+    }
+
     /// Both are complete; a charged message is no longer charged.
     fn match_up(&mut self, message: usize, receive: usize) {
         if self.states[message] == State::Buffered {
-            let charge = self.script.operations[message].charge();
-            self.boards[self.script.rank_of[message]].in_use -= charge;
+            let sent = &self.script.operations[message];
+            let board = &mut self.boards[self.script.rank_of[message]];
+            match sent.kind {
+                kind::STANDARD => board.standard.in_use -= usize::from(sent.length),
+                _ => board.attached.in_use -= sent.charge(),
+            }
         }
         let cut = self.script.operations[message].length > self.script.operations[receive].length;
         self.cut_messages += usize::from(cut);

@@ -36,7 +36,8 @@ mod script;
 mod services;
 
 pub use check::check;
-pub use orders::{after, each_probe, each_search, order_by, After, Probe, Search};
+pub use orders::{after, each_probe, each_search, each_standard_send, order_by};
+pub use orders::{After, Probe, Search, StandardSend};
 pub use premise::premise;
 pub use rooms::{Needs, Rooms, SCRATCH_ROOM};
 pub use services::{follow, needs, run};

@@ -41,7 +41,8 @@ pub fn check(sheet: &[u8]) -> Answer {
 
 /// "No receive from any source and no ready send. On each board the charges of
 /// all its buffered sends, were none matched, add up to at most its attached
-/// size." And no probe from any source and no query (document 02, K9).
+/// size." And no probe from any source and no query (document 02, K9). For
+/// edition 2 "each board's room to be 0 or to cover all its standard sends" (K6).
 pub fn premise(sheet: &[u8]) -> Answer {
     let checked = check(sheet);
     if checked.number != 0 {
@@ -59,8 +60,12 @@ pub fn premise(sheet: &[u8]) -> Answer {
     if let Some(rank) = (0..p).find(|&rank| view.charges(rank) > view.board(rank, 4)) {
         return Answer::refusal(22, rank);
     }
-    match (0..n).find(|&index| view.kind(index) == 8) {
-        Some(index) => Answer::refusal(23, index),
+    if let Some(index) = (0..n).find(|&index| view.kind(index) == 8) {
+        return Answer::refusal(23, index);
+    }
+    let covers = |rank| view.room(rank) == 0 || view.room(rank) >= view.standard_lengths(rank);
+    match (0..p).find(|&rank| !covers(rank)) {
+        Some(rank) => Answer::refusal(24, rank),
         None => Answer::refusal(0, 0),
     }
 }
@@ -98,16 +103,39 @@ impl View<'_> {
         1 <= p && p <= 16 && 1 <= c && c <= 8 && n <= 2048 && l <= 16384
     }
 
+    /// "The operation table's offset is 16+10P, which tells the editions apart"
+    /// (document 02, K6).
+    fn second_edition(&self) -> bool {
+        self.word(8) == 16 + 10 * self.word(0)
+    }
+
+    fn entry_bytes(&self) -> u64 {
+        match self.second_edition() {
+            true => 10,
+            false => 8,
+        }
+    }
+
     fn offsets_and_length(&self) -> bool {
-        let (p, n, l) = (self.word(0), self.word(4), self.word(12));
+        let (n, l) = (self.word(4), self.word(12));
+        let operations = 16 + self.entry_bytes() * self.word(0);
         self.word(6) == 16
-            && self.word(8) == 16 + 8 * p
-            && self.word(10) == 16 + 8 * p + 16 * n
-            && self.0.len() as u64 == 16 + 8 * p + 16 * n + l
+            && self.word(8) == operations
+            && self.word(10) == operations + 16 * n
+            && self.0.len() as u64 == operations + 16 * n + l
     }
 
     fn board(&self, rank: u64, field: u64) -> u64 {
-        self.word(16 + 8 * rank + field)
+        self.word(16 + self.entry_bytes() * rank + field)
+    }
+
+    /// "The last number being the standard room"; without one nothing is
+    /// buffered, as with room 0.
+    fn room(&self, rank: u64) -> u64 {
+        match self.second_edition() {
+            true => self.board(rank, 8),
+            false => 0,
+        }
     }
 
     fn counts_before(&self, rank: u64) -> u64 {
@@ -122,10 +150,11 @@ impl View<'_> {
         self.board(rank, 0) == self.counts_before(rank)
             && self.board(rank, 4) <= 16384
             && self.inboxes_through(rank) <= 16384
+            && self.room(rank) <= 16384
     }
 
     fn at(&self, index: u64) -> u64 {
-        16 + 8 * self.word(0) + 16 * index
+        16 + self.entry_bytes() * self.word(0) + 16 * index
     }
 
     fn kind(&self, index: u64) -> u64 {
@@ -193,12 +222,22 @@ impl View<'_> {
         places.iter().all(|&place| self.field(index, place) == 0)
     }
 
+    /// The operations of this kind of a board.
+    fn of_kind(&self, rank: u64, kind: u64) -> impl Iterator<Item = u64> + '_ {
+        let mine = (0..self.word(4)).filter(move |&index| self.rank_of(index) == rank);
+        mine.filter(move |&index| self.kind(index) == kind)
+    }
+
     /// The charges of all buffered sends of a board: of each the length and 32
     /// (document 02, K2).
     fn charges(&self, rank: u64) -> u64 {
-        let mine = (0..self.word(4)).filter(|&index| self.rank_of(index) == rank);
-        let buffered = mine.filter(|&index| self.kind(index) == 2);
+        let buffered = self.of_kind(rank, 2);
         buffered.map(|index| self.field(index, 12) + 32).sum()
+    }
+
+    fn standard_lengths(&self, rank: u64) -> u64 {
+        let standard = self.of_kind(rank, 1);
+        standard.map(|index| self.field(index, 12)).sum()
     }
 
     /// The operations of the same board before this one.

@@ -2,6 +2,7 @@
 
 use super::job::Job;
 use super::script::Script;
+use crate::layout::kind;
 
 /// The order that `choose` makes of an accepted sheet: it is asked before
 /// each step which of the able ranks steps, and stops with none. The order
@@ -124,6 +125,38 @@ pub fn each_probe(sheet: &[u8], order: &[u8], mut show: impl FnMut(Probe)) {
             });
         }
         last[rank] = Some(steps);
+    });
+}
+
+/// The initiating step of a standard send (document 02, K6).
+pub struct StandardSend {
+    pub rank: usize,
+    pub operation: usize,
+    /// It finds a receive that fits.
+    pub matched: bool,
+    /// What its board has in use before: standard bytes, and of its buffer.
+    pub in_use: usize,
+    pub buffer_in_use: usize,
+}
+
+/// Shows the standard sends of an order that follow accepts, one after the
+/// other.
+pub fn each_standard_send(sheet: &[u8], order: &[u8], mut show: impl FnMut(StandardSend)) {
+    let script = Script::read(sheet);
+    walk(&script, order, |job, _, rank| {
+        let Some((operation, receives)) = job.searches(rank) else {
+            return;
+        };
+        if script.operations[operation].kind == kind::STANDARD {
+            let board = &job.boards[rank];
+            show(StandardSend {
+                rank,
+                operation,
+                matched: receives.iter().any(|&other| script.fits(operation, other)),
+                in_use: board.standard.in_use,
+                buffer_in_use: board.attached.in_use,
+            });
+        }
     });
 }
 

@@ -1,6 +1,8 @@
-//! The report's bytes (document 01, The report).
+//! The report's bytes (document 01, The report; board rows of edition 2:
+//! document 02, K6).
 
 use super::job::{Job, State, Stop};
+use crate::layout::Edition;
 
 const NONE: u16 = 65_535;
 
@@ -56,13 +58,17 @@ fn header(job: &Job, out: &mut Vec<u8>) {
 
 fn board_row(job: &Job, rank: usize, out: &mut Vec<u8>) {
     let board = &job.boards[rank];
-    words(out, &[board.finished, board.in_use, board.peak]);
+    let (attached, standard) = (board.attached, board.standard);
+    words(out, &[board.finished, attached.in_use, attached.peak]);
     let state = match (job.finished(rank), job.able(rank)) {
         (true, _) => 2,
         (false, true) => 1,
         (false, false) => 0,
     };
     out.extend([state, 0]);
+    if job.script.edition == Edition::Second {
+        words(out, &[standard.in_use, standard.peak]);
+    }
 }
 
 fn operation_row(job: &Job, index: usize, out: &mut Vec<u8>) {

@@ -1,6 +1,8 @@
 //! The rooms lent to *follow* and *run*, and refusal 8 (document 01, When the
 //! desk says no).
 
+use crate::layout::Edition;
+
 /// Bytes of scratch, whatever the sheet.
 pub const SCRATCH_ROOM: usize = 65_536;
 
@@ -14,6 +16,7 @@ pub struct Rooms<'a> {
 /// The numbers of an accepted sheet that rooms depend on.
 #[derive(Clone, Copy)]
 pub struct Needs {
+    pub edition: Edition,
     pub boards: usize,
     pub operations: usize,
     /// All inboxes together.
@@ -22,7 +25,7 @@ pub struct Needs {
 
 impl Needs {
     pub fn report(&self) -> usize {
-        16 + 8 * self.boards + 12 * self.operations
+        self.edition.report_bytes(self.boards, self.operations)
     }
 
     pub fn order_out(&self) -> usize {

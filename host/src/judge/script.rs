@@ -4,9 +4,10 @@ use super::boards::{Board, Boards};
 use super::header::Header;
 use super::operations::{self, Operation};
 use super::rooms::Needs;
-use crate::layout::{kind, ANY};
+use crate::layout::{kind, Edition, ANY};
 
 pub struct Script<'a> {
+    pub edition: Edition,
     pub boards: Vec<Board>,
     pub operations: Vec<Operation>,
     /// The rank whose script holds each operation.
@@ -22,6 +23,7 @@ impl<'a> Script<'a> {
         let boards = boards.in_rank_order().to_vec();
         let table = header.operation_entries(sheet);
         let mut script = Script {
+            edition: header.edition,
             boards,
             operations: Vec::new(),
             rank_of: Vec::new(),
@@ -70,6 +72,7 @@ impl<'a> Script<'a> {
 
     pub fn needs(&self) -> Needs {
         Needs {
+            edition: self.edition,
             boards: self.boards.len(),
             operations: self.operations.len(),
             inbox: self.inbox_total(),

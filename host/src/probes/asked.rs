@@ -1,10 +1,11 @@
 //! What the answers of check and premise show.
 
 use super::has;
+use crate::command::note;
 use crate::layout::{header, kind, operation as at, word, ANY, MOST_TAG, SLOTS};
 use crate::requests_left::reading::{holder, left, operations, queries, rank_of};
 use crate::requests_left::reading::{script, slot_of, takes, waits};
-use crate::sheet::{boards, field_of, kind_of, operation_at};
+use crate::sheet::{field_of, kind_of, operation_at};
 use jamturret::lent::Answer;
 
 /// What `asked` finds: of refusal 6, of refusal 7, of accepted sheets, and of
@@ -76,7 +77,7 @@ pub fn asked(sheet: &[u8], check: Answer, premise: Answer) -> [bool; ASKED.len()
 
 /// The numbers of an operation behind its kind.
 fn numbers(sheet: &[u8], index: usize) -> [u16; 8] {
-    let start = operation_at(boards(sheet), index);
+    let start = operation_at(sheet, index);
     let flag = u16::from(sheet[start + at::FLAG]);
     let [peer, communicator, zero, tag, offset, length, slot] = [
         at::PEER,
@@ -148,7 +149,7 @@ fn accepted(sheet: &[u8]) -> [bool; ACCEPTED] {
             let (source, tag) = (any(index, at::PEER), any(index, at::TAG));
             let communicator = field_of(sheet, index, at::COMMUNICATOR);
             let on_last = last > 0 && communicator == last;
-            super::note(&mut found, &[source, tag, !source && !tag, on_last]);
+            note(&mut found, &[source, tag, !source && !tag, on_last]);
         } else if queries(sheet, index) {
             let of = holder(sheet, slot_of(sheet, index), index);
             found[4] |= queried.contains(&of);

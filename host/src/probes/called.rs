@@ -5,6 +5,7 @@ use super::pairs::{paired, PAIRS};
 use super::queried::{queried, QUERIED};
 use super::standing::{refused, standing, REFUSED, STANDING};
 use super::told::{told, TOLD};
+use crate::command::names;
 use crate::compare::{Call, Outcome};
 use crate::judge;
 use crate::layout::kind;
@@ -13,20 +14,6 @@ const ALL: usize = TOLD.len() + PAIRS.len() + QUERIED.len() + STANDING.len() + R
 
 /// What `called` finds.
 pub const CALLED: [&str; ALL] = names([&TOLD, &PAIRS, &QUERIED, &STANDING, &REFUSED]);
-
-const fn names(parts: [&[&'static str]; 5]) -> [&'static str; ALL] {
-    let mut all = [""; ALL];
-    let (mut part, mut at, mut count) = (0, 0, 0);
-    while part < parts.len() {
-        if at < parts[part].len() {
-            all[count] = parts[part][at];
-            (at, count) = (at + 1, count + 1);
-        } else {
-            (part, at) = (part + 1, 0);
-        }
-    }
-    all
-}
 
 /// Which cases the outcome of a call makes.
 pub fn called(sheet: &[u8], call: &Call, outcome: &Outcome) -> [bool; ALL] {

@@ -26,10 +26,3 @@ pub use pairs::probe_then_receive;
 pub fn has(sheet: &[u8], kind: u8) -> bool {
     operations(sheet).any(|index| kind_of(sheet, index) == kind)
 }
-
-/// Notes the cases that were made.
-fn note(found: &mut [bool], made: &[bool]) {
-    for (found, made) in found.iter_mut().zip(made) {
-        *found |= made;
-    }
-}

@@ -2,16 +2,17 @@
 //! its board, on its communicator, that asks for the source and the tag that
 //! the probe told, takes the very message that it told.
 
+use crate::command::note;
 use crate::desk::row;
 use crate::judge;
 use crate::layout::{kind, operation, word, ANY};
 use crate::requests_left::reading::{operations, rank_of, receives, script};
-use crate::sheet::{boards, field_of, kind_of, operation_at};
+use crate::sheet::{field_of, kind_of, operation_at};
 
 /// The probes of such pairs whose receive is entered.
 pub fn pairs(sheet: &[u8], report: &[u8]) -> Vec<usize> {
     let paired = |&index: &usize| {
-        let (told, next) = (row(report, index), index + 1);
+        let (told, next) = (row(sheet, report, index), index + 1);
         let probe = kind_of(sheet, index) == kind::PROBE && told[0] == 5;
         let field = |at, field| field_of(sheet, at, field);
         probe
@@ -20,7 +21,7 @@ pub fn pairs(sheet: &[u8], report: &[u8]) -> Vec<usize> {
             && field(next, operation::COMMUNICATOR) == field(index, operation::COMMUNICATOR)
             && field(next, operation::PEER) == usize::from(word(told, 4))
             && field(next, operation::TAG) == usize::from(word(told, 6))
-            && row(report, next)[0] > 0
+            && row(sheet, report, next)[0] > 0
     };
     operations(sheet).filter(paired).collect()
 }
@@ -33,15 +34,15 @@ pub fn probe_then_receive(sheet: &[u8], order: &[u8], report: &[u8]) -> Result<u
         return Ok(0);
     }
     for &probe in &pairs {
-        let (row, next) = (row(report, probe), row(report, probe + 1));
-        if next[0] != 3 || next[4..10] != row[4..10] {
+        let [told, next] = [probe, probe + 1].map(|at| row(sheet, report, at));
+        if next[0] != 3 || next[4..10] != told[4..10] {
             return Err(format!("Probe-then-receive: rows of {probe} and the next"));
         }
     }
     let mut other = None;
     judge::each_probe(sheet, order, |probe| {
         let at = probe.operation;
-        let partner = |at| usize::from(word(row(report, at), 2));
+        let partner = |at| usize::from(word(row(sheet, report, at), 2));
         if pairs.contains(&at) && partner(at + 1) != probe.message {
             other = Some(at);
         }
@@ -76,7 +77,7 @@ pub fn paired(sheet: &[u8], order: &[u8], report: &[u8]) -> [bool; PAIRS.len()] 
             return;
         }
         let any = |field| field_of(sheet, at, field) == usize::from(ANY);
-        let flag = sheet[operation_at(boards(sheet), at + 1) + operation::FLAG];
+        let flag = sheet[operation_at(sheet, at + 1) + operation::FLAG];
         let fitting = probe
             .pending
             .iter()
@@ -91,9 +92,9 @@ pub fn paired(sheet: &[u8], order: &[u8], report: &[u8]) -> [bool; PAIRS.len()] 
             // The receive is the next step of its board.
             order.get(probe.steps + 1) != Some(&order[probe.steps]),
             fitting.count() > 1,
-            row(report, at + 1)[1] == 1,
+            row(sheet, report, at + 1)[1] == 1,
         ];
-        super::note(&mut found, &shows);
+        note(&mut found, &shows);
     });
     found
 }

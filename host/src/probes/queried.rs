@@ -1,8 +1,8 @@
 //! What the rows of queries in a report show.
 
-use super::note;
-use crate::desk::row;
-use crate::layout::{kind, word};
+use crate::command::note;
+use crate::desk::{figure, row};
+use crate::layout::{board_row, kind, word};
 use crate::requests_left::reading::{holder, operations, queries};
 use crate::requests_left::reading::{rank_of, script, slot_of, state_of, takes, waits};
 use crate::sheet::kind_of;
@@ -55,7 +55,7 @@ fn finished(sheet: &[u8], report: &[u8]) -> Vec<Query> {
     let query = |index| Query {
         index,
         of: holder(sheet, slot_of(sheet, index), index).expect("the sheet is right"),
-        complete: word(row(report, index), 8) == 1,
+        complete: word(row(sheet, report, index), 8) == 1,
     };
     ended.map(query).collect()
 }
@@ -69,7 +69,7 @@ fn alone(sheet: &[u8], report: &[u8], query: &Query) -> [bool; OF_ONE] {
         .find(names)
         .expect("the sheet is right");
     let waited = state_of(sheet, report, freed) == 5;
-    let finished = usize::from(word(report, 16 + 8 * rank));
+    let finished = figure(sheet, report, rank, board_row::FINISHED);
     let kind = kind_of(sheet, query.of);
     let (buffered, receive) = (kind == kind::BUFFERED, kind == kind::RECEIVE);
     let taken = |at: usize| takes(sheet, at) && slot_of(sheet, at) == slot;

@@ -1,6 +1,6 @@
 //! What the steps of probes show.
 
-use super::note;
+use crate::command::note;
 use crate::judge::{self, Probe};
 use crate::layout::{kind, operation, ANY};
 use crate::requests_left::reading::rank_of;

@@ -3,6 +3,7 @@
 use super::reading::{held_at_once_and_again, left, operations, rank_of};
 use super::reading::{receives, script, slot_of, takes, waits, Left, Seven};
 use crate::buffers::Buffered;
+use crate::editions::Standard;
 use crate::layout::{kind, operation, ANY, SLOTS};
 use crate::sheet::{boards, field_of, kind_of};
 use jamturret::lent::Answer;
@@ -40,12 +41,13 @@ pub const ASKED: [&str; TOLD + NOT_TOLD + ACCEPTED + PREMISE] = [
     "premise, forgotten and not 21",
     "premise, forgotten and not 22",
     "premise, forgotten and not 23",
+    "premise, forgotten and not 24",
 ];
 
 const TOLD: usize = 13;
 const NOT_TOLD: usize = 7;
 const ACCEPTED: usize = 3;
-const PREMISE: usize = 4;
+const PREMISE: usize = 5;
 
 /// Which cases the answers of check and premise make.
 pub fn asked(sheet: &[u8], check: Answer, premise: Answer) -> [bool; ASKED.len()] {
@@ -60,7 +62,7 @@ pub fn asked(sheet: &[u8], check: Answer, premise: Answer) -> [bool; ASKED.len()
             Seven::Forgotten => {
                 first = told(sheet, place);
                 let number = premise_else(sheet);
-                fourth = [20, 21, 22, 23].map(|other| premise == check && number == other);
+                fourth = [20, 21, 22, 23, 24].map(|other| premise == check && number == other);
             }
             rule => second = not_told(sheet, place, rule),
         },
@@ -153,6 +155,8 @@ fn premise_else(sheet: &[u8]) -> u32 {
         22
     } else if operations(sheet).any(|index| of_kind(index, kind::QUERY)) {
         23
+    } else if (0..boards(sheet)).any(|rank| Standard::of(sheet, rank).uncovered()) {
+        24
     } else {
         0
     }

@@ -3,8 +3,9 @@
 use super::reading::{held_at_once_and_again, holder, operations};
 use super::reading::{script, slot_of, state_of, takes, waits, Seven};
 use crate::compare::{Call, Outcome};
+use crate::desk::figure;
 use crate::judge::SCRATCH_ROOM;
-use crate::layout::{kind, word};
+use crate::layout::{board_row, kind, word};
 use crate::sheet::{boards, kind_of};
 use jamturret::lent::Answer;
 
@@ -92,7 +93,7 @@ fn waits_for(sheet: &[u8], report: &[u8], wanted: fn(u8) -> bool) -> bool {
         |&index: &usize| wanted(kind_of(sheet, index)) && state_of(sheet, report, index) == 1;
     (0..boards(sheet)).any(|rank| {
         let script = script(sheet, rank);
-        let next = script.start + usize::from(word(report, 16 + 8 * rank));
+        let next = script.start + figure(sheet, report, rank, board_row::FINISHED);
         let wait = script.contains(&next) && waits(sheet, next);
         let awaited = wait.then(|| holder(sheet, slot_of(sheet, next), next));
         awaited.flatten().filter(pending).is_some()

@@ -11,13 +11,13 @@ mod called;
 pub mod reading;
 
 use crate::layout::{kind, word};
-use crate::sheet::kind_of;
+use crate::sheet::{kind_of, room_of};
 
 pub use asked::{asked, ASKED};
 pub use called::{called, CALLED};
 
 /// No-request-left (document 02, K7): in a report with verdict 1 every receive
-/// is matched, every send too, or buffered and of that kind, every other
+/// is matched, every send too, or in a buffer or a room (K6), every other
 /// operation is finished, and no pending receive is counted.
 pub fn no_request_left(sheet: &[u8], report: &[u8]) -> Result<(), String> {
     if report[0] != 1 {
@@ -28,6 +28,7 @@ pub fn no_request_left(sheet: &[u8], report: &[u8]) -> Result<(), String> {
         match kind_of(sheet, *index) {
             kind::WAIT | kind::PROBE | kind::QUERY => state == 5,
             kind::BUFFERED => state == 2 || state == 3,
+            kind::STANDARD if state == 2 => room_of(sheet, reading::rank_of(sheet, *index)) > 0,
             _ => state == 3,
         }
     };

@@ -1,6 +1,7 @@
 //! Slots and areas as the bytes of a sheet have them. Its header and board
 //! table are right; fields of operations may be wrong, and then name no slot.
 
+use crate::desk;
 use crate::layout::{board, header, kind, operation, word, SLOTS};
 use crate::sheet::{boards, entry_of, field_of, kind_of, operation_at};
 use std::ops::Range;
@@ -42,7 +43,7 @@ pub fn queries(sheet: &[u8], index: usize) -> bool {
 }
 
 pub fn takes(sheet: &[u8], index: usize) -> bool {
-    let flag = sheet[operation_at(boards(sheet), index) + operation::FLAG];
+    let flag = sheet[operation_at(sheet, index) + operation::FLAG];
     let transfer = (kind::STANDARD..=kind::RECEIVE).contains(&kind_of(sheet, index));
     transfer && flag == 1 && slot_of(sheet, index) < SLOTS
 }
@@ -122,7 +123,7 @@ impl Seven {
 
 /// The state of an operation in a report.
 pub fn state_of(sheet: &[u8], report: &[u8], index: usize) -> u8 {
-    report[16 + 8 * boards(sheet) + 12 * index]
+    desk::row(sheet, report, index)[0]
 }
 
 /// Whether a board of a right sheet holds all 32 slots at once, and whether one

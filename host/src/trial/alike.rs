@@ -1,14 +1,16 @@
 //! Document 01, What is pinned down, the claim about whole orders (demand 3),
 //! tried through the library: whole orders end alike with each other and with
 //! run, and two neighbouring steps of able boards may change places. *Alike*
-//! sets the peaks aside. On sheets that only their any-source probes or their
-//! queries leave out (document 02, K9), orders that end otherwise are counted.
+//! sets the peaks aside, in edition 2 those of both accounts (document 02, K6).
+//! On sheets that only their any-source probes, their queries (K9) or their rooms
+//! leave out, orders that end otherwise are counted.
 
 use super::{orders, Trial};
 use crate::buffers::Buffered;
 use crate::compare::Call;
 use crate::desk::Desk;
-use crate::layout::{kind, operation, ANY};
+use crate::editions::Standard;
+use crate::layout::{board_row, kind, operation, word, Edition, ANY};
 use crate::random::Random;
 use crate::requests_left::reading::{operations, state_of};
 use crate::sheet::{boards, field_of, kind_of};
@@ -23,6 +25,8 @@ pub struct Against {
     /// A probe from any source.
     probes: bool,
     queries: bool,
+    /// A board whose room is above 0 and does not cover its standard sends.
+    rooms: bool,
 }
 
 pub fn against(sheet: &[u8]) -> Against {
@@ -40,19 +44,22 @@ pub fn against(sheet: &[u8]) -> Against {
             || (0..boards(sheet)).any(uncovered),
         probes: from_any(kind::PROBE),
         queries: probes::has(sheet, kind::QUERY),
+        rooms: (0..boards(sheet)).any(|rank| Standard::of(sheet, rank).uncovered()),
     }
 }
 
 impl Against {
     pub fn nothing(&self) -> bool {
-        !self.transfers && !self.probes && !self.queries
+        !self.transfers && !self.probes && !self.queries && !self.rooms
     }
 
-    /// 0 if only any-source probes are against it, 1 if only queries are.
-    pub fn probes_or_queries(&self) -> Option<usize> {
-        match (self.transfers, self.probes, self.queries) {
-            (false, true, false) => Some(0),
-            (false, false, true) => Some(1),
+    /// 0 if only any-source probes are against it, 1 if only queries are, 2 if
+    /// only rooms are.
+    pub fn one_thing(&self) -> Option<usize> {
+        match (self.transfers, self.probes, self.queries, self.rooms) {
+            (false, true, false, false) => Some(0),
+            (false, false, true, false) => Some(1),
+            (false, false, false, true) => Some(2),
             _ => None,
         }
     }
@@ -71,6 +78,7 @@ impl Trial<'_> {
             }
             self.counts.whole_orders += 1;
             self.counts.probed_orders += u64::from(probed(self.sheet, &ran.report));
+            self.counts.roomy_orders += u64::from(used_room(&ran));
         }
         for _ in 0..EXCHANGES {
             self.exchange(&before)?;
@@ -118,6 +126,8 @@ impl Trial<'_> {
                 || one.desk.without_peaks() == other.desk.without_peaks());
         self.counts.exchanged[usize::from(one.answer != Answer::SUCCESS)] += 1;
         self.counts.exchanged_probes += u64::from(probes);
+        let accepted = one.answer == Answer::SUCCESS;
+        self.counts.exchanged_roomy += u64::from(accepted && used_room(&one.desk));
         match alike {
             true => Ok(()),
             false => Err(format!("{call}: steps {index} and the next exchanged")),
@@ -130,6 +140,13 @@ fn probed(sheet: &[u8], report: &[u8]) -> bool {
     let probe = |index: &usize| kind_of(sheet, *index) == kind::PROBE;
     let mut probes = operations(sheet).filter(probe);
     probes.any(|index| state_of(sheet, report, index) == 5)
+}
+
+/// Whether a report tells of bytes that were in a room.
+fn used_room(desk: &Desk) -> bool {
+    let boards = usize::from(word(&desk.report, 6));
+    let peak = |rank| desk.figure(rank, board_row::STANDARD_PEAK);
+    desk.edition == Edition::Second && (0..boards).any(|rank| peak(rank) > 0)
 }
 
 /// Whether one of the two steps from an index on is a probe's.

@@ -4,7 +4,7 @@ use super::{KINDS, ORDERS};
 use crate::command::tally;
 use crate::compare::{Call, Outcome};
 use crate::layout::word;
-use crate::{areas, buffers, lengths, probes, requests_left, searched};
+use crate::{areas, buffers, editions, lengths, probes, requests_left, searched};
 use jamturret::lent::Answer;
 use std::fmt;
 
@@ -37,6 +37,8 @@ pub struct Counts {
     requests: [u64; requests_left::CALLED.len()],
     /// Calls that make each case around probes and queries.
     probes: Many<{ probes::CALLED.len() }>,
+    /// Calls that make each case around the second edition and its rooms.
+    editions: Many<{ editions::CALLED.len() }>,
     /// Calls that make each case around the search of a waiting list.
     searched: [u64; searched::CALLED.len()],
     steps: u64,
@@ -53,10 +55,15 @@ pub struct Counts {
     pub exchanged: [u64; 2],
     /// Exchanges of which one step is a probe's.
     pub exchanged_probes: u64,
+    /// Whole orders and exchanges after which a room was in use.
+    pub roomy_orders: u64,
+    pub exchanged_roomy: u64,
+    /// Calls of edition 1 that were made of the twin in edition 2 too.
+    pub twins: u64,
     /// Orders that do not end alike with run, of sheets that only their
-    /// any-source probes leave out of the claim, and that only their queries
-    /// do.
-    pub differing: [u64; 2],
+    /// any-source probes leave out of the claim, that only their queries do, and
+    /// that only their rooms do.
+    pub differing: [u64; 3],
 }
 
 impl Counts {
@@ -65,6 +72,8 @@ impl Counts {
         let requests = requests_left::called(sheet, call, outcome);
         tally(&mut self.requests, requests);
         tally(&mut self.probes.0, probes::called(sheet, call, outcome));
+        let editions = editions::called(sheet, call, outcome);
+        tally(&mut self.editions.0, editions);
         let Answer { number, place } = outcome.answer;
         if number == 0 {
             let report = &outcome.desk.report;
@@ -107,8 +116,8 @@ impl Counts {
 
     /// The smallest count of a verdict, a refusal, a place of 8, an order that
     /// 9 refuses, a case around a buffer, a capacity, a request, a probe or a
-    /// query or a search, and of orders that the claim about them speaks of or
-    /// leaves out: 0 if something was not reached.
+    /// query, a room or a search, and of orders that the claim about them speaks
+    /// of or leaves out: 0 if something was not reached.
     pub fn least(&self) -> u64 {
         let columns = (0..COLUMNS).map(|column| self.column(column));
         let refused = self.orders.iter().map(|row| row[1] + row[2]);
@@ -116,8 +125,10 @@ impl Counts {
         let others = self.short.into_iter().chain(self.exchanged);
         let others = others.chain(self.buffers).chain(self.areas);
         let others = others.chain(self.requests).chain(self.probes.0);
+        let others = others.chain(self.editions.0).chain([self.twins]);
         let others = others.chain(self.searched).chain(self.differing);
         let others = others.chain([self.probed_orders, self.exchanged_probes]);
+        let others = others.chain([self.roomy_orders, self.exchanged_roomy]);
         columns.chain(wrong).chain(others).min().unwrap_or(0)
     }
 
@@ -160,11 +171,19 @@ impl fmt::Display for Counts {
         let lengths = lengths::CALLED.iter().zip(self.lengths);
         let requests = requests_left::CALLED.iter().zip(self.requests);
         let probes = probes::CALLED.iter().zip(self.probes.0);
+        let editions = editions::CALLED.iter().zip(self.editions.0);
         let searched = searched::CALLED.iter().zip(self.searched);
         let cases = buffers.chain(areas).chain(lengths).chain(requests);
-        for (name, count) in cases.chain(probes).chain(searched) {
-            writeln!(out, "{name:<40}{count:>8}")?;
+        for (name, count) in cases.chain(probes).chain(editions).chain(searched) {
+            writeln!(out, "{name:<48}{count:>8}")?;
         }
+        self.claims(out)
+    }
+}
+
+impl Counts {
+    /// What was tried of the claims about all reports and about orders.
+    fn claims(&self, out: &mut fmt::Formatter) -> fmt::Result {
         writeln!(
             out,
             "{} steps, {} matches, {} of them cut; {} pending messages and {} pending receives left",
@@ -183,13 +202,18 @@ impl fmt::Display for Counts {
         )?;
         writeln!(
             out,
-            "of these {} orders and {} exchanges have a probe's step",
-            self.probed_orders, self.exchanged_probes
+            "of these {} orders and {} exchanges have a probe's step, {} and {} used a room",
+            self.probed_orders, self.exchanged_probes, self.roomy_orders, self.exchanged_roomy
         )?;
         writeln!(
             out,
-            "orders that end otherwise than run: {} by probes from any source, {} by queries",
-            self.differing[0], self.differing[1]
+            "{} calls of edition 1 end as those of edition 2 with rooms of 0",
+            self.twins
+        )?;
+        let [probes, queries, rooms] = self.differing;
+        writeln!(
+            out,
+            "orders that end otherwise than run: {probes} by probes from any source, {queries} by queries, {rooms} by rooms"
         )
     }
 }

@@ -9,8 +9,8 @@ use crate::traffic;
 type Generator = fn(&mut Random) -> Vec<u8>;
 
 /// Name, how many of a hundred cases, generator.
-pub const KINDS: [(&str, usize, Generator); 11] = [
-    ("calm, small", 22, |random| {
+pub const KINDS: [(&str, usize, Generator); 12] = [
+    ("calm, small", 20, |random| {
         jobs::small(random, true).bytes()
     }),
     ("calm, medium", 4, |random| {
@@ -20,7 +20,10 @@ pub const KINDS: [(&str, usize, Generator); 11] = [
     ("calm but for probes or queries", 5, |random| {
         jobs::nearly_calm(random).bytes()
     }),
-    ("wild, small", 28, |random| {
+    ("calm but for rooms", 6, |random| {
+        jobs::nearly_covered(random).bytes()
+    }),
+    ("wild, small", 26, |random| {
         jobs::small(random, false).bytes()
     }),
     ("wild, medium", 6, |random| {
@@ -30,10 +33,10 @@ pub const KINDS: [(&str, usize, Generator); 11] = [
         jobs::large(random, false).bytes()
     }),
     ("forgotten requests", 2, forgotten::job),
-    ("traffic", 1, any_traffic),
+    ("traffic", 2, any_traffic),
     ("bench job", 5, bench_job),
     // Right ones of every size, damaged ones and garbage.
-    ("as for check", 25, as_for_check),
+    ("as for check", 22, as_for_check),
 ];
 
 /// The kind (an index into `KINDS`) and sheet of a case.
@@ -53,7 +56,7 @@ fn bench_job(random: &mut Random) -> Vec<u8> {
 
 /// The jobs that are timed: up to half of the most operations pending at once.
 fn any_traffic(random: &mut Random) -> Vec<u8> {
-    let operations = random.pick(&[32, 128, 1024, MOST_OPERATIONS]);
+    let operations = random.pick(&[32, 128, 1024, MOST_OPERATIONS, MOST_OPERATIONS]);
     let (_, sheet) = random.pick(&traffic::SHAPES);
     sheet(operations).bytes()
 }

@@ -16,14 +16,19 @@ mod rooms;
 use crate::compare::{self, Call, Outcome};
 use crate::desk::Desk;
 use crate::judge::{self, Needs};
+use crate::layout::Edition;
 use crate::random::Random;
-use crate::{probes, requests_left};
+use crate::sheet::edition;
+use crate::{editions, probes, requests_left};
 use jamturret::lent::Answer;
 
 pub use counts::Counts;
 pub use kinds::{sheet, KINDS};
 pub use orders::ORDERS;
 pub use rooms::Filler;
+
+/// How many of a hundred calls of edition 1 are made of the twin too.
+const TWINS: usize = 10;
 
 /// What is needed to see a difference again.
 pub struct Failure {
@@ -67,10 +72,7 @@ impl Trial<'_> {
         if against.nothing() && self.random.chance(40) {
             return self.orders_end_alike();
         }
-        if let Some(which) = against
-            .probes_or_queries()
-            .filter(|_| self.random.chance(60))
-        {
+        if let Some(which) = against.one_thing().filter(|_| self.random.chance(60)) {
             return self.orders_may_differ(which);
         }
         match self.random.chance(30) {
@@ -104,8 +106,8 @@ impl Trial<'_> {
         Ok(())
     }
 
-    /// Puts a call to all three, asks the outcome for No-request-left and
-    /// Probe-then-receive, and counts it.
+    /// Puts a call to all three, asks the outcome for what is promised of it,
+    /// and counts it.
     fn ask(&mut self, call: &Call, before: &Desk) -> Result<Outcome, String> {
         let outcome = compare::all(self.sheet, call, before, &mut self.random)
             .map_err(|text| format!("{call}: {text}"))?;
@@ -113,13 +115,30 @@ impl Trial<'_> {
             self.promises(call, &outcome)
                 .map_err(|text| format!("{call}: {text}"))?;
         }
+        if [0, 9].contains(&outcome.answer.number) {
+            self.twin(call, before, &outcome)
+                .map_err(|text| format!("{call}: {text}"))?;
+        }
         self.counts.call(self.kind, self.sheet, call, &outcome);
         Ok(outcome)
     }
 
-    /// What is promised of every report.
+    /// At times puts the same call of the twin in edition 2 to all three.
+    fn twin(&mut self, call: &Call, before: &Desk, first: &Outcome) -> Result<(), String> {
+        if edition(self.sheet) == Edition::Second || !self.random.chance(TWINS) {
+            return Ok(());
+        }
+        self.counts.twins += 1;
+        editions::same_as_first(self.sheet, before, first, |twin, before| {
+            compare::all(twin, call, before, &mut self.random)
+        })
+    }
+
+    /// What is promised of every report: No-request-left, Probe-then-receive,
+    /// and accounts that agree with the rows.
     fn promises(&mut self, call: &Call, outcome: &Outcome) -> Result<(), String> {
         let report = &outcome.desk.report;
+        editions::accounts_agree(self.sheet, report)?;
         requests_left::no_request_left(self.sheet, report)?;
         let order = call.order(outcome);
         let pairs = probes::probe_then_receive(self.sheet, order, report)?;

@@ -3,6 +3,7 @@
 
 use crate::desk::Desk;
 use crate::judge::{Needs, SCRATCH_ROOM};
+use crate::layout::Edition;
 use crate::random::Random;
 
 /// Bytes other than zero to fill rooms with.
@@ -29,9 +30,10 @@ impl Filler {
     }
 
     /// Rooms of these lengths, in the order of refusal 8.
-    fn desk(&self, lengths: [usize; 4], random: &mut Random) -> Desk {
+    fn desk(&self, edition: Edition, lengths: [usize; 4], random: &mut Random) -> Desk {
         let [inbox, report, order_out, scratch] = lengths.map(|length| self.room(length, random));
         Desk {
+            edition,
             inbox,
             report,
             order_out,
@@ -40,7 +42,7 @@ impl Filler {
     }
 
     pub fn exact(&self, needs: &Needs, random: &mut Random) -> Desk {
-        self.desk(lengths(needs), random)
+        self.desk(needs.edition, lengths(needs), random)
     }
 
     /// Mostly enough, at times with some left over, at times short.
@@ -51,13 +53,19 @@ impl Filler {
             5..=7 => lengths
                 .iter_mut()
                 .for_each(|length| *length += random.pick(&[0, 0, 1, 7, 100, MOST_EXCESS])),
+            // Enough for a report of edition 1.
+            8 if needs.edition == Edition::Second && random.chance(40) => {
+                lengths[1] = Edition::First.report_bytes(needs.boards, needs.operations);
+            }
+            // Order out, which run alone asks for, as often as the others
+            // together.
             8 => {
-                let length = &mut lengths[random.below(4)];
+                let length = &mut lengths[random.pick(&[0, 1, 2, 2, 2, 3])];
                 *length = length.saturating_sub(1);
             }
             _ => shorten(&mut lengths, random),
         }
-        self.desk(lengths, random)
+        self.desk(needs.edition, lengths, random)
     }
 
     /// For a sheet that is refused: any rooms, also none.
@@ -66,7 +74,7 @@ impl Filler {
         for length in &mut lengths {
             *length = random.pick(&[0, 0, 1, 50, 500, SCRATCH_ROOM]);
         }
-        self.desk(lengths, random)
+        self.desk(Edition::First, lengths, random)
     }
 }
 

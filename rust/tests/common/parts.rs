@@ -1,11 +1,12 @@
-//! Random parts of small sheets that pass check, and of sheets that forget
-//! requests: few boards, tags and communicators, so that much is matched.
+//! Random parts of small sheets of both editions that pass check, and of sheets
+//! that forget requests: few boards, tags and communicators, so that much is
+//! matched.
 
 use super::random::Random;
 use jamturret::limits::{MOST_SLOT, MOST_TAG};
 use jamturret::{
-    Board, BuildError, Mode, Operation, ProbeOperation, ReceiveOperation, SendOperation, Sheet,
-    Source, Tag,
+    Board, BuildError, Edition, Mode, Operation, ProbeOperation, ReceiveOperation, SendOperation,
+    Sheet, Source, Tag,
 };
 
 const MODES: [Mode; 4] = [
@@ -45,17 +46,27 @@ fn sheet(random: &mut Random, forgets: usize) -> Result<Sheet, BuildError> {
         payload: random.below(12),
         inbox: 0,
     };
+    let edition = random.pick(&[Edition::First, Edition::Second]);
     let boards = (0..sizes.boards).map(|_| {
         let inbox = random.below(12);
         Board {
             attached: random.below(80),
             inbox,
+            standard_room: standard_room(random, edition),
             script: script(random, &Sizes { inbox, ..sizes }, forgets),
         }
     });
     let boards = boards.collect();
     let payload = random.bytes(sizes.payload);
-    Sheet::build(sizes.communicators, boards, &payload)
+    Sheet::build_in(edition, sizes.communicators, boards, &payload)
+}
+
+/// For no message, for some or for all of a script.
+fn standard_room(random: &mut Random, edition: Edition) -> usize {
+    match edition {
+        Edition::First => 0,
+        Edition::Second => random.pick(&[0, 1, 6, 12, 100]),
+    }
 }
 
 fn script(random: &mut Random, sizes: &Sizes, forgets: usize) -> Vec<Operation> {

@@ -1,4 +1,4 @@
--- `account::take` meets its contract: what it builds is rules' charged place, or the account as it was. Assumes nothing.
+-- `account::take` meets its contract: what it builds is rules' charged figures, or the account as it was. Assumes nothing.
 use mathlib.Core.Path.{sym, _∙_}
 use native.Mathlib.Omega.{arith}
 use borrow.Author.Needs.{needs}

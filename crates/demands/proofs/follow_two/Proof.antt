@@ -1,5 +1,5 @@
--- `demands::follow_two` meets its contract: demand 3 of the two calls, by what each ensures. Assumes nothing.
-use Rattle.demands.specs.Calls.{follow-demands}
+-- `demands::follow_two` meets its contract: demands 2 and 3 of the two calls, and the two editions, by what each ensures. Assumes nothing.
+use Rattle.demands.specs.Calls.{two-follows}
 use borrow.Author.Needs.{needs}
 use Rattle.demands.proofs.follow_two.Statement.{statement}
 use Rattle.demands.proofs.follow_two.Tie as tie
@@ -10,8 +10,8 @@ returns c =
     let second = later .jamturret-follow2 in
     let k = later .before .before .before .before .before .before .before .before .before .before in
     let first = k .jamturret-follow in
-    let a = k .before .before .before .before .before .before .before .before .before .before .before .before .args in
-    follow-demands
+    let a = k .before .before .before .before .before .before .before .before .before .before .before .before .before .args in
+    two-follows
     (record {
       scratch = a .scratch .now;
       scratch-now = first .last .1 .1 .1 .1 .0;

@@ -134,7 +134,7 @@ module _ {s : Sheet} (g : Valid s) (A : Delivery-laws s) {arrival : ℕ → ℕ}
   -- a receive that is not matched has no complete half
   module _ (r : ℕ) (receives : is-receive (op s r) ≡ true) (free : state-at x r ≢ 3) (entered : Entered x r) where
     unmatched-incomplete : 2 ≤ state-at x r → ⊥
-    unmatched-incomplete l = omega (arith, h .unmatched r entered free, unmatched-receive s r receives)
+    unmatched-incomplete l = omega (arith, unmatched-receive s r receives (h .unmatched r entered free))
 
     unmatched-half : half-complete s x r ≡ true → ⊥
     unfolding half-complete complete

@@ -12,7 +12,8 @@ use lib.Dec.{ltb}
 use lib.ListN.{length, getD, replicate, length-replicate}
 use borrow.Author.Tests.{le-ltb}
 use Rattle.rules.specs.Sheet.{Sheet, op, board, P-of, N-of, rank-of, inbox-total}
-use Rattle.rules.specs.Job.{Job, Entry, Place, job, started, entry, bare-entry, place, entry-at, place-at}
+use Rattle.rules.specs.Job.{Job, Entry, Figures, Place, Store, in-attached, in-room, job, started, entry, bare-entry, figures, place, first-place}
+use Rattle.rules.specs.Job.{account, in-use-at, peak-at, entry-at, place-at}
 use Rattle.rules.specs.Step.{able, step, next-op, is-none}
 use Rattle.rules.specs.Order.{followed, follow-from, follow}
 use Rattle.rules.specs.Claims.{left-by}
@@ -45,25 +46,30 @@ module _ {s : Sheet} (g : Valid s) (lent : List ℕ) where
   unfolding bare-entry entry
   start-state j = ap (λ (e : Entry). e .state) (start-entry j)
 
-  start-place : (r : ℕ) → place-at x₀ r ≡ place 0 false 0 0
+  start-place : (r : ℕ) → place-at x₀ r ≡ first-place
   unfolding place-at started job
-  start-place r = getD-replicate-same (P-of s) r (place 0 false 0 0)
+  start-place r = getD-replicate-same (P-of s) r first-place
 
   pub start-finished : (r : ℕ) → place-at x₀ r .finished ≡ 0
-  unfolding place
+  unfolding first-place place
   start-finished r = ap (λ (p : Place). p .finished) (start-place r)
 
   pub start-waiting : (r : ℕ) → place-at x₀ r .waiting ≡ false
-  unfolding place
+  unfolding first-place place
   start-waiting r = ap (λ (p : Place). p .waiting) (start-place r)
 
-  start-in-use : (r : ℕ) → place-at x₀ r .in-use ≡ 0
-  unfolding place
-  start-in-use r = ap (λ (p : Place). p .in-use) (start-place r)
+  start-account : (w : Store) (r : ℕ) → account w (place-at x₀ r) ≡ figures 0 0
+  unfolding first-place place account
+  start-account in-attached r = ap (λ (p : Place). p .attached) (start-place r)
+  start-account in-room r = ap (λ (p : Place). p .room) (start-place r)
 
-  pub start-peak : (r : ℕ) → place-at x₀ r .peak ≡ 0
-  unfolding place
-  start-peak r = ap (λ (p : Place). p .peak) (start-place r)
+  start-in-use : (w : Store) (r : ℕ) → in-use-at w x₀ r ≡ 0
+  unfolding figures
+  start-in-use w r = ap (λ (a : Figures). a .in-use) (start-account w r)
+
+  pub start-peak : (w : Store) (r : ℕ) → peak-at w x₀ r ≡ 0
+  unfolding figures
+  start-peak w r = ap (λ (a : Figures). a .peak) (start-account w r)
 
   start-next : (r : ℕ) → next-op s x₀ r ≡ board s r .first
   unfolding next-op
@@ -107,7 +113,7 @@ module _ {s : Sheet} (g : Valid s) (lent : List ℕ) where
         placed =
             record {
               entries-long = length-replicate (N-of s) (bare-entry 0);
-              places-long = length-replicate (P-of s) (place 0 false 0 0);
+              places-long = length-replicate (P-of s) first-place;
               finished-most = λ r l. omega (arith, start-finished r);
               waiting-unfinished = λ r l w. true-not-false w (start-waiting r);
               waiting-not-no-half = λ r l w. true-not-false w (start-waiting r);
@@ -144,10 +150,10 @@ module _ {s : Sheet} (g : Valid s) (lent : List ℕ) where
               sorted = tt;
             };
         in-use-sum =
-            λ r l. start-in-use r ∙ sym
-            (sum-zero (N-of s) (charge-in s x₀ r) (λ j k. charge-none s x₀ r j (λ c. omega (arith, start-state j))));
-        in-use-peak = λ r. omega (arith, start-in-use r);
-        peak-attached = λ r l. omega (arith, start-peak r);
+            λ w r l. start-in-use w r ∙ sym
+            (sum-zero (N-of s) (charge-in w s x₀ r) (λ j k. charge-none w s x₀ r j (λ c. omega (arith, start-state j))));
+        in-use-peak = λ w r. omega (arith, start-in-use w r);
+        peak-size = λ w r l. omega (arith, start-peak w r);
         memory-replayed = sym (replayed-none s x₀ (N-of s) lent (λ j c. omega (arith, start-state j)));
         memory-long = refl;
         steps-sum = omega (arith, sum-zero (N-of s) (steps-done s x₀) start-steps);

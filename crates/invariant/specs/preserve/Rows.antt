@@ -2,7 +2,7 @@
 --   row-bare, row-message, row-receive                the three rows
 --   shaped-same, shaped-enters, shaped-matches        `Shaped` where no row changed, where one entered, after a match
 -- Assumes nothing.
-use mathlib.Core.Path.{_≡_, sym, ap, subst, _∙_}
+use mathlib.Core.Path.{_≡_, refl, sym, ap, subst, _∙_}
 use mathlib.Core.Logic.{_≢_}
 use mathlib.Core.Bool.{Bool, true, false, cond}
 use Prim.Native.Nat.{ℕ}
@@ -17,7 +17,8 @@ use Rattle.rules.specs.Job.{Job, Entry, entry, bare-entry, entry-at}
 use Rattle.rules.specs.Step.{is-cut}
 use Rattle.laws.specs.Tests.{true-not-false}
 use Rattle.invariant.specs.sheet.Kinds.{send-not-receive, send-not-only-half, receive-not-only-half}
-use Rattle.invariant.specs.Invariant.{Entered, state-at, partner-at, row-of, unmatched-state, Shaped}
+use Rattle.invariant.specs.Invariant.{Entered, state-at, partner-at, row-of, Unmatched, Shaped}
+use Rattle.invariant.specs.matching.UnmatchedState.{unmatched-same}
 use Rattle.invariant.specs.matching.RowChanges.{Enters, Matches, state-same, state-name, matches-message-state, matches-receive-state}
 
 -- the three rows
@@ -58,14 +59,16 @@ shaped-same {s} {x} y h e =
     record {
       row = λ j t. row-same s x y j (at j) (h .row j t);
       row-new = λ j e. at j ∙ h .row-new j (sym (state-same (at j)) ∙ e);
-      unmatched = λ j l d. state-same (at j) ∙ h .unmatched j (omega (arith, state-same (at j))) (λ c. d (state-same (at j) ∙ c));
+      unmatched =
+          λ j l d. unmatched-same refl (state-same (at j))
+          (h .unmatched j (omega (arith, state-same (at j))) (λ c. d (state-same (at j) ∙ c)));
       only-half-unmatched = λ j w c. h .only-half-unmatched j w (sym (state-same (at j)) ∙ c);
     }
   where
     at : (j : ℕ) → entry-at y j ≡ entry-at x j
     at j = ap (λ (z : List Entry). getD z j (bare-entry 0)) e
 
-pub shaped-enters : {s : Sheet} {x y : Job} {i v : ℕ} → Shaped s x → Enters x y i v → v ≡ unmatched-state (op s i) →
+pub shaped-enters : {s : Sheet} {x y : Job} {i v : ℕ} → Shaped s x → Enters x y i v → Unmatched s i v →
     (tells (op s i) ≡ false → entry-at y i ≡ bare-entry v) → Shaped s y
 shaped-enters {s} {x} {y} {i} {v} h E answers bare =
     record {
@@ -86,11 +89,11 @@ shaped-enters {s} {x} {y} {i} {v} h E answers bare =
     fresh j e (no d) = E .other j d ∙ h .row-new j (sym (state-same (E .other j d)) ∙ e)
     fresh j e (yes c) = absurd (omega (arith, state-name y c, E .state, E .some-state))
 
-    unmatched : (j : ℕ) → Entered y j → state-at y j ≢ 3 → Dec (j ≡ i) → state-at y j ≡ unmatched-state (op s j)
+    unmatched : (j : ℕ) → Entered y j → state-at y j ≢ 3 → Dec (j ≡ i) → Unmatched s j (state-at y j)
     unmatched j l d (no c) =
         let same = state-same (E .other j c) in
-        same ∙ h .unmatched j (omega (arith, same)) (λ k. d (same ∙ k))
-    unmatched j l d (yes e) = state-name y e ∙ E .state ∙ answers ∙ ap (λ (z : ℕ). unmatched-state (op s z)) (sym e)
+        unmatched-same refl same (h .unmatched j (omega (arith, same)) (λ k. d (same ∙ k)))
+    unmatched j l d (yes e) = unmatched-same e (state-name y e ∙ E .state) answers
 
     waits : (j : ℕ) → only-half (op s j) ≡ true → state-at y j ≡ 3 → Dec (j ≡ i) → ⊥
     waits j w c (no d) = h .only-half-unmatched j w (sym (state-same (E .other j d)) ∙ c)
@@ -127,10 +130,10 @@ shaped-matches {s} {x} {y} {m} {r} {i} h M =
         let same = other j (λ c. omega arith) in
         same ∙ h .row-new j (sym (state-same same) ∙ e)
 
-    unmatched : (j : ℕ) → Entered y j → state-at y j ≢ 3 → state-at y j ≡ unmatched-state (op s j)
+    unmatched : (j : ℕ) → Entered y j → state-at y j ≢ 3 → Unmatched s j (state-at y j)
     unmatched j l d =
         let same = state-same (other j d) in
-        same ∙ h .unmatched j (omega (arith, same)) (λ k. d (same ∙ k))
+        unmatched-same refl same (h .unmatched j (omega (arith, same)) (λ k. d (same ∙ k)))
 
     waits : (j : ℕ) → only-half (op s j) ≡ true → state-at y j ≡ 3 → Dec (j ≡ m) → Dec (j ≡ r) → ⊥
     waits j w c (yes e) _ = true-not-false (ap (λ (z : ℕ). only-half (op s z)) (sym e) ∙ w) (send-not-only-half (op s m) (M .sends))

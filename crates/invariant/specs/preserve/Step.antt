@@ -15,30 +15,31 @@ use native.Mathlib.Decide.{ℕ-discrete}
 use lib.Dec.{eqb}
 use lib.ListN.{length}
 use borrow.Author.Tests.{eqb-true, leb-true}
-use Rattle.rules.specs.Sheet.{Sheet, op, board, P-of, N-of, rank-of, inbox-total, is-send, is-receive, only-half, is-buffered, no-half, tells}
-use Rattle.rules.specs.Job.{Job, Stop, bare-entry, entry-at, place-at}
-use Rattle.rules.specs.Step.{able, step, next-op, in-waiting-half, half-ends, half-row, first-message, first-receive, fits-with, delivered, is-none, fits-buffer, charge-of}
+use Rattle.rules.specs.Sheet.{Sheet, op, board, P-of, N-of, rank-of, inbox-total, is-send, is-receive, only-half, is-standard, is-buffered, no-half, tells}
+use Rattle.rules.specs.Job.{Job, Stop, Store, in-use-at, bare-entry, entry-at, place-at}
+use Rattle.rules.specs.Step.{able, step, next-op, in-waiting-half, half-ends, half-row, first-message, first-receive, fits-with, delivered, is-none, fits-beside, kept-in, size-of, charge-of}
 use Rattle.laws.specs.Tests.{not-so, or-right, true-not-false}
 use Rattle.invariant.specs.sheet.Valid.{Valid}
 use Rattle.invariant.specs.deliveries.Laws.{Delivery-laws}
-use Rattle.invariant.specs.sheet.Kinds.{send-not-only-half, receive-not-only-half, receive-not-send, send-not-receive, send-not-tells, receive-not-tells}
+use Rattle.invariant.specs.sheet.Kinds.{send-not-only-half, receive-not-only-half, receive-not-send, send-not-receive, standard-send, receive-not-standard, receive-not-buffered, send-not-tells, receive-not-tells}
 use Rattle.laws.specs.Sums.{sum-below, sum-same}
 use Rattle.laws.specs.WaitingLists.{Holds, first-by-none, first-by-some}
-use Rattle.invariant.specs.Invariant.{Entered, state-at, unmatched-state, steps-done, charge-in, replayed, Pending-message, Pending-receive}
+use Rattle.invariant.specs.Invariant.{Entered, state-at, unmatched-state, is-kept, Unmatched, steps-done, charge-in, replayed, Pending-message, Pending-receive}
 use Rattle.invariant.specs.Invariant.{Stable, Arrived, Placed, Shaped, Telling, Posted-before, Arrived-before, Reached, Extended}
-use Rattle.invariant.specs.matching.RowChanges.{Grows, Enters, Matches, state-same, state-name, enters-grows, matches-grows}
+use Rattle.invariant.specs.matching.RowChanges.{Grows, Enters, Matches, state-same, state-name, enters-grows, matches-grows, matches-message-state, matches-receive-state}
 use Rattle.invariant.specs.matching.Stable.{Later, First, enter-stable, match-stable}
-use Rattle.invariant.specs.step.Places.{Next, moved-peak, able-next}
+use Rattle.invariant.specs.step.Places.{Next, next-fresh, moved-peak, able-next}
 use Rattle.invariant.specs.step.BufferUse.{Use, use-kept, use-charged, use-released}
 use Rattle.invariant.specs.step.Cases.{Ends-half, Ends-only-half, Posts, Pends, Match-step, Finds, Cause, Outcome, ends-half, ends-only-half, posts, pends, matches, stops}
 use Rattle.invariant.specs.step.CasesHold.{outcome}
+use Rattle.invariant.specs.preserve.Kept.{keeps-kept, is-kept-receive}
 use Rattle.invariant.specs.preserve.Places.{Ongoing, placed-step}
 use Rattle.invariant.specs.preserve.StepCount.{steps-step}
 use Rattle.invariant.specs.preserve.ArrivalOrder.{arrival-with, arrival-other, arrives-later, arrived-step}
 use Rattle.invariant.specs.preserve.Rows.{shaped-same, shaped-enters, shaped-matches}
 use Rattle.invariant.specs.preserve.WaitingLists.{queue-message, queue-message-other, queue-receive, queue-receive-other, queue-message-match, queue-receive-match}
 use Rattle.invariant.specs.preserve.Charges.{charge-same, charging-other, charging-enters, charging-matches}
-use Rattle.invariant.specs.matching.UnmatchedState.{unmatched-receive, unmatched-only-half}
+use Rattle.invariant.specs.matching.UnmatchedState.{unmatched-plain, receive-state, unmatched-only-half}
 use Rattle.invariant.specs.preserve.Memory.{replayed-length, replayed-rows, replayed-enters, replayed-matches}
 use Rattle.invariant.specs.preserve.SameRows.{Same-rows, rows-same, stable-same, arrived-same, messages-same, receives-same}
 use Rattle.invariant.specs.preserve.Told.{plain-row-is, telling-same, telling-enters, matches-tells-none, telling-matches, told-step}
@@ -53,12 +54,15 @@ record Parts {s : Sheet} {lent : List ℕ} {x : Job} (R : Reached s lent x) (y :
   stable : Stable s arrival y
   arrived : Arrived s arrival y
   shaped : Shaped s y
+  same-state : (j : ℕ) → Entered x j → state-at y j ≢ 3 → state-at y j ≡ state-at x j
+  new-state : Entered y i → (Entered x i → ⊥) → state-at y i ≢ 3 →
+      state-at y i ≡ unmatched-state (is-kept s (rank-of s i) i x) (op s i)
   telling : Telling s (R .arrival) x arrival y i
   tells-ends : tells (op s i) ≡ true → Entered y i → (Entered x i → ⊥) → half-ends s x i ≡ true
   messages : Holds (Arrived-before arrival) (Pending-message s y) (y .messages)
   receives : Holds (Posted-before s) (Pending-receive s y) (y .receives)
-  in-use-sum : (q : ℕ) → q < P-of s → place-at y q .in-use ≡ sum-below (N-of s) (charge-in s y q)
-  attached : (q : ℕ) → q < P-of s → place-at y q .in-use ≤ board s q .attached
+  in-use-sum : (w : Store) (q : ℕ) → q < P-of s → in-use-at w y q ≡ sum-below (N-of s) (charge-in w s y q)
+  fitting : (w : Store) (q : ℕ) → q < P-of s → in-use-at w y q ≤ size-of w (board s q)
   memory : y .memory ≡ replayed s y (N-of s) lent
 
 module _ {s : Sheet} (g : Valid s) (A : Delivery-laws s) {lent : List ℕ} (room : inbox-total s ≤ length lent) {x : Job}
@@ -78,8 +82,8 @@ module _ {s : Sheet} (g : Valid s) (A : Delivery-laws s) {lent : List ℕ} (room
               messages-held = parts .messages;
               receives-held = parts .receives;
               in-use-sum = parts .in-use-sum;
-              in-use-peak = λ q. omega (arith, moved-peak (T .moved) q);
-              peak-attached = λ q l. omega (arith, moved-peak (T .moved) q, parts .attached q l, R .peak-attached q l);
+              in-use-peak = λ w q. omega (arith, moved-peak (T .moved) w q);
+              peak-size = λ w q l. omega (arith, moved-peak (T .moved) w q, parts .fitting w q l, R .peak-size w q l);
               memory-replayed = parts .memory;
               memory-long =
                   ap (λ (z : List ℕ). length z) (parts .memory)
@@ -92,6 +96,9 @@ module _ {s : Sheet} (g : Valid s) (A : Delivery-laws s) {lent : List ℕ} (room
             };
         on = T .advances .on;
         back = T .advances .back;
+        complete-on = T .advances .complete-on;
+        same-state = parts .same-state;
+        new-state = parts .new-state;
         old = parts .old;
         new = parts .new;
         telling = parts .telling;
@@ -103,10 +110,10 @@ module _ {s : Sheet} (g : Valid s) (A : Delivery-laws s) {lent : List ℕ} (room
       going : y .stop ≡ none
       going = T .moved .stop-same ∙ T .next .going
 
-  -- where no more is in use than was, the attached buffer covers it
-  attached-less : (y : Job) → ((q : ℕ) → place-at y q .in-use ≤ place-at x q .in-use) → (q : ℕ) → q < P-of s →
-      place-at y q .in-use ≤ board s q .attached
-  attached-less y less q l = omega (arith, less q, R .in-use-peak q, R .peak-attached q l)
+  -- where no more is in use than was, the store holds it
+  fitting-less : (y : Job) → ((w : Store) (q : ℕ) → in-use-at w y q ≤ in-use-at w x q) → (w : Store) (q : ℕ) → q < P-of s →
+      in-use-at w y q ≤ size-of w (board s q)
+  fitting-less y less w q l = omega (arith, less w q, R .in-use-peak w q, R .peak-size w q l)
 
   module _ (y : Job) (r : ℕ) (n : Next s x r) where
     abbrev i : ℕ
@@ -136,15 +143,17 @@ module _ {s : Sheet} (g : Valid s) (A : Delivery-laws s) {lent : List ℕ} (room
           stable = stable-same same (R .stable);
           arrived = arrived-same same (omega (arith, h .moved .steps-more)) (R .arrived);
           shaped = shaped-same y (R .shaped) (h .entries);
+          same-state = λ j there d. state-same (same j);
+          new-state = λ now-in out d. absurd (out (omega (arith, state-same (same i))));
           telling = telling-same i same;
           tells-ends = λ t now-in out. absurd (out (omega (arith, state-same (same i))));
           messages = messages-are (h .messages) (messages-same same (R .messages-held));
           receives = receives-are (h .receives) (receives-same same (R .receives-held));
           in-use-sum =
-              λ q l.
-              h .uses q ∙ R .in-use-sum q l
-              ∙ sum-same (N-of s) (charge-in s x q) (charge-in s y q) (λ j k. charge-same s x y q j (state-same (same j)));
-          attached = attached-less y (λ q. omega (arith, h .uses q));
+              λ w q l.
+              h .uses w q ∙ R .in-use-sum w q l
+              ∙ sum-same (N-of s) (charge-in w s x q) (charge-in w s y q) (λ j k. charge-same w s x y q j (state-same (same j)));
+          fitting = fitting-less y (λ w q. omega (arith, h .uses w q));
           memory = h .memory ∙ R .memory-replayed ∙ sym (replayed-rows s x y (N-of s) lent same);
         })
       where
@@ -159,15 +168,15 @@ module _ {s : Sheet} (g : Valid s) (A : Delivery-laws s) {lent : List ℕ} (room
       later : Later (R .arrival) now x i
       later = arrives-later (R .arrived) (enters-grows E)
 
-      sound-enters : v ≡ unmatched-state (op s i) → (tells (op s i) ≡ false → entry-at y i ≡ bare-entry v) →
+      sound-enters : Unmatched s i v → v ≡ unmatched-state (is-kept s (rank-of s i) i x) (op s i) → (tells (op s i) ≡ false → entry-at y i ≡ bare-entry v) →
           (tells (op s i) ≡ true → (half-ends s x i ≡ true) × (entry-at y i ≡ half-row s x i)) →
           (is-send (op s i) ≡ true → (q : ℕ) → Pending-receive s x q → fits-with s i q ≡ true → ⊥) →
           (is-receive (op s i) ≡ true → (m : ℕ) → Pending-message s x m → fits-with s m i ≡ true → ⊥) →
           Holds (Arrived-before now) (Pending-message s y) (y .messages) →
           Holds (Posted-before s) (Pending-receive s y) (y .receives) →
-          ((q : ℕ) → q < P-of s → place-at y q .in-use ≡ sum-below (N-of s) (charge-in s y q)) →
-          ((q : ℕ) → q < P-of s → place-at y q .in-use ≤ board s q .attached) → Extended R y i
-      sound-enters state bare here no-receive no-message messages receives uses attached =
+          ((w : Store) (q : ℕ) → q < P-of s → in-use-at w y q ≡ sum-below (N-of s) (charge-in w s y q)) →
+          ((w : Store) (q : ℕ) → q < P-of s → in-use-at w y q ≤ size-of w (board s q)) → Extended R y i
+      sound-enters state given bare here no-receive no-message messages receives uses fitting =
           extended-ongoing T
           (record {
             old = arrival-old (enters-grows E);
@@ -175,29 +184,33 @@ module _ {s : Sheet} (g : Valid s) (A : Delivery-laws s) {lent : List ℕ} (room
             stable = enter-stable (R .stable) later E no-receive no-message;
             arrived = arrived-step (R .arrived) (enters-grows E) (R .placed) (T .moved .steps-more);
             shaped = shaped-enters (R .shaped) E state bare;
+            same-state = λ j there d. state-same (E .other j (λ e. omega (arith, E .fresh, state-name x e)));
+            new-state = λ now-in out d. E .state ∙ given;
             telling =
                 telling-enters (R .stable) (R .placed) (R .messages-held) later E (λ t. here t .1);
             tells-ends = λ t now-in out. here t .0;
             messages = messages;
             receives = receives;
             in-use-sum = uses;
-            attached = attached;
+            fitting = fitting;
             memory = memory ∙ R .memory-replayed ∙ sym (replayed-enters s (N-of s) lent E);
           })
 
       -- one that is not charged
-      uses-other : v ≢ 2 → Use x y use-kept → (q : ℕ) → q < P-of s → place-at y q .in-use ≡ sum-below (N-of s) (charge-in s y q)
-      uses-other d uses q l = uses q ∙ R .in-use-sum q l ∙ charging-other s E d q
+      uses-other : v ≢ 2 → Use x y use-kept → (w : Store) (q : ℕ) → q < P-of s →
+          in-use-at w y q ≡ sum-below (N-of s) (charge-in w s y q)
+      uses-other d uses w q l = uses w q ∙ R .in-use-sum w q l ∙ charging-other w s E d q
 
     sound-only-half : Ends-only-half s x y r i → Extended R y i
     unfolding in-waiting-half
     sound-only-half h =
-        sound-enters T E (h .memory) (sym (unmatched-only-half s i (h .waits))) (λ t. h .row ∙ plain-row-is s x i t)
+        sound-enters T E (h .memory) (unmatched-plain s i no-standard (sym (unmatched-only-half s i (is-buffered (op s i)) (h .waits))))
+        (sym (unmatched-only-half s i (is-kept s (rank-of s i) i x) (h .waits))) (λ t. h .row ∙ plain-row-is s x i t)
         (λ t. (n .ends half, h .row)) (λ a. true-not-false a no-send)
         (λ a. true-not-false a no-receive)
         (messages-are (h .messages) (queue-message-other E (later T E (h .memory)) no-send (R .messages-held)))
         (receives-are (h .receives) (queue-receive-other E no-receive (R .receives-held)))
-        (uses-other T E (h .memory) (omega arith) (h .uses)) (attached-less y (λ q. omega (arith, h .uses q)))
+        (uses-other T E (h .memory) (omega arith) (h .uses)) (fitting-less y (λ w q. omega (arith, h .uses w q)))
       where
         E : Enters x y i 5
         E = h .enters
@@ -211,19 +224,23 @@ module _ {s : Sheet} (g : Valid s) (A : Delivery-laws s) {lent : List ℕ} (room
         no-send : is-send (op s i) ≡ false
         no-send = not-so (is-send (op s i)) (λ a. true-not-false (h .waits) (send-not-only-half (op s i) a))
 
+        no-standard : is-standard (op s i) ≡ false
+        no-standard = not-so (is-standard (op s i)) (λ a. true-not-false (standard-send (op s i) a) no-send)
+
         no-receive : is-receive (op s i) ≡ false
         no-receive = not-so (is-receive (op s i)) (λ a. true-not-false (h .waits) (receive-not-only-half (op s i) a))
 
     sound-posts : Posts s x y r i → Extended R y i
     unfolding first-message
     sound-posts h =
-        sound-enters T E (h .memory) (sym (unmatched-receive s i (h .is-one))) (λ t. h .row)
+        sound-enters T E (h .memory) (unmatched-plain s i (receive-not-standard (op s i) (h .is-one)) (sym (receive-state s i (receive-not-buffered (op s i) (h .is-one)) (h .is-one))))
+        (sym (receive-state s i (is-kept-receive s (rank-of s i) i x (h .is-one)) (h .is-one))) (λ t. h .row)
         (λ t. true-not-false t (receive-not-tells (op s i) (h .is-one))) (λ a. true-not-false a no-send)
         (λ a k p f. true-not-false f (first-by-none (λ k. fits-with s k i) (x .messages) (h .none-fits) k
         (R .messages-held .whole k p)))
         (messages-are (h .messages) (queue-message-other E (later T E (h .memory)) no-send (R .messages-held)))
         (receives-are (h .receives) (queue-receive E (R .placed) (h .is-one) (R .receives-held)))
-        (uses-other T E (h .memory) (omega arith) (h .uses)) (attached-less y (λ q. omega (arith, h .uses q)))
+        (uses-other T E (h .memory) (omega arith) (h .uses)) (fitting-less y (λ w q. omega (arith, h .uses w q)))
       where
         E : Enters x y i 1
         E = h .enters
@@ -235,23 +252,34 @@ module _ {s : Sheet} (g : Valid s) (A : Delivery-laws s) {lent : List ℕ} (room
         no-send = receive-not-send (op s i) (h .is-one)
 
     sound-pends : Pends s x y r i → Extended R y i
-    unfolding first-receive use-charged fits-buffer
+    unfolding first-receive use-charged fits-beside
     sound-pends h =
-        sound-enters T E (h .memory) refl (λ t. h .row) (λ t. true-not-false t (send-not-tells (op s i) (h .is-one)))
+        sound-enters T E (h .memory) state (ap (λ (q : ℕ). unmatched-state (is-kept s q i x) (op s i)) (sym (n .ranked))) (λ t. h .row) (λ t. true-not-false t (send-not-tells (op s i) (h .is-one)))
         (λ a q p f. true-not-false f (first-by-none (λ q. fits-with s i q) (x .receives) (h .none-fits) q
         (R .receives-held .whole q p)))
         (λ a. true-not-false a no-receive)
         (messages-are (h .messages) (queue-message E (later T E (h .memory)) (h .is-one) (R .messages-held)))
         (receives-are (h .receives) (queue-receive-other E no-receive (R .receives-held)))
-        (λ q l.
-        h .uses q
-        ∙ charging-enters s r q (place-at x q .in-use) E (n .inside) (n .ranked) (h .is-one) (R .in-use-sum q l))
-        (λ q l.
-        subst (λ (k : ℕ). k ≤ board s q .attached) (sym (h .uses q))
-        (attached q l (eqb q r) refl (is-buffered (op s i)) refl))
+        (λ w q l.
+        h .uses w q
+        ∙ charging-enters w s kept r q (in-use-at w x q) E (n .inside) (n .ranked) (h .is-one) (R .in-use-sum w q l))
+        (λ w q l.
+        subst (λ (k : ℕ). k ≤ size-of w (board s q)) (sym (h .uses w q))
+        (fitting w q l (eqb q r) refl (kept-in w (op s i)) refl kept refl))
       where
-        E : Enters x y i (unmatched-state (op s i))
+        kept : Bool
+        kept = is-kept s r i x
+
+        E : Enters x y i (unmatched-state kept (op s i))
         E = h .enters
+
+        state : Unmatched s i (unmatched-state kept (op s i))
+        state =
+            record {
+              kept = kept;
+              keeps = keeps-kept g R r n (next-fresh s x r (R .placed) n (h .not-waiting));
+              is = refl;
+            }
 
         T : Ongoing s x y r (no-half (op s i))
         T = ongoing-initiating n (h .moved) (enters-grows E) (h .not-waiting) (send-not-only-half (op s i) (h .is-one))
@@ -259,14 +287,16 @@ module _ {s : Sheet} (g : Valid s) (A : Delivery-laws s) {lent : List ℕ} (room
         no-receive : is-receive (op s i) ≡ false
         no-receive = send-not-receive (op s i) (h .is-one)
 
-        -- the charge of this send had room
-        attached : (q : ℕ) → q < P-of s → (a : Bool) → eqb q r ≡ a → (b : Bool) → is-buffered (op s i) ≡ b →
-            cond (a && b) (place-at x q .in-use + charge-of (op s i)) (place-at x q .in-use) ≤ board s q .attached
-        attached q l true p true o =
-            subst (λ (z : ℕ). place-at x z .in-use + charge-of (op s i) ≤ board s z .attached) (sym (eqb-true q r p))
-            (leb-true (place-at x r .in-use + charge-of (op s i)) (board s r .attached) (h .room o))
-        attached q l true p false o = omega (arith, R .in-use-peak q, R .peak-attached q l)
-        attached q l false p b o = omega (arith, R .in-use-peak q, R .peak-attached q l)
+        -- the charge of this send fits
+        fitting : (w : Store) (q : ℕ) → q < P-of s → (a : Bool) → eqb q r ≡ a → (b : Bool) → kept-in w (op s i) ≡ b →
+            (c : Bool) → kept ≡ c →
+            cond (a && (b && c)) (in-use-at w x q + charge-of w (op s i)) (in-use-at w x q) ≤ size-of w (board s q)
+        fitting w q l true p true o true k =
+            subst (λ (z : ℕ). in-use-at w x z + charge-of w (op s i) ≤ size-of w (board s z)) (sym (eqb-true q r p))
+            (leb-true (in-use-at w x r + charge-of w (op s i)) (size-of w (board s r)) (h .fits w o k))
+        fitting w q l true p true o false k = omega (arith, R .in-use-peak w q, R .peak-size w q l)
+        fitting w q l true p false o c k = omega (arith, R .in-use-peak w q, R .peak-size w q l)
+        fitting w q l false p b o c k = omega (arith, R .in-use-peak w q, R .peak-size w q l)
 
     -- A MESSAGE AND A RECEIVE were matched
     sound-matches : (m q : ℕ) → Match-step s x y r i m q → Extended R y i
@@ -279,16 +309,19 @@ module _ {s : Sheet} (g : Valid s) (A : Delivery-laws s) {lent : List ℕ} (room
           stable = match-stable (R .stable) L M (first (h .finds));
           arrived = arrived-step (R .arrived) G (R .placed) (h .moved .steps-more);
           shaped = shaped-matches (R .shaped) M;
+          same-state = λ j there d. state-same (G .same j (λ e. omega (arith, G .fresh, state-name x e)) d);
+          new-state = λ now-in out d. absurd (d (matched-new (M .one)));
           telling = telling-matches (R .stable) (R .placed) L M;
           tells-ends = λ t now-in out. true-not-false t (matches-tells-none M);
           messages = messages-are (h .messages) (queue-message-match M L (R .messages-held));
           receives = receives-are (h .receives) (queue-receive-match M (R .receives-held));
-          in-use-sum = λ o l. h .uses o ∙ charging-matches o (place-at x o .in-use) M (R .shaped) inside-m (R .in-use-sum o l);
-          attached =
-              attached-less y
-              (λ o.
-              released-less (eqb o (rank-of s m) && eqb (state-at x m) 2) (place-at x o .in-use) (charge-of (op s m))
-              (h .uses o));
+          in-use-sum =
+              λ w o l. h .uses w o ∙ charging-matches w o (in-use-at w x o) M (R .shaped) inside-m (R .in-use-sum w o l);
+          fitting =
+              fitting-less y
+              (λ w o.
+              released-less (eqb o (rank-of s m) && (kept-in w (op s m) && eqb (state-at x m) 2)) (in-use-at w x o)
+              (charge-of w (op s m)) (h .uses w o));
           memory =
               h .memory ∙ ap (λ (z : List ℕ). delivered s m q z) (R .memory-replayed)
               ∙ sym (replayed-matches g A (R .stable) (R .placed) (R .shaped) M inside-m inside-q (N-of s) lent inside-q room);
@@ -302,6 +335,10 @@ module _ {s : Sheet} (g : Valid s) (A : Delivery-laws s) {lent : List ℕ} (room
 
         L : Later (R .arrival) now x i
         L = arrives-later (R .arrived) G
+
+        matched-new : (i ≡ m) ⊎ (i ≡ q) → state-at y i ≡ 3
+        matched-new (inl e) = state-name y e ∙ matches-message-state M
+        matched-new (inr e) = state-name y e ∙ matches-receive-state M
 
         released-less : {k : ℕ} (b : Bool) (n c : ℕ) → k ≡ cond b (n - c) n → k ≤ n
         released-less true n c e = omega (arith, e)

@@ -16,9 +16,9 @@ use mathlib.Core.Bool.{Bool, true, false, _&&_, _||_}
 use Prim.Native.Nat.{ℕ, _≤_, _<_}
 use native.Mathlib.Omega.{arith}
 use lib.Dec.{leb, eqb}
-use borrow.Author.Tests.{leb-true, eqb-true, eq-eqb, ne-eqb}
+use borrow.Author.Tests.{leb-true, le-leb, eqb-true, eq-eqb, ne-eqb}
 use Rattle.rules.specs.Limits.{any}
-use Rattle.rules.specs.Sheet.{Sheet, Op, op, P-of, N-of, rank-of, is-send, is-receive, is-buffered, is-wait, is-nonblocking, only-half, no-half}
+use Rattle.rules.specs.Sheet.{Sheet, Op, op, P-of, N-of, rank-of, is-send, is-receive, is-standard, is-buffered, is-wait, is-nonblocking, only-half, no-half}
 use Rattle.rules.specs.Sheet.{is-probe, is-query, tells-message, tells-completion, tells, selects, takes-slot, names-slot, frees-slot}
 use Rattle.rules.specs.Refusal.{op-good, fields-good, room-for}
 use Rattle.rules.specs.Step.{fits-with}
@@ -53,6 +53,20 @@ send-not-receive o e = not-so (is-receive o) (λ h. omega (arith, send-kind o e,
 
 pub receive-not-send : (o : Op) → is-receive o ≡ true → is-send o ≡ false
 receive-not-send o e = not-so (is-send o) (λ h. omega (arith, send-kind o h, receive-kind o e))
+
+pub standard-not-buffered : (o : Op) → is-standard o ≡ true → is-buffered o ≡ false
+unfolding is-standard is-buffered
+standard-not-buffered o e = ne-eqb (o .kind) 2 (λ h. omega (arith, eqb-true (o .kind) 1 e))
+
+pub standard-send : (o : Op) → is-standard o ≡ true → is-send o ≡ true
+unfolding is-standard is-send
+standard-send o e =
+    let k = eqb-true (o .kind) 1 e in
+    and-both (le-leb 1 (o .kind) (omega arith)) (le-leb (o .kind) 4 (omega arith))
+
+pub receive-not-standard : (o : Op) → is-receive o ≡ true → is-standard o ≡ false
+unfolding is-standard
+receive-not-standard o e = ne-eqb (o .kind) 1 (λ h. omega (arith, receive-kind o e))
 
 pub receive-not-buffered : (o : Op) → is-receive o ≡ true → is-buffered o ≡ false
 unfolding is-buffered

@@ -12,6 +12,7 @@ use borrow.Author.Tests.{eqb-true}
 use Rattle.rules.specs.Limits.{most-boards, most-comms, most-ops, most-payload, most-attached, most-inbox}
 use Rattle.rules.specs.Sheet.{Sheet, board, P-of, N-of, rank-of, counts-before, inbox-start, inbox-total}
 use Rattle.rules.specs.Refusal.{board-good, op-good, request-good, slot-freed}
+use Rattle.laws.specs.Tabled.{board-entry}
 use Rattle.laws.specs.Tests.{and-left}
 
 -- a valid sheet: each part of the refusal table, settled
@@ -46,7 +47,4 @@ pub record Valid (s : Sheet) : Type 0 where
 
 -- scripts lie one after another
 pub valid-first : (s : Sheet) → Valid s → (r : ℕ) → r < P-of s → board s r .first ≡ counts-before s r
-unfolding board-good
-valid-first s g r l =
-    eqb-true (board s r .first) (counts-before s r)
-    (and-left (eqb (board s r .first) (counts-before s r)) (leb (board s r .attached) most-attached && leb (inbox-start s (suc r)) most-inbox) (g .boards-good r l))
+valid-first s g r l = board-entry s r (g .boards-good r l) .first

@@ -1,5 +1,5 @@
 -- The places of a job after a charge, a release, or neither, and then the step of a board. A charge and a release change bytes
--- in use and nothing else; the peak is the most of them.
+-- in use of one store and nothing else; the peak is the most of them.
 --   Use                     how bytes in use change; use-kept, use-charged, use-released
 --   matched-is              a match, field by field
 --   Used                    a list of places in which only bytes in use changed; used-kept, used-charged, used-uncharged,
@@ -7,8 +7,8 @@
 --   stepped-moved           and then a board steps
 --   set-enters              and an operation enters unmatched, with its row
 -- Assumes nothing.
-use mathlib.Core.Path.{_≡_, refl, sym, ap, _∙_}
-use mathlib.Core.Logic.{_≢_}
+use mathlib.Core.Path.{_≡_, refl, sym, ap, subst, _∙_}
+use mathlib.Core.Logic.{_⊎_, inl, inr, _≢_}
 use mathlib.Core.Bool.{Bool, true, false, _&&_, cond}
 use mathlib.Core.List.{List}
 use Prim.Native.Nat.{ℕ, suc, _+_, _-_, _≤_, _<_, max}
@@ -16,41 +16,56 @@ use native.Mathlib.Omega.{arith}
 use lib.Dec.{eqb}
 use lib.ListN.{length, getD, set, length-set}
 use lib.Seq.{getD-set-same, getD-set-other}
+use borrow.Author.Tests.{eqb-true}
 use Rattle.rules.specs.Limits.{absent}
-use Rattle.rules.specs.Sheet.{Sheet, op, rank-of, is-buffered}
-use Rattle.rules.specs.Job.{Job, Entry, Place, job, entry, bare-entry, place, entry-at, place-at, with-entries, with-places, with-messages, with-receives, with-memory}
-use Rattle.rules.specs.Step.{one-finished, now-waiting, is-cut, without, delivered, charge-of, charged, released, with-place, release, matched-rows, matched}
-use Rattle.laws.specs.Tests.{true-not-false}
+use Rattle.rules.specs.Sheet.{Sheet, Op, op, rank-of, is-standard, is-buffered}
+use Rattle.rules.specs.Job.{Job, Entry, Figures, Place, Store, in-attached, in-room, job, entry, bare-entry, figures, place, first-place, account, with-account}
+use Rattle.rules.specs.Job.{in-use-at, peak-at, entry-at, place-at, with-entries, with-places, with-messages, with-receives, with-memory}
+use Rattle.rules.specs.Step.{one-finished, now-waiting, is-cut, without, delivered, store-of, kept-in, charge-of, charged, released, with-place, release}
+use Rattle.rules.specs.Step.{matched-rows, matched}
+use Rattle.laws.specs.Tests.{true-not-false, not-so}
+use Rattle.laws.specs.Stores.{same-store, own-figures, other-figures, finished-stays, waiting-stays}
+use Rattle.invariant.specs.sheet.Kinds.{standard-not-buffered}
 use Rattle.invariant.specs.Invariant.{state-at}
 use Rattle.invariant.specs.matching.RowChanges.{Enters}
 use Rattle.invariant.specs.step.Places.{Moved, after, getD-update, moved-in-use}
 
-abbrev pub Use : (x y : Job) → (change : ℕ → ℕ → ℕ) → Type 0
-Use x y f = (q : ℕ) → place-at y q .in-use ≡ f q (place-at x q .in-use)
+abbrev pub Use : (x y : Job) → (change : Store → ℕ → ℕ → ℕ) → Type 0
+Use x y f = (w : Store) (q : ℕ) → in-use-at w y q ≡ f w q (in-use-at w x q)
 
--- in use at board q, after the step: as before; more by a buffered send of board r; less by a buffered message that was matched
-abbrev pub use-kept : (q n : ℕ) → ℕ
-use-kept q n = n
+-- in use of a store at board q, after the step: as before; more by a send of board r, where it is kept there; less by a message
+-- that was kept there and was matched
+abbrev pub use-kept : Store → (q n : ℕ) → ℕ
+use-kept w q n = n
 
-unfoldable pub use-charged : Sheet → (r i q n : ℕ) → ℕ
-use-charged s r i q n = cond (eqb q r && is-buffered (op s i)) (n + charge-of (op s i)) n
+unfoldable pub use-charged : Sheet → (r i : ℕ) → (kept : Bool) → Store → (q n : ℕ) → ℕ
+use-charged s r i k w q n = cond (eqb q r && (kept-in w (op s i) && k)) (n + charge-of w (op s i)) n
 
-unfoldable pub use-released : Sheet → Job → (m q n : ℕ) → ℕ
-use-released s x m q n = cond (eqb q (rank-of s m) && eqb (state-at x m) 2) (n - charge-of (op s m)) n
+unfoldable pub use-released : Sheet → Job → (m : ℕ) → Store → (q n : ℕ) → ℕ
+use-released s x m w q n =
+    cond (eqb q (rank-of s m) && (kept-in w (op s m) && eqb (state-at x m) 2)) (n - charge-of w (op s m)) n
 
 -- CLOSED FORMS
+-- a place in which the account of a store changed
+abbrev changed : (Figures → Figures) → Store → Place → Place
+changed f v p = with-account v (f (account v p)) p
+
 -- the places after a message's charge is released
 unfoldable pub released-places : Sheet → Job → (m : ℕ) → List Place
 released-places s x m =
+    let v = store-of (op s m) in
     cond (eqb (state-at x m) 2)
-    (set (x .places) (rank-of s m) (released (charge-of (op s m)) (place-at x (rank-of s m)))) (x .places)
+    (set (x .places) (rank-of s m) (changed (released (charge-of v (op s m))) v (place-at x (rank-of s m)))) (x .places)
 
 release-is : (s : Sheet) (m : ℕ) (x : Job) → release s m x ≡ with-places (released-places s x m) x
 unfolding release released-places with-place with-places job
 release-is s m x = go (eqb (entry-at x m .state) 2)
   where
+    v : Store
+    v = store-of (op s m)
+
     up : List Place
-    up = set (x .places) (rank-of s m) (released (charge-of (op s m)) (place-at x (rank-of s m)))
+    up = set (x .places) (rank-of s m) (changed (released (charge-of v (op s m))) v (place-at x (rank-of s m)))
 
     go : (b : Bool) → cond b (with-places up x) x ≡ with-places (cond b up (x .places)) x
     go true = refl
@@ -70,41 +85,62 @@ matched-is s m r x =
     (with-messages (without m (x .messages)) (matched-rows s m r z))))
     (release-is s m x)
 
+-- STORES: an operation is kept in one at the most, and a change of a store's account leaves the other's as it was
+pub record Other (v w : Store) : Type 0 where
+  pub same : (f : Figures → Figures) (p : Place) → account w (changed f v p) ≡ account w p
+  pub not-kept : (o : Op) → kept-in v o ≡ true → kept-in w o ≡ false
+
+pub this-or-other : (v w : Store) → (w ≡ v) ⊎ Other v w
+unfolding kept-in same-store
+this-or-other in-attached in-attached = inl refl
+this-or-other in-room in-room = inl refl
+this-or-other in-attached in-room =
+    inr
+    (record {
+      same = λ f p. other-figures in-room in-attached (f (account in-attached p)) p refl;
+      not-kept = λ o e. not-so (is-standard o) (λ h. true-not-false e (standard-not-buffered o h));
+    })
+this-or-other in-room in-attached =
+    inr
+    (record {
+      same = λ f p. other-figures in-attached in-room (f (account in-room p)) p refl;
+      not-kept = standard-not-buffered;
+    })
+
 -- PLACES
 abbrev pub place-in : List Place → (q : ℕ) → Place
-place-in ps q = getD ps q (place 0 false 0 0)
+place-in ps q = getD ps q first-place
 
 -- a list of places in which only bytes in use changed, and the peak with them
-pub record Used (x : Job) (ps : List Place) (change : ℕ → ℕ → ℕ) : Type 0 where
+pub record Used (x : Job) (ps : List Place) (change : Store → ℕ → ℕ → ℕ) : Type 0 where
   pub long : length ps ≡ length (x .places)
   pub finished : (q : ℕ) → place-in ps q .finished ≡ place-at x q .finished
   pub waiting : (q : ℕ) → place-in ps q .waiting ≡ place-at x q .waiting
-  pub in-use : (q : ℕ) → place-in ps q .in-use ≡ change q (place-at x q .in-use)
-  pub peak : (q : ℕ) → place-in ps q .peak ≡ max (place-at x q .peak) (place-in ps q .in-use)
+  pub in-use : (w : Store) (q : ℕ) → account w (place-in ps q) .in-use ≡ change w q (in-use-at w x q)
+  pub peak : (w : Store) (q : ℕ) → account w (place-in ps q) .peak ≡ max (peak-at w x q) (account w (place-in ps q) .in-use)
 
--- where one place changed, and only by a charge or a release
-record Recharged (p q : Place) : Type 0 where
-  finished : q .finished ≡ p .finished
-  waiting : q .waiting ≡ p .waiting
-  peak : q .peak ≡ max (p .peak) (q .in-use)
+-- a change of an account's figures to which the peak keeps up, and what it does to bytes in use
+record Recharges (f : Figures → Figures) (n : ℕ → ℕ) : Type 0 where
+  in-use : (a : Figures) → f a .in-use ≡ n (a .in-use)
+  peak : (a : Figures) → a .in-use ≤ a .peak → f a .peak ≡ max (a .peak) (f a .in-use)
 
-released-use : (n : ℕ) (p : Place) → released n p .in-use ≡ p .in-use - n
-unfolding released place
-released-use n p = refl
+release-recharges : (n : ℕ) → Recharges (released n) (λ k. k - n)
+unfolding released figures
+release-recharges n =
+    record {
+      in-use = λ a. refl;
+      peak = λ a l. omega arith;
+    }
 
-charged-use : (n : ℕ) (p : Place) → charged n p .in-use ≡ p .in-use + n
-unfolding charged place
-charged-use n p = refl
+charge-recharges : (n : ℕ) → Recharges (charged n) (λ k. k + n)
+unfolding charged figures
+charge-recharges n =
+    record {
+      in-use = λ a. refl;
+      peak = λ a l. refl;
+    }
 
-module _ (s : Sheet) (x : Job) (small : (q : ℕ) → place-at x q .in-use ≤ place-at x q .peak) where
-  kept-same : (q : ℕ) → Recharged (place-at x q) (place-at x q)
-  kept-same q =
-      record {
-        finished = refl;
-        waiting = refl;
-        peak = omega (arith, small q);
-      }
-
+module _ (s : Sheet) (x : Job) (small : (w : Store) (q : ℕ) → in-use-at w x q ≤ peak-at w x q) where
   pub used-kept : Used x (x .places) use-kept
   unfolding place-at
   used-kept =
@@ -112,129 +148,132 @@ module _ (s : Sheet) (x : Job) (small : (q : ℕ) → place-at x q .in-use ≤ p
         long = refl;
         finished = λ q. refl;
         waiting = λ q. refl;
-        in-use = λ q. refl;
-        peak = λ q. kept-same q .peak;
+        in-use = λ w q. refl;
+        peak = λ w q. omega (arith, small w q);
       }
 
-  released-same : (q n : ℕ) → Recharged (place-at x q) (released n (place-at x q))
-  unfolding released place
-  released-same q n =
-      record {
-        finished = refl;
-        waiting = refl;
-        peak = omega (arith, small q);
-      }
+  and-none : (a b : Bool) → (a && (b && false)) ≡ false
+  and-none true true = refl
+  and-none true false = refl
+  and-none false b = refl
 
-  charged-same : (q n : ℕ) → Recharged (place-at x q) (charged n (place-at x q))
-  unfolding charged place
-  charged-same q n =
-      record {
-        finished = refl;
-        waiting = refl;
-        peak = refl;
-      }
-
-  -- one place changed by f: where it did
-  used-update : (r : ℕ) (f : Place → Place) (change : ℕ → ℕ → ℕ) → r < length (x .places) →
-      ((q : ℕ) → Recharged (place-at x q) (cond (eqb q r) (f (place-at x q)) (place-at x q))) →
-      ((q : ℕ) → cond (eqb q r) (f (place-at x q)) (place-at x q) .in-use ≡ change q (place-at x q .in-use)) →
-      Used x (set (x .places) r (f (place-at x r))) change
-  unfolding place-at
-  used-update r f change l re uses =
-      record {
-        long = length-set (x .places) r (f (place-at x r));
-        finished = λ q. ap (λ (p : Place). p .finished) (at q) ∙ re q .finished;
-        waiting = λ q. ap (λ (p : Place). p .waiting) (at q) ∙ re q .waiting;
-        in-use = λ q. ap (λ (p : Place). p .in-use) (at q) ∙ uses q;
-        peak =
-            λ q. ap (λ (p : Place). p .peak) (at q) ∙ re q .peak
-            ∙ ap (λ (p : Place). max (place-at x q .peak) (p .in-use)) (sym (at q));
-      }
-    where
-      at : (q : ℕ) → place-in (set (x .places) r (f (place-at x r))) q ≡ cond (eqb q r) (f (place-at x q)) (place-at x q)
-      at q = getD-update (x .places) r q f (place 0 false 0 0) l
-
-  pub used-released : (m : ℕ) → rank-of s m < length (x .places) → Used x (released-places s x m) (use-released s x m)
-  unfolding released-places use-released
-  used-released m l = go (eqb (state-at x m) 2)
-    where
-      f : Place → Place
-      f = released (charge-of (op s m))
-
-      re : (b : Bool) (q : ℕ) → Recharged (place-at x q) (cond b (f (place-at x q)) (place-at x q))
-      re true q = released-same q (charge-of (op s m))
-      re false q = kept-same q
-
-      uses : (b : Bool) (q : ℕ) → cond b (f (place-at x q)) (place-at x q) .in-use ≡ cond (b && true)
-          (place-at x q .in-use - charge-of (op s m)) (place-at x q .in-use)
-      uses true q = released-use (charge-of (op s m)) (place-at x q)
-      uses false q = refl
-
-      none-use : (b : Bool) (n k : ℕ) → n ≡ cond (b && false) k n
-      none-use true n k = refl
-      none-use false n k = refl
-
-      go : (b : Bool) →
-          Used x (cond b (set (x .places) (rank-of s m) (f (place-at x (rank-of s m)))) (x .places))
-          (λ q n. cond (eqb q (rank-of s m) && b) (n - charge-of (op s m)) n)
-      go true = used-update (rank-of s m) f _ l (λ q. re (eqb q (rank-of s m)) q) (λ q. uses (eqb q (rank-of s m)) q)
-      go false =
-          record {
-            long = refl;
-            finished = used-kept .finished;
-            waiting = used-kept .waiting;
-            in-use =
-                λ q. used-kept .in-use q
-                ∙ none-use (eqb q (rank-of s m)) (place-at x q .in-use) (place-at x q .in-use - charge-of (op s m));
-            peak = used-kept .peak;
-          }
-
-  pub used-charged : (r i : ℕ) → r < length (x .places) → is-buffered (op s i) ≡ true →
-      Used x (set (x .places) r (charged (charge-of (op s i)) (place-at x r))) (use-charged s r i)
-  unfolding use-charged
-  used-charged r i l e =
-      used-update r (charged (charge-of (op s i))) (use-charged s r i) l (λ q. re (eqb q r) q)
-      (λ q. uses (eqb q r) (is-buffered (op s i)) e q)
-    where
-      re : (b : Bool) (q : ℕ) → Recharged (place-at x q) (cond b (charged (charge-of (op s i)) (place-at x q)) (place-at x q))
-      re true q = charged-same q (charge-of (op s i))
-      re false q = kept-same q
-
-      uses : (b c : Bool) → c ≡ true → (q : ℕ) → cond b (charged (charge-of (op s i)) (place-at x q)) (place-at x q) .in-use
-          ≡ cond (b && c) (place-at x q .in-use + charge-of (op s i)) (place-at x q .in-use)
-      uses true true h q = charged-use (charge-of (op s i)) (place-at x q)
-      uses true false h q = true-not-false h refl
-      uses false c h q = refl
-
-  pub used-uncharged : (r i : ℕ) → is-buffered (op s i) ≡ false → Used x (x .places) (use-charged s r i)
-  unfolding use-charged
-  used-uncharged r i e =
+  -- where no change is made, whatever it would be
+  used-none : (c : Store → ℕ → Bool) (n : Store → ℕ → ℕ) → ((w : Store) (q : ℕ) → c w q ≡ false) →
+      Used x (x .places) (λ w q k. cond (c w q) (n w k) k)
+  used-none c n none-here =
       record {
         long = refl;
         finished = used-kept .finished;
         waiting = used-kept .waiting;
         in-use =
-            λ q. used-kept .in-use q ∙ same (eqb q r) (is-buffered (op s i)) e (place-at x q .in-use)
-            (place-at x q .in-use + charge-of (op s i));
+            λ w q. used-kept .in-use w q
+            ∙ ap (λ (b : Bool). cond b (n w (in-use-at w x q)) (in-use-at w x q)) (sym (none-here w q));
         peak = used-kept .peak;
       }
+
+  -- the account of store v of board r changed by f, for operation i, which is kept there
+  used-changed : (r i : ℕ) (v : Store) (f : Figures → Figures) (n : Store → ℕ → ℕ) → r < length (x .places) →
+      kept-in v (op s i) ≡ true → Recharges f (n v) →
+      Used x (set (x .places) r (changed f v (place-at x r)))
+      (λ w q k. cond (eqb q r && (kept-in w (op s i) && true)) (n w k) k)
+  unfolding place-at
+  used-changed r i v f n l kept re =
+      record {
+        long = length-set (x .places) r (changed f v (place-at x r));
+        finished = λ q. ap (λ (p : Place). p .finished) (at q) ∙ finished (eqb q r) q;
+        waiting = λ q. ap (λ (p : Place). p .waiting) (at q) ∙ waiting (eqb q r) q;
+        in-use = λ w q. ap (λ (p : Place). account w p .in-use) (at q) ∙ uses (eqb q r) w q (this-or-other v w);
+        peak =
+            λ w q. ap (λ (p : Place). account w p .peak) (at q) ∙ peaks (eqb q r) w q (this-or-other v w)
+            ∙ ap (λ (p : Place). max (peak-at w x q) (account w p .in-use)) (sym (at q));
+      }
     where
-      same : (b c : Bool) → c ≡ false → (n k : ℕ) → n ≡ cond (b && c) k n
-      same true true h n k = true-not-false refl h
-      same true false h n k = refl
-      same false c h n k = refl
+      now : (b : Bool) → ℕ → Place
+      now b q = cond b (changed f v (place-at x q)) (place-at x q)
+
+      at : (q : ℕ) → place-in (set (x .places) r (changed f v (place-at x r))) q ≡ now (eqb q r) q
+      at q = getD-update (x .places) r q (changed f v) first-place l
+
+      finished : (b : Bool) (q : ℕ) → now b q .finished ≡ place-at x q .finished
+      finished true q = finished-stays v (f (account v (place-at x q))) (place-at x q)
+      finished false q = refl
+
+      waiting : (b : Bool) (q : ℕ) → now b q .waiting ≡ place-at x q .waiting
+      waiting true q = waiting-stays v (f (account v (place-at x q))) (place-at x q)
+      waiting false q = refl
+
+      uses : (b : Bool) (w : Store) (q : ℕ) → (w ≡ v) ⊎ Other v w →
+          account w (now b q) .in-use ≡ cond (b && (kept-in w (op s i) && true)) (n w (in-use-at w x q)) (in-use-at w x q)
+      uses true w q (inl e) =
+          subst
+          (λ (u : Store).
+          account u (changed f v (place-at x q)) .in-use ≡ cond (kept-in u (op s i) && true) (n u (in-use-at u x q)) (in-use-at u x q))
+          (sym e)
+          (ap (λ (a : Figures). a .in-use) (own-figures v (f (account v (place-at x q))) (place-at x q)) ∙ re .in-use (account v (place-at x q))
+          ∙ ap (λ (b : Bool). cond (b && true) (n v (in-use-at v x q)) (in-use-at v x q)) (sym kept))
+      uses true w q (inr o) =
+          ap (λ (a : Figures). a .in-use) (o .same f (place-at x q))
+          ∙ ap (λ (b : Bool). cond (b && true) (n w (in-use-at w x q)) (in-use-at w x q)) (sym (o .not-kept (op s i) kept))
+      uses false w q c = refl
+
+      peaks : (b : Bool) (w : Store) (q : ℕ) → (w ≡ v) ⊎ Other v w →
+          account w (now b q) .peak ≡ max (peak-at w x q) (account w (now b q) .in-use)
+      peaks true w q (inl e) =
+          subst
+          (λ (u : Store).
+          account u (changed f v (place-at x q)) .peak ≡ max (peak-at u x q) (account u (changed f v (place-at x q)) .in-use))
+          (sym e)
+          (let same = own-figures v (f (account v (place-at x q))) (place-at x q) in
+          ap (λ (a : Figures). a .peak) same ∙ re .peak (account v (place-at x q)) (small v q)
+          ∙ ap (λ (a : Figures). max (peak-at v x q) (a .in-use)) (sym same))
+      peaks true w q (inr o) =
+          omega
+          (arith, small w q, ap (λ (a : Figures). a .peak) (o .same f (place-at x q)), ap (λ (a : Figures). a .in-use) (o .same f (place-at x q)))
+      peaks false w q c = omega (arith, small w q)
+
+  pub used-released : (m : ℕ) → rank-of s m < length (x .places) → (state-at x m ≡ 2 → kept-in (store-of (op s m)) (op s m) ≡ true) →
+      Used x (released-places s x m) (use-released s x m)
+  unfolding released-places use-released
+  used-released m l kept = go (eqb (state-at x m) 2) (λ b. kept (eqb-true (state-at x m) 2 b))
+    where
+      v : Store
+      v = store-of (op s m)
+
+      go : (b : Bool) → (b ≡ true → kept-in v (op s m) ≡ true) →
+          Used x
+          (cond b (set (x .places) (rank-of s m) (changed (released (charge-of v (op s m))) v (place-at x (rank-of s m)))) (x .places))
+          (λ w q n. cond (eqb q (rank-of s m) && (kept-in w (op s m) && b)) (n - charge-of w (op s m)) n)
+      go true k =
+          used-changed (rank-of s m) m v (released (charge-of v (op s m))) (λ w n. n - charge-of w (op s m)) l (k refl)
+          (release-recharges (charge-of v (op s m)))
+      go false k =
+          used-none (λ w q. eqb q (rank-of s m) && (kept-in w (op s m) && false)) (λ w n. n - charge-of w (op s m))
+          (λ w q. and-none (eqb q (rank-of s m)) (kept-in w (op s m)))
+
+  pub used-charged : (r i : ℕ) (v : Store) → r < length (x .places) → kept-in v (op s i) ≡ true →
+      Used x (set (x .places) r (changed (charged (charge-of v (op s i))) v (place-at x r))) (use-charged s r i true)
+  unfolding use-charged
+  used-charged r i v l kept =
+      used-changed r i v (charged (charge-of v (op s i))) (λ w n. n + charge-of w (op s i)) l kept
+      (charge-recharges (charge-of v (op s i)))
+
+  pub used-uncharged : (r i : ℕ) → Used x (x .places) (use-charged s r i false)
+  unfolding use-charged
+  used-uncharged r i =
+      used-none (λ w q. eqb q r && (kept-in w (op s i) && false)) (λ w n. n + charge-of w (op s i))
+      (λ w q. and-none (eqb q r) (kept-in w (op s i)))
 
 -- a place list in which then the board that steps moves on
 abbrev pub stepped-places : List Place → (r : ℕ) → (last : Bool) → List Place
 stepped-places ps r last = set ps r (cond last (one-finished (place-in ps r)) (now-waiting (place-in ps r)))
 
-pub stepped-moved : {x : Job} {ps : List Place} {change : ℕ → ℕ → ℕ} (y : Job) → Used x ps change → (r : ℕ) (last : Bool) →
+pub stepped-moved : {x : Job} {ps : List Place} {change : Store → ℕ → ℕ → ℕ} (y : Job) → Used x ps change → (r : ℕ) (last : Bool) →
     r < length (x .places) →
     y .places ≡ stepped-places ps r last → length (y .entries) ≡ length (x .entries) → y .stop ≡ x .stop →
     y .steps ≡ suc (x .steps) →
     Moved x y r last × Use x y change
 unfolding place-at after
-stepped-moved {x} {ps} {change} y U r last l are long stop steps = (M, λ q. moved-in-use M q ∙ U .in-use q)
+stepped-moved {x} {ps} {change} y U r last l are long stop steps = (M, λ w q. moved-in-use M w q ∙ U .in-use w q)
   where
     f : Place → Place
     f = λ p. cond last (one-finished p) (now-waiting p)
@@ -245,7 +284,7 @@ stepped-moved {x} {ps} {change} y U r last l are long stop steps = (M, λ q. mov
           used = λ q. place-in ps q;
           place-is =
               λ q. ap (λ (p : List Place). place-in p q) are
-              ∙ getD-update ps r q f (place 0 false 0 0) (omega (arith, U .long));
+              ∙ getD-update ps r q f first-place (omega (arith, U .long));
           used-finished = U .finished;
           used-waiting = U .waiting;
           used-peak = U .peak;

@@ -12,9 +12,9 @@ use mathlib.Core.List.{[], _∷_, _++_}
 use mathlib.Core.Option.{none, some}
 use Prim.Native.Nat.{ℕ, suc}
 use Rattle.rules.specs.Sheet.{Sheet, op, is-send, is-receive, only-half, is-buffered, is-ready, no-half}
-use Rattle.rules.specs.Job.{Job, bare-entry, entry-at, place-at, with-steps}
-use Rattle.rules.specs.Step.{first-message, first-receive, without, delivered, stopped, fits-buffer, half-row}
-use Rattle.invariant.specs.Invariant.{unmatched-state}
+use Rattle.rules.specs.Job.{Job, Store, bare-entry, entry-at, place-at, with-steps}
+use Rattle.rules.specs.Step.{first-message, first-receive, without, delivered, stopped, kept-in, fits-beside, fits-buffer, half-row}
+use Rattle.invariant.specs.Invariant.{unmatched-state, is-kept}
 use Rattle.invariant.specs.matching.RowChanges.{Enters, Matches}
 use Rattle.invariant.specs.step.Places.{Moved}
 use Rattle.invariant.specs.step.BufferUse.{Use, use-kept, use-charged, use-released}
@@ -56,16 +56,16 @@ pub record Posts (s : Sheet) (x y : Job) (r i : ℕ) : Type 0 where
   pub receives : y .receives ≡ x .receives ++ (i ∷ [])
   pub memory : y .memory ≡ x .memory
 
--- a send that fits no posted receive is pending; a buffered one has room
+-- a send that fits no posted receive is pending, and buffered or not; where it is, its charge fits beside what is in use
 pub record Pends (s : Sheet) (x y : Job) (r i : ℕ) : Type 0 where
   pub not-waiting : place-at x r .waiting ≡ false
   pub is-one : is-send (op s i) ≡ true
   pub none-fits : first-receive s i (x .receives) ≡ none
-  pub room : is-buffered (op s i) ≡ true → fits-buffer s r i x ≡ true
+  pub fits : (w : Store) → kept-in w (op s i) ≡ true → is-kept s r i x ≡ true → fits-beside w s r i x ≡ true
   pub moved : Moved x y r (no-half (op s i))
-  pub uses : Use x y (use-charged s r i)
-  pub enters : Enters x y i (unmatched-state (op s i))
-  pub row : entry-at y i ≡ bare-entry (unmatched-state (op s i))
+  pub uses : Use x y (use-charged s r i (is-kept s r i x))
+  pub enters : Enters x y i (unmatched-state (is-kept s r i x) (op s i))
+  pub row : entry-at y i ≡ bare-entry (unmatched-state (is-kept s r i x) (op s i))
   pub messages : y .messages ≡ x .messages ++ (i ∷ [])
   pub receives : y .receives ≡ x .receives
   pub memory : y .memory ≡ x .memory

@@ -2,30 +2,33 @@
 --   outcome-half, outcome-only-half, outcome-posts, outcome-pends, outcome-matches    the ways, and what the job is after each
 --   outcome                                                                           the law
 -- Assumes nothing.
-use mathlib.Core.Path.{_≡_, refl, sym, subst, _∙_}
+use mathlib.Core.Path.{_≡_, refl, sym, ap, ap₂, subst, _∙_}
 use mathlib.Core.Logic.{_⊎_, inl, inr, _≢_}
-use mathlib.Core.Bool.{Bool, true, false, _||_, cond}
+use mathlib.Core.Bool.{Bool, true, false, _&&_, _||_, cond}
 use mathlib.Core.List.{List, [], _∷_, _++_}
 use mathlib.Core.Option.{Option, none, some}
 use Prim.Native.Nat.{ℕ, suc, _≤_, _<_}
 use native.Mathlib.Omega.{arith}
+use lib.Dec.{ltb}
 use lib.ListN.{length, set, length-set}
 use lib.Seq.{getD-set-same, getD-set-other}
 use Rattle.rules.specs.Limits.{absent}
-use Rattle.rules.specs.Sheet.{Sheet, op, N-of, rank-of, is-send, is-receive, only-half, is-ready, is-buffered, no-half, tells-message, tells-completion}
-use Rattle.rules.specs.Job.{Job, Entry, job, entry, bare-entry, entry-at, place-at, with-entries, with-places, with-messages, with-receives, with-steps}
+use Rattle.rules.specs.Sheet.{Sheet, op, board, N-of, rank-of, is-send, is-receive, only-half, is-ready, is-standard, is-buffered, no-half, tells-message, tells-completion}
+use Rattle.rules.specs.Job.{Job, Entry, Store, in-attached, in-room, job, entry, bare-entry, entry-at, place-at, with-entries, with-places, with-messages, with-receives, with-steps}
 use Rattle.rules.specs.Step.{step, next-op, in-waiting-half, one-finished, first-message, first-receive, fits-with, is-cut, without, delivered}
-use Rattle.rules.specs.Step.{with-place, charge, matched, with-state, pend-message, pend-receive, stopped, initiated, fits-buffer, unmatched, sent}
+use Rattle.rules.specs.Step.{with-place, kept-in, charge, matched, with-state, pend-message, pend-receive, stopped, initiated, fits-beside, fits-buffer}
+use Rattle.rules.specs.Step.{fits-room, kept, not-kept, unmatched, sent}
 use Rattle.rules.specs.Step.{received, initiating, ended, with-row, probe-row, query-row, half-row, complete-if, waited}
-use Rattle.laws.specs.Tests.{true-not-false}
+use borrow.Author.Tests.{ltb-true}
+use Rattle.laws.specs.Tests.{and-left, and-right, or-left, or-right, true-not-false}
 use Rattle.invariant.specs.sheet.Valid.{Valid}
 use Rattle.invariant.specs.sheet.Kinds.{kind-send, send-receive-differ}
 use Rattle.laws.specs.WaitingLists.{Found, first-by-some}
-use Rattle.invariant.specs.Invariant.{Entered, state-at, unmatched-state, Posted-before, Arrived-before, Reached}
-use Rattle.invariant.specs.matching.UnmatchedState.{unmatched-send}
+use Rattle.invariant.specs.Invariant.{Entered, state-at, unmatched-state, is-kept, Posted-before, Arrived-before, Reached}
+use Rattle.invariant.specs.matching.UnmatchedState.{unmatched-send, unmatched-kept}
 use Rattle.invariant.specs.matching.RowChanges.{Enters, Matches}
 use Rattle.invariant.specs.step.Places.{Next, next-fresh, Moved}
-use Rattle.invariant.specs.step.BufferUse.{Use, use-kept, use-charged, use-released, used-kept, used-released, used-charged, used-uncharged}
+use Rattle.invariant.specs.step.BufferUse.{Use, use-kept, use-charged, use-released, used-kept, used-released, used-charged, used-uncharged, Other, this-or-other}
 use Rattle.invariant.specs.step.BufferUse.{released-places, matched-is, stepped-places, stepped-moved, set-enters}
 use Rattle.invariant.specs.step.Cases.{Finds, Cause, Outcome, ends-half, ends-only-half, posts, pends, matches, stops}
 
@@ -42,6 +45,26 @@ half-row-state s x i = go (tells-message (op s i)) (tells-completion (op s i)) (
     go true b o = probed o
     go false true o = refl
     go false false o = refl
+
+-- what fits a room is a standard send, and fits beside what is in use there
+pub fits-room-standard : (s : Sheet) (r i : ℕ) (x : Job) → fits-room s r i x ≡ true → kept-in in-room (op s i) ≡ true
+unfolding fits-room kept-in
+fits-room-standard s r i x h = and-left (is-standard (op s i)) (ltb 0 (board s r .room) && fits-beside in-room s r i x) h
+
+fits-room-beside : (s : Sheet) (r i : ℕ) (x : Job) → fits-room s r i x ≡ true → fits-beside in-room s r i x ≡ true
+unfolding fits-room
+fits-room-beside s r i x h =
+    and-right (ltb 0 (board s r .room)) (fits-beside in-room s r i x)
+    (and-right (is-standard (op s i)) (ltb 0 (board s r .room) && fits-beside in-room s r i x) h)
+
+pub fits-room-some : (s : Sheet) (r i : ℕ) (x : Job) → fits-room s r i x ≡ true → 0 < board s r .room
+unfolding fits-room
+fits-room-some s r i x h =
+    ltb-true 0 (board s r .room) (and-left (ltb 0 (board s r .room)) (fits-beside in-room s r i x)
+    (and-right (is-standard (op s i)) (ltb 0 (board s r .room) && fits-beside in-room s r i x) h))
+
+or-neither : {a b : Bool} → a ≡ false → b ≡ false → (a || b) ≡ false
+or-neither e f = ap₂ (λ (c d : Bool). c || d) e f
 
 -- OUTCOMES of a step of board r, which is able, of a job that keeps the invariant
 module _ (s : Sheet) (g : Valid s) (lent : List ℕ) (x : Job) (R : Reached s lent x) (r : ℕ) (n : Next s x r) where
@@ -159,21 +182,21 @@ module _ (s : Sheet) (g : Valid s) (lent : List ℕ) (x : Job) (R : Reached s le
           stepped-moved y (used-kept s x (R .in-use-peak)) r (no-half (op s here)) places-inside refl
           (length-set (x .entries) here (bare-entry 1)) refl refl
 
-  -- a send is pending, in its state, after its charge if it is buffered
-  outcome-pends : (y : Job) → place-at x r .waiting ≡ false → is-send (op s here) ≡ true →
-      first-receive s here (x .receives) ≡ none → (is-buffered (op s here) ≡ true → fits-buffer s r here x ≡ true) →
-      Moved x y r (no-half (op s here)) × Use x y (use-charged s r here) →
-      Entered-bare y (cond (is-buffered (op s here)) 2 1) →
+  -- a send is pending, in its state, after its charge if it is kept
+  outcome-pends : (y : Job) (k : Bool) → is-kept s r here x ≡ k → place-at x r .waiting ≡ false → is-send (op s here) ≡ true →
+      first-receive s here (x .receives) ≡ none →
+      ((w : Store) → kept-in w (op s here) ≡ true → k ≡ true → fits-beside w s r here x ≡ true) →
+      Moved x y r (no-half (op s here)) × Use x y (use-charged s r here k) → Entered-bare y (cond k 2 1) →
       y .messages ≡ x .messages ++ (here ∷ []) → y .receives ≡ x .receives → y .memory ≡ x .memory → Outcome s x y r here
-  outcome-pends y w e none-fits room m entered messages receives memory =
+  outcome-pends y k is w e none-fits fits m entered messages receives memory =
       pends
       (record {
         not-waiting = w;
         is-one = e;
         none-fits = none-fits;
-        room = room;
+        fits = λ v a b. fits v a (sym is ∙ b);
         moved = m .0;
-        uses = m .1;
+        uses = subst (λ (b : Bool). Use x y (use-charged s r here b)) (sym is) (m .1);
         enters = now .0;
         row = now .1;
         messages = messages;
@@ -181,35 +204,39 @@ module _ (s : Sheet) (g : Valid s) (lent : List ℕ) (x : Job) (R : Reached s le
         memory = memory;
       })
     where
-      now : Entered-bare y (unmatched-state (op s here))
-      now = subst (λ (v : ℕ). Entered-bare y v) (sym (unmatched-send s here e)) entered
+      now : Entered-bare y (unmatched-state (is-kept s r here x) (op s here))
+      now =
+          subst (λ (v : ℕ). Entered-bare y v)
+          (sym (ap (λ (b : Bool). unmatched-state b (op s here)) is ∙ unmatched-send s here k e)) entered
 
-  outcome-standard : place-at x r .waiting ≡ false → is-send (op s here) ≡ true → is-buffered (op s here) ≡ false →
-      first-receive s here (x .receives) ≡ none → Outcome s x (counted (initiated s r here (pend-message here 1 x))) r here
-  unfolding initiated pend-message with-messages with-place with-places with-steps with-state with-entries job place-at
-  outcome-standard w e b none-fits =
-      outcome-pends y w e none-fits (λ c. true-not-false c b)
-      (stepped-moved y (used-uncharged s x (R .in-use-peak) r here b) r (no-half (op s here)) places-inside refl
+  outcome-not-kept : place-at x r .waiting ≡ false → is-send (op s here) ≡ true → is-kept s r here x ≡ false →
+      first-receive s here (x .receives) ≡ none → Outcome s x (counted (not-kept s r here x)) r here
+  unfolding not-kept initiated pend-message with-messages with-place with-places with-steps with-state with-entries job place-at
+  outcome-not-kept w e is none-fits =
+      outcome-pends y false is w e none-fits (λ v a b. true-not-false b refl)
+      (stepped-moved y (used-uncharged s x (R .in-use-peak) r here) r (no-half (op s here)) places-inside refl
       (length-set (x .entries) here (bare-entry 1)) refl refl)
-      (subst (λ (c : Bool). Entered-bare y (cond c 2 1)) (sym b) (entered-bare y w 1 (omega arith) (omega arith) refl))
-      refl refl refl
+      (entered-bare y w 1 (omega arith) (omega arith) refl) refl refl refl
     where
       y : Job
-      y = counted (initiated s r here (pend-message here 1 x))
+      y = counted (not-kept s r here x)
 
-  outcome-buffered : place-at x r .waiting ≡ false → is-send (op s here) ≡ true → is-buffered (op s here) ≡ true →
-      first-receive s here (x .receives) ≡ none → fits-buffer s r here x ≡ true →
-      Outcome s x (counted (initiated s r here (charge s r here (pend-message here 2 x)))) r here
-  unfolding initiated charge pend-message with-messages with-place with-places with-steps with-state with-entries job place-at
-  outcome-buffered w e b none-fits room =
-      outcome-pends y w e none-fits (λ c. room)
-      (stepped-moved y (used-charged s x (R .in-use-peak) r here places-inside b) r (no-half (op s here)) places-inside
+  outcome-kept : (v : Store) → place-at x r .waiting ≡ false → is-send (op s here) ≡ true → is-kept s r here x ≡ true →
+      kept-in v (op s here) ≡ true → first-receive s here (x .receives) ≡ none → fits-beside v s r here x ≡ true →
+      Outcome s x (counted (kept v s r here x)) r here
+  unfolding kept initiated charge pend-message with-messages with-place with-places with-steps with-state with-entries job place-at
+  outcome-kept v w e is in-v none-fits fits =
+      outcome-pends y true is w e none-fits (λ u a b. fits-there u a (this-or-other v u))
+      (stepped-moved y (used-charged s x (R .in-use-peak) r here v places-inside in-v) r (no-half (op s here)) places-inside
       refl (length-set (x .entries) here (bare-entry 2)) refl refl)
-      (subst (λ (c : Bool). Entered-bare y (cond c 2 1)) (sym b) (entered-bare y w 2 (omega arith) (omega arith) refl))
-      refl refl refl
+      (entered-bare y w 2 (omega arith) (omega arith) refl) refl refl refl
     where
       y : Job
-      y = counted (initiated s r here (charge s r here (pend-message here 2 x)))
+      y = counted (kept v s r here x)
+
+      fits-there : (u : Store) → kept-in u (op s here) ≡ true → (u ≡ v) ⊎ Other v u → fits-beside u s r here x ≡ true
+      fits-there u a (inl c) = subst (λ (z : Store). fits-beside z s r here x ≡ true) (sym c) fits
+      fits-there u a (inr o) = true-not-false a (o .not-kept (op s here) in-v)
 
   -- a message and a receive are matched
   outcome-matches : (m q : ℕ) → place-at x r .waiting ≡ false → is-send (op s m) ≡ true → is-receive (op s q) ≡ true →
@@ -259,7 +286,9 @@ module _ (s : Sheet) (g : Valid s) (lent : List ℕ) (x : Job) (R : Reached s le
       p : Moved x y r nb × Use x y (use-released s x m)
       p =
           stepped-moved y
-          (used-released s x (R .in-use-peak) m (omega (arith, g .rank-small m lm, R .placed .places-long))) r nb places-inside
+          (used-released s x (R .in-use-peak) m (omega (arith, g .rank-small m lm, R .placed .places-long))
+          (λ two. unmatched-kept s m (R .shaped .unmatched m (omega (arith, two)) free-m) two))
+          r nb places-inside
           refl
           (length-set (set (x .entries) m A) q B ∙ length-set (x .entries) m A) refl refl
 
@@ -307,8 +336,9 @@ module _ (s : Sheet) (g : Valid s) (lent : List ℕ) (x : Job) (R : Reached s le
 
   outcome-unmatched : place-at x r .waiting ≡ false → is-send (op s here) ≡ true → first-receive s here (x .receives) ≡ none →
       Outcome s x (counted (unmatched s r here x)) r here
-  unfolding unmatched
-  outcome-unmatched w k e = go (is-ready (op s here)) refl (is-buffered (op s here)) refl (fits-buffer s r here x) refl
+  unfolding unmatched is-kept fits-buffer kept-in
+  outcome-unmatched w k e =
+      go (is-ready (op s here)) refl (is-buffered (op s here)) refl (fits-buffer s r here x) refl (fits-room s r here x) refl
     where
       stopping : (v : ℕ) → Cause s x r here v → Outcome s x (counted (stopped v r here x)) r here
       stopping v cause =
@@ -322,16 +352,21 @@ module _ (s : Sheet) (g : Valid s) (lent : List ℕ) (x : Job) (R : Reached s le
           })
 
       go : (a : Bool) → is-ready (op s here) ≡ a → (b : Bool) → is-buffered (op s here) ≡ b → (c : Bool) → fits-buffer s r here x ≡ c →
+          (d : Bool) → fits-room s r here x ≡ d →
           Outcome s x
           (counted
           (cond a (stopped 4 r here x)
-          (cond b (cond c (initiated s r here (charge s r here (pend-message here 2 x))) (stopped 3 r here x))
-          (initiated s r here (pend-message here 1 x)))))
+          (cond b (cond c (kept in-attached s r here x) (stopped 3 r here x))
+          (cond d (kept in-room s r here x) (not-kept s r here x)))))
           r here
-      go true d b h c f = stopping 4 (inr (refl, d))
-      go false d true h true f = outcome-buffered w k h e f
-      go false d true h false f = stopping 3 (inl (refl, h, f))
-      go false d false h c f = outcome-standard w k h e
+      go true i b h c f d q = stopping 4 (inr (refl, i))
+      go false i true h true f d q =
+          outcome-kept in-attached w k (or-left (is-buffered (op s here)) (fits-room s r here x) h) h e f
+      go false i true h false f d q = stopping 3 (inl (refl, h, f))
+      go false i false h c f true q =
+          outcome-kept in-room w k (or-right (is-buffered (op s here)) (fits-room s r here x) q) (fits-room-standard s r here x q) e
+          (fits-room-beside s r here x q)
+      go false i false h c f false q = outcome-not-kept w k (or-neither h q) e
 
   outcome-sent : (o : Option ℕ) → first-receive s here (x .receives) ≡ o → place-at x r .waiting ≡ false →
       is-send (op s here) ≡ true →

@@ -17,7 +17,7 @@ use lib.ListN.{length, getD, set}
 use lib.Seq.{getD-set-same, getD-set-other}
 use borrow.Author.Tests.{ltb-true, leb-false, not-true, eq-eqb, ne-eqb}
 use Rattle.rules.specs.Sheet.{Sheet, board, P-of, N-of, rank-of}
-use Rattle.rules.specs.Job.{Job, Place, place, place-at}
+use Rattle.rules.specs.Job.{Job, Figures, Place, Store, in-attached, in-room, place, account, in-use-at, peak-at, place-at}
 use Rattle.rules.specs.Step.{able, next-op, is-finished, in-waiting-half, half-ends, is-none, one-finished, now-waiting}
 use Rattle.laws.specs.Tests.{and-left, and-right, or-cases, true-not-false}
 use Rattle.invariant.specs.sheet.Valid.{Valid}
@@ -115,17 +115,13 @@ getD-update {A} l r q f d h = go (ℕ-discrete q r)
 unfoldable pub after : (here last : Bool) → Place → Place
 after here last p = cond here (cond last (one-finished p) (now-waiting p)) p
 
-after-in-use : (h l : Bool) (p : Place) → after h l p .in-use ≡ p .in-use
-unfolding after one-finished now-waiting place
-after-in-use true true p = refl
-after-in-use true false p = refl
-after-in-use false l p = refl
-
-after-peak : (h l : Bool) (p : Place) → after h l p .peak ≡ p .peak
-unfolding after one-finished now-waiting place
-after-peak true true p = refl
-after-peak true false p = refl
-after-peak false l p = refl
+after-account : (w : Store) (h l : Bool) (p : Place) → account w (after h l p) ≡ account w p
+unfolding after one-finished now-waiting place account
+after-account in-attached true true p = refl
+after-account in-attached true false p = refl
+after-account in-room true true p = refl
+after-account in-room true false p = refl
+after-account w false l p = refl
 
 -- the places in y are those in x after a step of board r, which finished its operation or not (`last`)
 pub record Moved (x y : Job) (r : ℕ) (last : Bool) : Type 0 where
@@ -134,7 +130,7 @@ pub record Moved (x y : Job) (r : ℕ) (last : Bool) : Type 0 where
   pub place-is : (q : ℕ) → place-at y q ≡ after (eqb q r) last (used q)
   pub used-finished : (q : ℕ) → used q .finished ≡ place-at x q .finished
   pub used-waiting : (q : ℕ) → used q .waiting ≡ place-at x q .waiting
-  pub used-peak : (q : ℕ) → used q .peak ≡ max (place-at x q .peak) (used q .in-use)
+  pub used-peak : (w : Store) (q : ℕ) → account w (used q) .peak ≡ max (peak-at w x q) (account w (used q) .in-use)
   pub places-long : length (y .places) ≡ length (x .places)
   pub entries-long : length (y .entries) ≡ length (x .entries)
   pub stop-same : y .stop ≡ x .stop
@@ -173,11 +169,14 @@ module _ {x y : Job} {r : ℕ} {last : Bool} (M : Moved x y r last) where
   pub moved-waiting-other : (q : ℕ) → q ≢ r → place-at y q .waiting ≡ place-at x q .waiting
   moved-waiting-other q d = ap (λ (p : Place). p .waiting) (moved-other q d) ∙ M .used-waiting q
 
-  pub moved-in-use : (q : ℕ) → place-at y q .in-use ≡ M .used q .in-use
-  moved-in-use q = ap (λ (p : Place). p .in-use) (M .place-is q) ∙ after-in-use (eqb q r) last (M .used q)
+  moved-account : (w : Store) (q : ℕ) → account w (place-at y q) ≡ account w (M .used q)
+  moved-account w q = ap (λ (p : Place). account w p) (M .place-is q) ∙ after-account w (eqb q r) last (M .used q)
+
+  pub moved-in-use : (w : Store) (q : ℕ) → in-use-at w y q ≡ account w (M .used q) .in-use
+  moved-in-use w q = ap (λ (a : Figures). a .in-use) (moved-account w q)
 
   -- the peak is the most in use after any step
-  pub moved-peak : (q : ℕ) → place-at y q .peak ≡ max (place-at x q .peak) (place-at y q .in-use)
-  moved-peak q =
-      ap (λ (p : Place). p .peak) (M .place-is q) ∙ after-peak (eqb q r) last (M .used q)
-      ∙ M .used-peak q ∙ ap (λ (n : ℕ). max (place-at x q .peak) n) (sym (moved-in-use q))
+  pub moved-peak : (w : Store) (q : ℕ) → peak-at w y q ≡ max (peak-at w x q) (in-use-at w y q)
+  moved-peak w q =
+      ap (λ (a : Figures). a .peak) (moved-account w q)
+      ∙ M .used-peak w q ∙ ap (λ (n : ℕ). max (peak-at w x q) n) (sym (moved-in-use w q))

@@ -18,7 +18,7 @@ use lib.ListN.{length, take, drop}
 use lib.Seq.{take-at}
 use borrow.Author.Tests.{ltb-false, eq-eqb, ne-eqb, eqb-true}
 use Rattle.rules.specs.Limits.{report-size, order-room, scratch-size}
-use Rattle.rules.specs.Sheet.{Sheet, sheet-in, P-of, N-of, inbox-total}
+use Rattle.rules.specs.Sheet.{Sheet, second-in, sheet-in, P-of, N-of, inbox-total}
 use Rattle.rules.specs.Refusal.{Refusal, refusal, accepted, or-else, sheet-refusal}
 use Rattle.rules.specs.Step.{is-none}
 use Rattle.rules.specs.Order.{follow, run}
@@ -53,7 +53,7 @@ pub record Follow-answer {bs o : List ℕ} (f : Follow-call bs o) : Type 0 where
 module _ {bs o : List ℕ} (p : passes bs ≡ true) (f : Follow-call bs o) where
   abbrev follow-rooms : Refusal
   follow-rooms =
-      room-refusal (sheet-in bs) (length (f .inbox)) (length (f .report)) (order-room (N-of (sheet-in bs)))
+      room-refusal (second-in bs) (sheet-in bs) (length (f .inbox)) (length (f .report)) (order-room (N-of (sheet-in bs)))
       (length (f .scratch))
 
   abbrev follow-order : Refusal
@@ -70,11 +70,11 @@ module _ {bs o : List ℕ} (p : passes bs ≡ true) (f : Follow-call bs o) where
   unfolding follow-refusal
   after-sheet = or-else-passed (sheet-refusal bs) (or-else follow-rooms follow-order) (passed-number bs p)
 
-  follow-enough : Roomy (sheet-in bs) (length (f .inbox)) (length (f .report)) (order-room (N-of (sheet-in bs)))
+  follow-enough : Roomy (second-in bs) (sheet-in bs) (length (f .inbox)) (length (f .report)) (order-room (N-of (sheet-in bs)))
       (length (f .scratch))
   unfolding answers
   follow-enough =
-      not-eight (sheet-in bs) (length (f .inbox)) (length (f .report)) (order-room (N-of (sheet-in bs))) (length (f .scratch))
+      not-eight (second-in bs) (sheet-in bs) (length (f .inbox)) (length (f .report)) (order-room (N-of (sheet-in bs))) (length (f .scratch))
       (λ e. f .not-short (follow-told .0 ∙ ap (λ (z : Refusal). z .number)
       (after-sheet ∙ or-else-stopped follow-rooms follow-order (λ z. omega arith)) ∙ e))
 
@@ -82,7 +82,7 @@ module _ {bs o : List ℕ} (p : passes bs ≡ true) (f : Follow-call bs o) where
   unfolding refusal
   after-rooms =
       after-sheet ∙ or-else-passed follow-rooms follow-order
-      (ap (λ (z : Refusal). z .number) (rooms-enough (sheet-in bs) (length (f .inbox)) (length (f .report)) (order-room (N-of (sheet-in bs))) (length (f .scratch))
+      (ap (λ (z : Refusal). z .number) (rooms-enough (second-in bs) (sheet-in bs) (length (f .inbox)) (length (f .report)) (order-room (N-of (sheet-in bs))) (length (f .scratch))
       follow-enough))
 
   pub follow-answer : Follow-answer f
@@ -120,7 +120,7 @@ module _ {bs o : List ℕ} (p : passes bs ≡ true) (f : Follow-call bs o) where
     unfolding Follow-says left-by
     follow-inbox = f .said .1 ∙ kept-new (follow-number .number) _ (f .inbox) number-zero
 
-    pub follow-report : f .report-now ≡ in-front (report (sheet-in bs) (left-by (sheet-in bs) o (f .inbox))) (f .report)
+    pub follow-report : f .report-now ≡ in-front (report (second-in bs) (sheet-in bs) (left-by (sheet-in bs) o (f .inbox))) (f .report)
     unfolding Follow-says left-by
     follow-report = f .said .2 ∙ kept-new (follow-number .number) _ (f .report) number-zero
 
@@ -129,7 +129,7 @@ pub record Run-answer {bs : List ℕ} (f : Run-call bs) : Type 0 where
   pub inbox-room : inbox-total (sheet-in bs) ≤ length (f .inbox)
   pub number-zero : f .number ≡ 0
   pub inbox-is : f .inbox-now ≡ run (sheet-in bs) (f .inbox) .end .memory
-  pub report-is : f .report-now ≡ in-front (report (sheet-in bs) (run (sheet-in bs) (f .inbox) .end)) (f .report)
+  pub report-is : f .report-now ≡ in-front (report (second-in bs) (sheet-in bs) (run (sheet-in bs) (f .inbox) .end)) (f .report)
   pub order-is : f .order-now ≡ in-front (run (sheet-in bs) (f .inbox) .order) (f .order)
 
 pub run-answer : {bs : List ℕ} → passes bs ≡ true → (f : Run-call bs) → Run-answer f
@@ -147,19 +147,19 @@ run-answer {bs} p f =
     answer = run-refusal bs (length (f .inbox)) (length (f .report)) (length (f .order)) (length (f .scratch))
 
     run-rooms : Refusal
-    run-rooms = room-refusal (sheet-in bs) (length (f .inbox)) (length (f .report)) (length (f .order)) (length (f .scratch))
+    run-rooms = room-refusal (second-in bs) (sheet-in bs) (length (f .inbox)) (length (f .report)) (length (f .order)) (length (f .scratch))
 
     answer-rooms : answer ≡ run-rooms
     answer-rooms = or-else-passed (sheet-refusal bs) run-rooms (passed-number bs p)
 
-    enough : Roomy (sheet-in bs) (length (f .inbox)) (length (f .report)) (length (f .order)) (length (f .scratch))
+    enough : Roomy (second-in bs) (sheet-in bs) (length (f .inbox)) (length (f .report)) (length (f .order)) (length (f .scratch))
     enough =
-        not-eight (sheet-in bs) (length (f .inbox)) (length (f .report)) (length (f .order)) (length (f .scratch))
+        not-eight (second-in bs) (sheet-in bs) (length (f .inbox)) (length (f .report)) (length (f .order)) (length (f .scratch))
         (λ e. f .not-short (f .said .0 .0 ∙ ap (λ (z : Refusal). z .number) answer-rooms ∙ e))
 
     all-zero : answer .number ≡ 0
     all-zero = ap (λ (z : Refusal). z .number) (answer-rooms
-        ∙ rooms-enough (sheet-in bs) (length (f .inbox)) (length (f .report)) (length (f .order)) (length (f .scratch)) enough)
+        ∙ rooms-enough (second-in bs) (sheet-in bs) (length (f .inbox)) (length (f .report)) (length (f .order)) (length (f .scratch)) enough)
 
 pub run-lent : {bs : List ℕ} → passes bs ≡ true → (f : Run-call bs) → Lent bs (f .inbox)
 run-lent p f =

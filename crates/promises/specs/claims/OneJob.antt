@@ -12,7 +12,7 @@ use Rattle.rules.specs.Job.{job, started}
 use Rattle.rules.specs.Order.{follow}
 use Rattle.rules.specs.Report.{pending-messages, pending-receives, cut-messages, is-pending-message, is-pending-receive}
 use Rattle.rules.specs.Claims.{accepts, left-by}
-use Rattle.promises.specs.Statements.{Lent, told-by, Deliveries, Exact, Verdicts, Finished-leaves-none, No-request-left, Charged, In-use, Peaks, Within-attached, Buffers-hold, Counts, Steps}
+use Rattle.promises.specs.Statements.{Lent, told-by, Deliveries, Exact, Verdicts, Finished-leaves-none, No-request-left, Charged, In-use, Peaks, Buffered-by-mode, Kept-in-one, Within-size, Buffers-hold, Counts, Steps}
 use Rattle.invariant.specs.sheet.Valid.{Valid}
 use Rattle.invariant.specs.sheet.FromBytes.{valid-from-bytes}
 use Rattle.invariant.specs.Invariant.{Reached}
@@ -21,7 +21,7 @@ use Rattle.invariant.specs.preserve.Orders.{start-peak, start-reached, left-rea
 use Rattle.promises.specs.claims.Deliveries.{deliveries-reached}
 use Rattle.promises.specs.claims.Verdicts.{verdict-reached}
 use Rattle.promises.specs.claims.RequestsLeft.{none-left}
-use Rattle.promises.specs.claims.Figures.{in-use-reached, follow-peak, follow-steps}
+use Rattle.promises.specs.claims.Figures.{in-use-reached, kept-reached, follow-peak, follow-steps}
 
 pub lent-valid : {bs i : List ℕ} → Lent bs i → Valid (sheet-in bs)
 lent-valid {bs} h = valid-from-bytes bs (h .passing)
@@ -44,21 +44,25 @@ no-request-left bs i rs h e =
 
 pub in-use : In-use
 unfolding In-use Charged told-by
-in-use bs i rs h r l = in-use-reached (lent-reached h rs) r l
+in-use bs i rs h w r l = in-use-reached (lent-reached h rs) w r l
+
+pub kept-in-one : Kept-in-one
+unfolding Kept-in-one Buffered-by-mode told-by
+kept-in-one bs i rs h m two = kept-reached (lent-reached h rs) m two
 
 pub peaks : Peaks
 unfolding Peaks left-by follow
-peaks bs i rs r h =
+peaks bs i rs w r h =
     omega (
       arith,
-      follow-peak (lent-valid h) (delivery-laws (sheet-in bs) (lent-valid h)) (h .room) r 0 rs
+      follow-peak (lent-valid h) (delivery-laws (sheet-in bs) (lent-valid h)) (h .room) w r 0 rs
           (start-reached (lent-valid h) i),
-      start-peak (lent-valid h) i r,
+      start-peak (lent-valid h) i w r,
     )
 
 pub buffers-hold : Buffers-hold
-unfolding Buffers-hold Within-attached told-by
-buffers-hold bs i rs h r l = let R = lent-reached h rs in (R .in-use-peak r, R .peak-attached r l)
+unfolding Buffers-hold Within-size told-by
+buffers-hold bs i rs h w r l = let R = lent-reached h rs in (R .in-use-peak w r, R .peak-size w r l)
 
 pub counts : Counts
 unfolding Counts told-by pending-messages pending-receives cut-messages is-pending-message is-pending-receive

@@ -10,8 +10,8 @@ use mathlib.Core.Option.{Option, none, some}
 use Prim.Native.Nat.{ℕ, _<_}
 use lib.ListN.{take}
 use Rattle.rules.specs.Limits.{report-size}
-use Rattle.rules.specs.Sheet.{Sheet, sheet-in, P-of, N-of, inbox-total}
-use Rattle.rules.specs.Job.{Job, place-at, started}
+use Rattle.rules.specs.Sheet.{Sheet, second-in, sheet-in, P-of, N-of, inbox-total}
+use Rattle.rules.specs.Job.{Job, Store, peak-at, started}
 use Rattle.rules.specs.Refusal.{refusal}
 use Rattle.rules.specs.Step.{is-none}
 use Rattle.rules.specs.Order.{follow, run}
@@ -54,14 +54,15 @@ module _ {bs i j : List ℕ} (a : Lent bs i) (b : Lent bs j) (same : Same-start 
   both : Left-same-positions s i j (follow s rs i) (follow s rs j)
   both = rooms-same-positions g A (a .room) (b .room) rs
 
-  same-peaks : (r : ℕ) → r < P-of s → place-at (left-by s rs i) r .peak ≡ place-at (left-by s rs j) r .peak
+  same-peaks : (w : Store) (r : ℕ) → r < P-of s → peak-at w (left-by s rs i) r ≡ peak-at w (left-by s rs j) r
   unfolding Peaks
-  same-peaks r l =
-      peaks bs i rs r a ∙ most-same g A (a .room) (b .room) r l rs (start-same-positions g i j) ∙ sym (peaks bs j rs r b)
+  same-peaks w r l =
+      peaks bs i rs w r a ∙ most-same g A (a .room) (b .room) w r l rs (start-same-positions g i j) ∙ sym (peaks bs j rs w r b)
 
-  same-report : report s (left-by s rs i) ≡ report s (left-by s rs j)
+  same-report : report (second-in bs) s (left-by s rs i) ≡ report (second-in bs) s (left-by s rs j)
   unfolding left-by
-  same-report = whole-report s (left-by s rs i) (left-by s rs j) (positions-equal g (both .same-positions)) same-peaks
+  same-report =
+      whole-report s (left-by s rs i) (left-by s rs j) (positions-equal g (both .same-positions)) same-peaks (second-in bs)
 
   same-memory : take (inbox-total s) (left-by s rs i .memory) ≡ take (inbox-total s) (left-by s rs j .memory)
   unfolding left-by
@@ -80,7 +81,7 @@ module _ {bs : List ℕ} (g : Run-call bs) (zero-g : g .number ≡ 0) where
     (
       ap (take (inbox-total s)) (F .memory) ∙ same-memory here there same order
           ∙ ap (λ (x : Job). take (inbox-total s) (x .memory)) (E .same-job) ∙ sym (ap (take (inbox-total s)) (G .memory)),
-      F .reported ∙ same-report here there same order ∙ ap (report s) (E .same-job) ∙ sym (G .reported),
+      F .reported ∙ same-report here there same order ∙ ap (report (second-in bs) s) (E .same-job) ∙ sym (G .reported),
     ),
   )
     where
@@ -104,10 +105,10 @@ module _ {bs : List ℕ} (g : Run-call bs) (zero-g : g .number ≡ 0) where
           follow-answer p f .number-is
           ∙ accepted-number (follow s order (f .inbox) .refused-at) (two-accepted there here (sym same) order (E .accepted))
 
-      F : Shows s (left-by s order (f .inbox)) (f .inbox-now) (f .report-now)
+      F : Shows (second-in bs) s (left-by s order (f .inbox)) (f .inbox-now) (f .report-now)
       F = follow-shows p f zero-f
 
-      G : Shows s (run s (g .inbox) .end) (g .inbox-now) (g .report-now)
+      G : Shows (second-in bs) s (run s (g .inbox) .end) (g .inbox-now) (g .report-now)
       G = run-shows p g E
 
 pub run-replayed : Run-replayed

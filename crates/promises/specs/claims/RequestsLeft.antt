@@ -13,7 +13,7 @@ use native.Mathlib.Omega.{arith}
 use native.Mathlib.Decide.{ℕ-discrete}
 use lib.Dec.{eqb}
 use borrow.Author.Tests.{leb-true, ne-eqb}
-use Rattle.rules.specs.Sheet.{Sheet, op, board, P-of, N-of, rank-of, is-send, is-receive, is-buffered, no-half, takes-slot, frees-slot, tells}
+use Rattle.rules.specs.Sheet.{Sheet, op, board, P-of, N-of, rank-of, is-send, is-receive, no-half, takes-slot, frees-slot, tells}
 use Rattle.rules.specs.Job.{Job, place-at}
 use Rattle.rules.specs.Step.{next-op, is-finished, complete, complete-if, waited, half-complete}
 use Rattle.rules.specs.Report.{count-from, is-pending-receive, pending-receives}
@@ -25,7 +25,8 @@ use Rattle.invariant.specs.sheet.Extents.{send-inside, receive-inside, takes-in
 use Rattle.invariant.specs.sheet.Waits.{Waiter, request-waited}
 use Rattle.invariant.specs.Invariant.{Entered, state-at, reach, Reached}
 use Rattle.invariant.specs.matching.UnmatchedState.{unmatched-send, unmatched-receive, unmatched-only-half}
-use Rattle.promises.specs.Statements.{told-by, Waited-for, Slot-held, None-left}
+use Rattle.promises.specs.Statements.{told-by, Kept-by-mode, Waited-for, Slot-held, None-left}
+use Rattle.promises.specs.claims.Figures.{kept-reached}
 
 -- none of a range counts where the test fails at each
 count-none : (k i : ℕ) (f : ℕ → Bool) → ((j : ℕ) → f j ≡ false) → count-from k i f ≡ 0
@@ -59,7 +60,8 @@ module _ {s : Sheet} (g : Valid s) {lent : List ℕ} {x : Job} (R : Reached s le
   waiter-finished : (w : ℕ) → w < N-of s → frees-slot (op s w) ≡ true → state-at x w ≡ 5
   waiter-finished w l f =
       let only = frees-only-half (op s w) f in
-      R .shaped .unmatched w (entered w l) (R .shaped .only-half-unmatched w only) ∙ unmatched-only-half s w only
+      let U = R .shaped .unmatched w (entered w l) (R .shaped .only-half-unmatched w only) in
+      U .is ∙ unmatched-only-half s w (U .kept) only
 
   request-complete : (i : ℕ) → takes-slot (op s i) ≡ true → 2 ≤ state-at x i
   unfolding half-complete complete-if complete
@@ -93,27 +95,26 @@ module _ {s : Sheet} (g : Valid s) {lent : List ℕ} {x : Job} (R : Reached s le
           (omega (
             arith,
             finished-complete q l (receive-not-frees (op s q) e) (receive-not-tells (op s q) e) (receive-no-half-takes (op s q) e),
-            R .shaped .unmatched q (entered q l) d,
-            unmatched-receive s q e,
+            unmatched-receive s q e (R .shaped .unmatched q (entered q l) d),
           ))
 
-  send-matched : (m : ℕ) → is-send (op s m) ≡ true → (state-at x m ≡ 3) ⊎ ((state-at x m ≡ 2) × (is-buffered (op s m) ≡ true))
+  send-matched : (m : ℕ) → is-send (op s m) ≡ true → (state-at x m ≡ 3) ⊎ ((state-at x m ≡ 2) × Kept-by-mode s m)
   send-matched m e = go (ℕ-discrete (state-at x m) 3)
     where
       l : m < N-of s
       l = send-inside s m e
 
-      pending : state-at x m ≢ 3 → state-at x m ≡ cond (is-buffered (op s m)) 2 1
-      pending d = R .shaped .unmatched m (entered m l) d ∙ unmatched-send s m e
-
-      buffered : (b : Bool) → is-buffered (op s m) ≡ b → state-at x m ≡ cond b 2 1 → (state-at x m ≡ 2) × (is-buffered (op s m) ≡ true)
-      buffered true b v = (v, b)
-      buffered false b v =
+      buffered : (k : Bool) → state-at x m ≡ cond k 2 1 → state-at x m ≡ 2
+      buffered true v = v
+      buffered false v =
           absurd (omega (arith, finished-complete m l (send-not-frees (op s m) e) (send-not-tells (op s m) e) (send-no-half-takes (op s m) e)))
 
-      go : Dec (state-at x m ≡ 3) → (state-at x m ≡ 3) ⊎ ((state-at x m ≡ 2) × (is-buffered (op s m) ≡ true))
+      go : Dec (state-at x m ≡ 3) → (state-at x m ≡ 3) ⊎ ((state-at x m ≡ 2) × Kept-by-mode s m)
       go (yes q) = inl q
-      go (no d) = inr (buffered (is-buffered (op s m)) refl (pending d))
+      go (no d) =
+          let U = R .shaped .unmatched m (entered m l) d in
+          let two = buffered (U .kept) (U .is ∙ unmatched-send s m (U .kept) e) in
+          inr (two, kept-reached R m two)
 
   none-pending : pending-receives s x ≡ 0
   unfolding pending-receives is-pending-receive

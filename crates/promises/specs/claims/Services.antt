@@ -3,13 +3,13 @@
 --   follows-alike, run-alike, follow-swaps
 -- Assumes nothing: what it takes from the orders (Ends-alike, Swap-same, Run-ends) is an argument of each law.
 use mathlib.Core.Path.{_≡_, sym, ap, _∙_}
-use mathlib.Core.Bool.{true}
+use mathlib.Core.Bool.{Bool, true}
 use mathlib.Core.List.{List, _∷_, _++_}
 use mathlib.Core.Option.{Option}
 use Prim.Native.Nat.{ℕ, _≤_}
 use lib.ListN.{length, take}
 use Rattle.rules.specs.Limits.{report-size}
-use Rattle.rules.specs.Sheet.{Sheet, sheet-in, P-of, N-of, inbox-total}
+use Rattle.rules.specs.Sheet.{Sheet, second-in, sheet-in, P-of, N-of, inbox-total}
 use Rattle.rules.specs.Job.{Job}
 use Rattle.rules.specs.Step.{is-none}
 use Rattle.rules.specs.Order.{follow, run, none-able}
@@ -33,7 +33,7 @@ use Rattle.promises.specs.claims.Calls.{follow-answer, follow-lent, foll
 -- ALIKE AS FAR AS THE SHEET'S OWN ROOM GOES
 record Alike-front (s : Sheet) (x y : Job) : Type 0 where
   memory : take (inbox-total s) (x .memory) ≡ take (inbox-total s) (y .memory)
-  reports : without-peaks (P-of s) (report s x) ≡ without-peaks (P-of s) (report s y)
+  reports : (e : Bool) → without-peaks e (P-of s) (report e s x) ≡ without-peaks e (P-of s) (report e s y)
 
 front-alike : {s : Sheet} {x y : Job} → Alike s x y → Alike-front s x y
 unfolding Alike
@@ -56,33 +56,34 @@ front-next : {s : Sheet} {x y z : Job} → Alike-front s x y → Alike-front s y
 front-next a b =
     record {
       memory = a .memory ∙ b .memory;
-      reports = a .reports ∙ b .reports;
+      reports = λ e. a .reports e ∙ b .reports e;
     }
 
--- inbox and report as a call left them show a job
-pub record Shows (s : Sheet) (x : Job) (i r : List ℕ) : Type 0 where
+-- inbox and report, of an edition, as a call left them show a job
+pub record Shows (e : Bool) (s : Sheet) (x : Job) (i r : List ℕ) : Type 0 where
   pub memory : i ≡ x .memory
-  pub reported : take (report-size (P-of s) (N-of s)) r ≡ report s x
+  pub reported : take (report-size e (P-of s) (N-of s)) r ≡ report e s x
 
-shows : (s : Sheet) (x : Job) {i r : List ℕ} (old : List ℕ) → length (x .entries) ≡ N-of s → i ≡ x .memory →
-    r ≡ in-front (report s x) old → Shows s x i r
-shows s x old long m h =
+shows : (e : Bool) (s : Sheet) (x : Job) {i r : List ℕ} (old : List ℕ) → length (x .entries) ≡ N-of s → i ≡ x .memory →
+    r ≡ in-front (report e s x) old → Shows e s x i r
+shows e s x old long m h =
     record {
       memory = m;
       reported =
-          ap (λ (z : List ℕ). take (report-size (P-of s) (N-of s)) z) h
-          ∙ front-report (report s x) old (report-size (P-of s) (N-of s)) (report-length s x long);
+          ap (λ (z : List ℕ). take (report-size e (P-of s) (N-of s)) z) h
+          ∙ front-report (report e s x) old (report-size e (P-of s) (N-of s)) (report-length e s x long);
     }
 
-shown-alike : (bs : List ℕ) {i r j q : List ℕ} {x y : Job} → Shows (sheet-in bs) x i r → Shows (sheet-in bs) y j q →
+shown-alike : (bs : List ℕ) {i r j q : List ℕ} {x y : Job} → Shows (second-in bs) (sheet-in bs) x i r → Shows (second-in bs) (sheet-in bs) y j q →
     Alike-front (sheet-in bs) x y → Left-alike bs i r j q
 unfolding Left-alike
 shown-alike bs a b h =
-    let s = sheet-in bs in (
+    let s = sheet-in bs in
+    let e = second-in bs in (
       ap (λ (z : List ℕ). take (inbox-total s) z) (a .memory) ∙ h .memory
           ∙ ap (λ (z : List ℕ). take (inbox-total s) z) (sym (b .memory)),
-      ap (λ (z : List ℕ). without-peaks (P-of s) z) (a .reported) ∙ h .reports
-          ∙ ap (λ (z : List ℕ). without-peaks (P-of s) z) (sym (b .reported)),
+      ap (λ (z : List ℕ). without-peaks e (P-of s) z) (a .reported) ∙ h .reports e
+          ∙ ap (λ (z : List ℕ). without-peaks e (P-of s) z) (sym (b .reported)),
     )
 
 -- CALLS
@@ -96,15 +97,15 @@ module _ {bs : List ℕ} (p : passes bs ≡ true) where
       }
 
   pub follow-shows : {o : List ℕ} (f : Follow-call bs o) → f .number ≡ 0 →
-      Shows (sheet-in bs) (left-by (sheet-in bs) o (f .inbox)) (f .inbox-now) (f .report-now)
+      Shows (second-in bs) (sheet-in bs) (left-by (sheet-in bs) o (f .inbox)) (f .inbox-now) (f .report-now)
   follow-shows {o} f h =
-      shows (sheet-in bs) (left-by (sheet-in bs) o (f .inbox)) (f .report) (lent-reached (follow-lent p f) o .placed .entries-long)
+      shows (second-in bs) (sheet-in bs) (left-by (sheet-in bs) o (f .inbox)) (f .report) (lent-reached (follow-lent p f) o .placed .entries-long)
       (follow-inbox p f h) (follow-report p f h)
 
   pub run-shows : (g : Run-call bs) → Ends (sheet-in bs) (g .inbox) →
-      Shows (sheet-in bs) (run (sheet-in bs) (g .inbox) .end) (g .inbox-now) (g .report-now)
+      Shows (second-in bs) (sheet-in bs) (run (sheet-in bs) (g .inbox) .end) (g .inbox-now) (g .report-now)
   run-shows g E =
-      shows (sheet-in bs) (run (sheet-in bs) (g .inbox) .end) (g .report)
+      shows (second-in bs) (sheet-in bs) (run (sheet-in bs) (g .inbox) .end) (g .report)
       (ap (λ (z : Job). length (z .entries)) (sym (E .same-job))
       ∙ lent-reached (run-lent p g) (run (sheet-in bs) (g .inbox) .order) .placed .entries-long) (run-answer p g .inbox-is)
       (run-answer p g .report-is)

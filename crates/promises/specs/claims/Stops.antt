@@ -13,8 +13,8 @@ use native.Mathlib.Omega.{arith}
 use lib.ListN.{length}
 use borrow.Author.Tests.{leb-false, lt-leb}
 use Rattle.rules.specs.Sheet.{Sheet, op, board, sheet-in, P-of, inbox-total, is-send, is-receive, is-buffered, is-ready}
-use Rattle.rules.specs.Job.{Job, Stop, job, entry-at, place-at, started, with-stop, with-steps}
-use Rattle.rules.specs.Step.{able, step, next-op, is-none, fits-with, first-receive, fits-buffer, charge-of, stopped}
+use Rattle.rules.specs.Job.{Job, Stop, in-attached, in-use-at, job, entry-at, place-at, started, with-stop, with-steps}
+use Rattle.rules.specs.Step.{able, step, next-op, is-none, fits-with, first-receive, fits-beside, fits-buffer, size-of, charge-of, stopped}
 use Rattle.rules.specs.Order.{Followed, followed, follow-from, follow}
 use Rattle.rules.specs.Claims.{accepts, left-by}
 use Rattle.laws.specs.Tests.{true-not-false}
@@ -53,10 +53,10 @@ module _ {s : Sheet} (g : Valid s) {lent : List ℕ} {x : Job} (R : Reached s le
   i = next-op s x r
 
   overflow-is : (v : ℕ) → Cause s x r i v →
-      (v ≡ 3) ↔ ((is-buffered (op s i) ≡ true) × (board s r .attached < place-at x r .in-use + charge-of (op s i)))
-  unfolding fits-buffer
+      (v ≡ 3) ↔ ((is-buffered (op s i) ≡ true) × (board s r .attached < in-use-at in-attached x r + charge-of in-attached (op s i)))
+  unfolding fits-buffer fits-beside size-of
   overflow-is v (inl c) =
-      (λ e. (c .1, leb-false (place-at x r .in-use + charge-of (op s i)) (board s r .attached) (c .2)), λ h. c .0)
+      (λ e. (c .1, leb-false (in-use-at in-attached x r + charge-of in-attached (op s i)) (board s r .attached) (c .2)), λ h. c .0)
   overflow-is v (inr c) =
       (λ e. absurd (omega (arith, c .0)), λ h. true-not-false (h .0) (ready-not-buffered (op s i) (c .1)))
 

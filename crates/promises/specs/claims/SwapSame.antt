@@ -2,28 +2,34 @@
 -- where it always is, and so of the calls of follow.
 --   swap-general, swap-same, calls-swap
 -- Assumes nothing.
-use mathlib.Core.Path.{_≡_, sym, ap, subst, _∙_}
+use mathlib.Core.Path.{_≡_, refl, sym, ap, subst, _∙_}
 use mathlib.Core.Logic.{_≢_}
 use mathlib.Core.Bool.{true}
 use mathlib.Core.List.{List, _∷_, _++_}
 use mathlib.Core.Option.{none}
-use Prim.Native.Nat.{ℕ, suc}
+use Prim.Native.Nat.{ℕ, suc, _≤_}
+use native.Mathlib.Omega.{arith}
+use native.Mathlib.Decide.{decLe}
 use lib.ListN.{length}
-use Rattle.rules.specs.Sheet.{Sheet, sheet-in}
-use Rattle.rules.specs.Job.{Job}
-use Rattle.rules.specs.Step.{able, step, next-op}
+use Rattle.rules.specs.Sheet.{Sheet, op, sheet-in, rank-of, only-half}
+use Rattle.rules.specs.Job.{Job, place-at}
+use Rattle.rules.specs.Step.{able, step, next-op, in-waiting-half}
 use Rattle.rules.specs.Order.{Followed, follow, follow-from}
 use Rattle.rules.specs.Claims.{accepts, left-by, calm, Alike}
-use Rattle.laws.specs.Tests.{true-not-false}
-use Rattle.promises.specs.Statements.{Lent, Tells-same, Harmless, Swap-general, Swap-same}
+use Rattle.laws.specs.Calm.{calm-rooms}
+use Rattle.laws.specs.Tests.{or-false-left, true-not-false}
+use Rattle.promises.specs.Statements.{Lent, Tells-same, Keeps-same, Harmless, Swap-general, Swap-same}
 use Rattle.promises.specs.ServiceStatements.{Follow-swaps}
 use Rattle.invariant.specs.sheet.Valid.{Valid}
 use Rattle.invariant.specs.deliveries.Laws.{Delivery-laws}
-use Rattle.invariant.specs.Invariant.{Reached}
+use Rattle.invariant.specs.Invariant.{state-at, Reached}
+use Rattle.invariant.specs.step.Places.{able-next, next-fresh}
+use Rattle.invariant.specs.preserve.Step.{step-sound}
+use Rattle.promises.specs.compare.AfterStep.{position-next, moved-position-other}
 use Rattle.invariant.specs.deliveries.Commute.{delivery-laws}
 use Rattle.promises.specs.compare.WholeOrders.{Left-same-positions, positions-follow, follow-join, follow-two}
-use Rattle.promises.specs.compare.Exchange.{E, swap-able, able-p, able-q, swap-same-positions}
-use Rattle.promises.specs.compare.CalmSheets.{calm-going, calm-not-any-source, calm-no-query}
+use Rattle.promises.specs.compare.Exchange.{E, step-moved, swap-able, able-p, able-q, swap-same-positions}
+use Rattle.promises.specs.compare.CalmSheets.{calm-going, calm-not-any-source, calm-no-query, covered-fits}
 use Rattle.promises.specs.compare.SamePositionsAlike.{positions-alike}
 use Rattle.promises.specs.claims.Services.{follow-swaps}
 use Rattle.promises.specs.claims.OneJob.{lent-valid, lent-reached}
@@ -79,6 +85,26 @@ module _ {bs i : List ℕ} (h : Lent bs i) (before : List ℕ) (p q : ℕ) (d : 
       let going = calm-going g c X j a in
       calm-going g c (E g A (h .room) X j a going .reached) k (swap-able g A (h .room) X j a going k (λ f. e (sym f)) b)
 
+  -- whether board j's next send, which is no waiting half, fits its room is the same after the other board's step
+  calm-keeps : calm s ≡ true → (j k : ℕ) → j ≢ k → able s x j ≡ true → able s x k ≡ true → Keeps-same s x j k
+  unfolding Keeps-same in-waiting-half
+  calm-keeps c j k e a b half t =
+      let F = step-sound g A (h .room) X k b in
+      let going = calm-going g c X k b in
+      let n = able-next s g x j a in
+      let next : next-op s x j ≡ next-op s (step s k x) j =
+      position-next s x (step s k x) j (sym (moved-position-other (step-moved g A (h .room) X k b going) j e)) in
+      let fresh = next-fresh s x j (X .placed) n (or-false-left (place-at x j .waiting) (only-half (op s (next-op s x j))) half) in
+      let m = able-next s g (step s k x) j (swap-able g A (h .room) X k b going j e a) in
+      covered-fits g (calm-rooms s c) (F .reached) X j (next-op s x j) m n next refl
+      (not-entered (decLe 1 (state-at (step s k x) (next-op s x j))) (λ there. F .back (next-op s x j)
+      (λ f. e (sym (n .ranked) ∙ ap (λ (z : ℕ). rank-of s z) f ∙ able-next s g x k b .ranked)) there) fresh)
+      fresh t
+    where
+      not-entered : {v u : ℕ} → Dec (1 ≤ v) → (1 ≤ v → 1 ≤ u) → u ≡ 0 → v ≡ 0
+      not-entered (yes l) f z = absurd (omega (arith, f l, z))
+      not-entered (no d) f z = omega arith
+
   calm-harmless : calm s ≡ true → able s x p ≡ true → able s x q ≡ true → Harmless s x p q
   unfolding Tells-same
   calm-harmless c a b =
@@ -88,6 +114,8 @@ module _ {bs i : List ℕ} (h : Lent bs i) (before : List ℕ) (p q : ℕ) (d : 
         no-race = λ r half other sends receives wild fits too. true-not-false wild (calm-not-any-source s c r);
         tells-same = λ t. true-not-false t (calm-no-query s c (next-op s x p));
         tells-same-swapped = λ t. true-not-false t (calm-no-query s c (next-op s x q));
+        keeps-same = calm-keeps c p q d a b;
+        keeps-same-swapped = calm-keeps c q p (λ e. d (sym e)) b a;
       }
 
 pub swap-general : Swap-general

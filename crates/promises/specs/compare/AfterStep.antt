@@ -14,9 +14,9 @@ use Prim.Native.Nat.{ℕ, suc, _+_, _*_, _<_}
 use lib.ListN.{getD}
 use native.Mathlib.Omega.{arith}
 use Rattle.rules.specs.Sheet.{Sheet, op, board, is-receive, only-half, is-ready, is-buffered, no-half}
-use Rattle.rules.specs.Job.{Job, Stop, Place, place, job, place-at, with-entries, with-places, with-messages, with-receives, with-stop, with-steps}
+use Rattle.rules.specs.Job.{Job, Stop, Place, in-attached, in-room, first-place, job, place-at, with-entries, with-places, with-messages, with-receives, with-stop, with-steps}
 use Rattle.rules.specs.Step.{able, step, next-op, in-waiting-half, is-none, first-message, first-receive, matched, with-place, with-state, charge}
-use Rattle.rules.specs.Step.{pend-message, pend-receive, stopped, initiated, fits-buffer, unmatched, sent, received, initiating, ended, with-row, half-row}
+use Rattle.rules.specs.Step.{pend-message, pend-receive, stopped, initiated, fits-buffer, fits-room, kept, not-kept, unmatched, sent, received, initiating, ended, with-row, half-row}
 use Rattle.invariant.specs.sheet.Valid.{Valid}
 use Rattle.invariant.specs.sheet.Kinds.{send-not-only-half, receive-not-only-half}
 use Rattle.invariant.specs.Invariant.{Reached}
@@ -64,19 +64,20 @@ module _ (s : Sheet) (r i : ℕ) (x : Job) where
       sent s r i o x .stop ≡ cond (is-none o)
       (cond (is-ready (op s i)) (some (stop-at-op 4 r i))
       (cond (is-buffered (op s i)) (cond (fits-buffer s r i x) (x .stop) (some (stop-at-op 3 r i))) (x .stop))) (x .stop)
-  unfolding sent unmatched initiated charge pend-message with-messages with-place with-places with-state with-entries stopped
+  unfolding sent unmatched kept not-kept initiated charge pend-message with-messages with-place with-places with-state with-entries stopped
       with-stop stop-at-op is-none job
   sent-stop (some q) = matched-stop i q
-  sent-stop none = go (is-ready (op s i)) (is-buffered (op s i)) (fits-buffer s r i x)
+  sent-stop none = go (is-ready (op s i)) (is-buffered (op s i)) (fits-buffer s r i x) (fits-room s r i x)
     where
-      go : (a b c : Bool) →
-          cond a (stopped 4 r i x) (cond b (cond c (initiated s r i (charge s r i (pend-message i 2 x))) (stopped 3 r i x))
-          (initiated s r i (pend-message i 1 x))) .stop
+      go : (a b c d : Bool) →
+          cond a (stopped 4 r i x) (cond b (cond c (kept in-attached s r i x) (stopped 3 r i x))
+          (cond d (kept in-room s r i x) (not-kept s r i x))) .stop
           ≡ cond a (some (stop-at-op 4 r i)) (cond b (cond c (x .stop) (some (stop-at-op 3 r i))) (x .stop))
-      go true b c = refl
-      go false true true = refl
-      go false true false = refl
-      go false false c = refl
+      go true b c d = refl
+      go false true true d = refl
+      go false true false d = refl
+      go false false c true = refl
+      go false false c false = refl
 
 pub step-stop : (s : Sheet) (r : ℕ) (x : Job) →
     step s r x .stop
@@ -194,7 +195,7 @@ unfolding position place-at
 places-position x y e q = ap (λ (l : List Place). position-in l q) e
   where
     position-in : List Place → ℕ → ℕ
-    position-in l q = 2 * getD l q (place 0 false 0 0) .finished + cond (getD l q (place 0 false 0 0) .waiting) 1 0
+    position-in l q = 2 * getD l q first-place .finished + cond (getD l q first-place .waiting) 1 0
 
 -- WHAT THE PLACE OF A BOARD DECIDES
 module _ (s : Sheet) (x y : Job) (r : ℕ) (e : position x r ≡ position y r) where

@@ -7,6 +7,7 @@
 --   still-able                                                       a board that stands where it stood
 -- Assumes nothing.
 use mathlib.Core.Path.{_≡_, refl, sym, ap, _∙_}
+use mathlib.Core.Logic.{_≢_}
 use mathlib.Core.Bool.{Bool, true, false, _&&_, _||_, not, cond}
 use mathlib.Core.List.{List}
 use mathlib.Core.Option.{Option, none, some}
@@ -21,7 +22,7 @@ use Rattle.laws.specs.Tests.{and-both, and-left, and-right, true-not-false}
 use Rattle.laws.specs.WaitingLists.{first-by-none, first-by-some}
 use Rattle.invariant.specs.sheet.Valid.{Valid}
 use Rattle.invariant.specs.sheet.Kinds.{kind-send, fit-one-board}
-use Rattle.invariant.specs.Invariant.{Entered, state-at, partner-at, reach, Pending-message, Matched-pair, Placed, Reached}
+use Rattle.invariant.specs.Invariant.{Entered, state-at, partner-at, reach, unmatched-state, Pending-message, Matched-pair, Placed, Reached}
 use Rattle.invariant.specs.matching.Monotone.{Same-order, matched-stays}
 use Rattle.invariant.specs.step.Places.{able-next}
 use Rattle.invariant.specs.step.Position.{position, position-finished, position-waiting}
@@ -38,11 +39,12 @@ position-reach s x y r = go (place-at x r .waiting) (place-at y r .waiting)
     go false true l = omega arith
     go false false l = omega arith
 
--- no board of x is further in its script than in y, and messages that one receive could take, or one probe tell, came in the
--- same order
+-- no board of x is further in its script than in y, messages that one receive could take, or one probe tell, came in the same
+-- order, and what is buffered in x is buffered or matched in y
 pub record Behind {s : Sheet} {i j : List ℕ} {x y : Job} (X : Reached s i x) (Y : Reached s j y) : Type 0 where
   pub places : (r : ℕ) → r < P-of s → position x r ≤ position y r
   pub order : Same-order s (X .arrival) x (Y .arrival) y
+  pub kept : (k : ℕ) → state-at x k ≡ 2 → 2 ≤ state-at y k
 
 -- what is entered goes by the places
 pub places-entered : {s : Sheet} → Valid s → {x y : Job} → Placed s x → Placed s y →
@@ -86,17 +88,24 @@ module _ {s : Sheet} (g : Valid s) {i j : List ℕ} {x y : Job} (X : Reached s i
 
   -- what is complete in x is complete in y
   pub behind-complete : (k : ℕ) → 2 ≤ state-at x k → 2 ≤ state-at y k
-  behind-complete k l = go (ℕ-discrete (state-at x k) 3) (ℕ-discrete (state-at y k) 3)
+  unfolding unmatched-state
+  behind-complete k l = go (ℕ-discrete (state-at x k) 3) (ℕ-discrete (state-at x k) 2) (ℕ-discrete (state-at y k) 3)
     where
-      go : Dec (state-at x k ≡ 3) → Dec (state-at y k ≡ 3) → 2 ≤ state-at y k
-      go (yes e) _ = omega (arith, behind-matched k e .0)
-      go (no d) (yes e) = omega arith
-      go (no d) (no c) = omega (
-        arith,
-        X .shaped .unmatched k (omega arith) d,
-        Y .shaped .unmatched k
-            (behind-entered k (omega arith)) c,
-      )
+      -- one that is neither matched nor buffered is only a waiting half
+      half : (a : Bool) (b c : Bool) → state-at x k ≢ 2 → state-at x k ≡ cond a 5 (cond b 2 1) → state-at y k ≡ cond a 5 (cond c 2 1) →
+          2 ≤ state-at y k
+      half true b c d e f = omega (arith, f)
+      half false true c d e f = absurd (d e)
+      half false false c d e f = absurd (omega (arith, e))
+
+      go : Dec (state-at x k ≡ 3) → Dec (state-at x k ≡ 2) → Dec (state-at y k ≡ 3) → 2 ≤ state-at y k
+      go (yes e) _ _ = omega (arith, behind-matched k e .0)
+      go (no d) (yes e) _ = B .kept k e
+      go (no d) (no f) (yes e) = omega arith
+      go (no d) (no f) (no c) =
+          let U = X .shaped .unmatched k (omega arith) d in
+          let W = Y .shaped .unmatched k (behind-entered k (omega arith)) c in
+          half (only-half (op s k)) (U .kept) (W .kept) f (U .is) (W .is)
 
   -- a pending message that fits an operation of a board which stands where it stood is pending still: only that board takes it
   still-pending : (r p m : ℕ) → position x r ≡ position y r → rank-of s p ≡ r → Pending-message s x m → fits-with s m p ≡ true →

@@ -5,26 +5,27 @@
 -- Assumes nothing.
 use mathlib.Core.Path.{_≡_, refl, sym, ap, _∙_}
 use mathlib.Core.Logic.{_⊎_, inl, inr, _≢_}
-use mathlib.Core.Bool.{Bool, true, false}
+use mathlib.Core.Bool.{Bool, true, false, cond}
 use mathlib.Core.List.{List}
 use mathlib.Core.Option.{some}
 use Prim.Native.Nat.{ℕ, _≤_, _<_}
 use native.Mathlib.Omega.{arith}
 use native.Mathlib.Decide.{ℕ-discrete, decLe, decLt}
-use Rattle.rules.specs.Sheet.{Sheet, op, tells-message, tells-completion, tells}
+use Rattle.rules.specs.Sheet.{Sheet, op, only-half, tells-message, tells-completion, tells}
 use Rattle.rules.specs.Job.{Job, bare-entry, entry-at}
 use Rattle.rules.specs.Step.{probe-row}
 use Rattle.laws.specs.Tests.{or-cases}
 use Rattle.invariant.specs.sheet.Valid.{Valid}
 use Rattle.invariant.specs.sheet.Kinds.{message-selects}
-use Rattle.invariant.specs.Invariant.{Entered, state-at, partner-at, row-of, Probe-told, Reached}
+use Rattle.invariant.specs.Invariant.{Entered, state-at, partner-at, row-of, unmatched-state, Probe-told, Reached}
 use Rattle.invariant.specs.preserve.Rows.{row-bare}
-use Rattle.promises.specs.compare.Behind.{Behind, behind-entered, behind-matched}
+use Rattle.promises.specs.compare.Behind.{Behind, behind-entered, behind-matched, behind-complete}
 
 module _ {s : Sheet} (g : Valid s) {i j : List ℕ} {x y : Job} (X : Reached s i x) (Y : Reached s j y) (B : Behind X Y)
     (C : Behind Y X) where
   both-behind-row : (k : ℕ) → (state-at y k ≡ state-at x k)
       × (row-of s k (state-at y k) (partner-at y k) ≡ row-of s k (state-at x k) (partner-at x k))
+  unfolding unmatched-state
   both-behind-row k = go (ℕ-discrete (state-at x k) 3) (ℕ-discrete (state-at y k) 3) (ℕ-discrete (state-at x k) 0)
     where
       bare : state-at y k ≡ state-at x k → state-at x k ≢ 3 →
@@ -35,6 +36,15 @@ module _ {s : Sheet} (g : Valid s) {i j : List ℕ} {x y : Job} (X : Reached s i
         row-bare s k (state-at y k) (partner-at y k) (λ c. d (sym e ∙ c)) ∙ ap bare-entry e
             ∙ sym (row-bare s k (state-at x k) (partner-at x k) d),
       )
+
+      -- unmatched in both: complete in both or in neither
+      same-kept : (a b c : Bool) → (2 ≤ state-at x k → 2 ≤ state-at y k) → (2 ≤ state-at y k → 2 ≤ state-at x k) →
+          state-at y k ≡ cond a 5 (cond b 2 1) → state-at x k ≡ cond a 5 (cond c 2 1) → state-at y k ≡ state-at x k
+      same-kept true b c on back e f = e ∙ sym f
+      same-kept false true true on back e f = e ∙ sym f
+      same-kept false false false on back e f = e ∙ sym f
+      same-kept false true false on back e f = absurd (omega (arith, e, f, back (omega (arith, e))))
+      same-kept false false true on back e f = absurd (omega (arith, e, f, on (omega (arith, f))))
 
       go : Dec (state-at x k ≡ 3) → Dec (state-at y k ≡ 3) → Dec (state-at x k ≡ 0) →
           (state-at y k ≡ state-at x k) × (row-of s k (state-at y k) (partner-at y k) ≡ row-of s k (state-at x k)
@@ -51,7 +61,11 @@ module _ {s : Sheet} (g : Valid s) {i j : List ℕ} {x y : Job} (X : Reached s i
           none (no w) = absurd (omega (arith, behind-entered g Y X C k (omega arith)))
       go (no d) (no c) (no z) =
           let there : Entered x k = omega arith in
-          bare (Y .shaped .unmatched k (behind-entered g X Y B k there) c ∙ sym (X .shaped .unmatched k there d)) d
+          let W = Y .shaped .unmatched k (behind-entered g X Y B k there) c in
+          let U = X .shaped .unmatched k there d in
+          bare
+          (same-kept (only-half (op s k)) (W .kept) (U .kept) (behind-complete g X Y B k) (behind-complete g Y X C k) (W .is) (U .is))
+          d
 
   -- the messages that a probe told are one: of two, the one that came first would have been taken before the probe looked
   same-told : (p m k : ℕ) → tells-message (op s p) ≡ true → Probe-told s (X .arrival) x p m → Probe-told s (Y .arrival) y p k → m ≡ k

@@ -1,35 +1,36 @@
--- Calm sheets never stop, and messages that one receive could take, or one probe tell, come in script order. The charges in
--- use on a board are of its buffered sends that are entered, so together with the one that enters they come to at most the
--- charges of all of them, which the attached buffer covers.
+-- Calm sheets never stop, and messages that one receive could take, or one probe tell, come in script order. Where rooms are 0 or
+-- cover all, an unmatched standard send is buffered or not by the sheet alone.
 --   calm-not-any-source   no receive or probe from any source, also past the operations; calm-no-query: nor a query
 --   calm-going            an able step goes on
 --   calm-order            one order of arrival
+--   covered-kept          what is kept in one job is complete in a job in which it is entered
+--   covered-fits          whether the next standard send fits its board's room does not depend on the job
 -- Assumes nothing.
-use mathlib.Core.Path.{_≡_, refl, sym, ap, _∙_}
-use mathlib.Core.Logic.{_⊎_, inl, inr, _≢_}
+use mathlib.Core.Path.{_≡_, refl, sym, ap, subst, _∙_}
+use mathlib.Core.Logic.{_⊎_, inl, inr}
 use mathlib.Core.Bool.{Bool, true, false, _&&_, cond}
 use mathlib.Core.List.{List}
 use mathlib.Core.Option.{none}
-use Prim.Native.Nat.{ℕ, zero, suc, _+_, _-_, _≤_, _<_}
+use Prim.Native.Nat.{ℕ, _≤_, _<_}
 use native.Mathlib.Omega.{arith}
-use native.Mathlib.Decide.{decLt}
-use lib.Dec.{eqb}
+use native.Mathlib.Decide.{ℕ-discrete, decLt}
+use lib.Dec.{ltb}
 use lib.ListN.{List·getD-eq-default}
-use borrow.Author.Tests.{le-leb, eq-eqb, ne-eqb, eqb-true}
+use borrow.Author.Tests.{le-ltb, eq-eqb}
 use Rattle.rules.specs.Limits.{any}
-use Rattle.rules.specs.Sheet.{Sheet, op, board, no-op, P-of, N-of, rank-of, is-receive, is-probe, is-query, tells-message, tells-completion, selects, only-half, is-ready, is-buffered}
-use Rattle.rules.specs.Job.{Job, place-at}
-use Rattle.rules.specs.Step.{able, step, next-op, in-waiting-half, is-none, first-receive, fits-buffer, fits-with, charge-of}
-use Rattle.rules.specs.Claims.{calm, is-any-source, all-charges, script}
-use Rattle.laws.specs.Calm.{calm-op, calm-covered, charges-from, charges-none, charges-more}
+use Rattle.rules.specs.Sheet.{Sheet, op, board, no-op, P-of, N-of, rank-of, is-receive, is-probe, is-query, tells-message, tells-completion, selects, only-half, is-ready, is-standard, is-buffered}
+use Rattle.rules.specs.Job.{Job, in-attached, in-room, place-at}
+use Rattle.rules.specs.Step.{able, step, next-op, in-waiting-half, is-none, first-receive, fits-beside, fits-buffer, fits-room, kept-in, fits-with}
+use Rattle.rules.specs.Claims.{calm, rooms-cover, is-any-source}
+use Rattle.laws.specs.Calm.{Covered, Room-covered, calm-op, calm-covered, rooms-each}
 use Rattle.laws.specs.Tests.{and-both, or-false-left, true-not-false}
 use Rattle.invariant.specs.sheet.Valid.{Valid}
 use Rattle.invariant.specs.sheet.Kinds.{fit-source}
-use Rattle.laws.specs.Sums.{sum-below, sum-gap, sum-rest, sum-more, sum-zero}
-use Rattle.invariant.specs.Invariant.{Entered, state-at, charge-in, unmatched-state, Reached}
+use Rattle.invariant.specs.Invariant.{Entered, state-at, unmatched-state, Keeps, Unmatched, Reached}
+use Rattle.invariant.specs.matching.RowChanges.{state-name}
 use Rattle.invariant.specs.matching.Monotone.{Same-order}
 use Rattle.invariant.specs.preserve.Places.{prefix}
-use Rattle.invariant.specs.preserve.Charges.{charge-none}
+use Rattle.invariant.specs.preserve.Covered.{fits-covered}
 use Rattle.invariant.specs.step.Places.{Next, able-next, next-fresh}
 use Rattle.promises.specs.compare.AfterStep.{stop-after, step-stop}
 
@@ -52,71 +53,6 @@ module _ (s : Sheet) (c : calm s ≡ true) where
       go (yes l) = calm-op s c k l .2
       go (no d) = ap tells-completion (List·getD-eq-default (s .ops) no-op {n = k} (omega arith))
 
--- CHARGES of a script, as a sum over operations
--- what operation j would be charged on board r, were it not matched
-unfoldable covered : Sheet → (r j : ℕ) → ℕ
-covered s r j = cond (eqb (rank-of s j) r && is-buffered (op s j)) (charge-of (op s j)) 0
-
-covered-other : (s : Sheet) (r j : ℕ) → rank-of s j ≢ r → covered s r j ≡ 0
-unfolding covered
-covered-other s r j d = ap (λ (b : Bool). cond (b && is-buffered (op s j)) (charge-of (op s j)) 0) (ne-eqb (rank-of s j) r d)
-
-covered-mine : (s : Sheet) (r j : ℕ) → rank-of s j ≡ r → covered s r j ≡ cond (is-buffered (op s j)) (charge-of (op s j)) 0
-unfolding covered
-covered-mine s r j e = ap (λ (b : Bool). cond (b && is-buffered (op s j)) (charge-of (op s j)) 0) (eq-eqb (rank-of s j) r e)
-
-module _ (s : Sheet) (g : Valid s) (r : ℕ) (l : r < P-of s) where
-  abbrev from : ℕ
-  from = board s r .first
-
-  abbrev count : ℕ
-  count = board s r .count
-
-  before-none : (j : ℕ) → j < from → covered s r j ≡ 0
-  before-none j h =
-      covered-other s r j (λ e. omega
-      (arith, g .rank-low j (omega (arith, g .script-inside r l)), ap (λ (q : ℕ). board s q .first) e))
-
-  after-none : (j : ℕ) → from + count ≤ j → j < N-of s → covered s r j ≡ 0
-  after-none j h k =
-      covered-other s r j (λ e. omega (
-        arith,
-        g .rank-high j k,
-        ap (λ (q : ℕ). board s q .first) e,
-        ap
-            (λ (q : ℕ). board s q .count) e,
-      ))
-
-  sum-from : (k : ℕ) → k ≤ count → sum-below (from + k) (covered s r) ≡ charges-from s from k
-  sum-from zero h =
-      ap (λ (z : ℕ). sum-below z (covered s r)) (omega arith)
-      ∙ (sum-zero from (covered s r) before-none ∙ sym (charges-none s from))
-  sum-from (suc k) h =
-      ap (λ (z : ℕ). sum-below z (covered s r)) next ∙ sum-more (from + k) (covered s r)
-      ∙ omega (
-        arith,
-        sum-from k (omega arith),
-        covered-mine s r (from + k) mine,
-        charges-more s from k (omega (arith, g .script-inside r l)),
-      )
-    where
-      next : from + suc k ≡ suc (from + k)
-      next = omega arith
-
-      mine : rank-of s (from + k) ≡ r
-      mine = g .script-ranked r (from + k) l (omega arith) (omega arith)
-
-  -- all charges of board r come to those of its script
-  covered-sum : sum-below (N-of s) (covered s r) ≡ all-charges (script (board s r) (s .ops))
-  unfolding script
-  covered-sum =
-      ap (λ (z : ℕ). sum-below z (covered s r)) split
-      ∙ sum-rest (from + count) (N-of s - (from + count)) (covered s r) (λ j a b. after-none j a (omega (arith, split)))
-      ∙ sum-from count (omega arith)
-    where
-      split : N-of s ≡ from + count + (N-of s - (from + count))
-      split = omega (arith, g .script-inside r l)
-
 -- NEVER STOPS
 module _ {s : Sheet} (g : Valid s) (c : calm s ≡ true) {lent : List ℕ} {x : Job} (R : Reached s lent x) (r : ℕ)
     (a : able s x r ≡ true) where
@@ -126,46 +62,10 @@ module _ {s : Sheet} (g : Valid s) (c : calm s ≡ true) {lent : List ℕ} {x : 
   abbrev i : ℕ
   i = next-op s x r
 
-  -- a pending charge is that of a buffered send
-  charge-most : (j : ℕ) → charge-in s x r j ≤ covered s r j
-  unfolding charge-in covered unmatched-state
-  charge-most j = go (eqb (rank-of s j) r) (eqb (state-at x j) 2) refl (is-buffered (op s j)) refl
-    where
-      go : (a b : Bool) → eqb (state-at x j) 2 ≡ b → (d : Bool) → is-buffered (op s j) ≡ d →
-          cond (a && b) (charge-of (op s j)) 0 ≤ cond (a && d) (charge-of (op s j)) 0
-      go false b e d f = omega arith
-      go true false e d f = omega arith
-      go true true e true f = omega arith
-      go true true e false f =
-          absurd (unbuffered (only-half (op s j))
-          (R .shaped .unmatched j (omega (arith, two)) (λ h. omega (arith, two))))
-        where
-          two : state-at x j ≡ 2
-          two = eqb-true (state-at x j) 2 e
-
-          unbuffered : (w : Bool) → state-at x j ≡ cond w 5 (cond (is-buffered (op s j)) 2 1) → ⊥
-          unbuffered true h = omega (arith, two)
-          unbuffered false h = omega (arith, two, ap {B = ℕ} (λ (z : Bool). cond z 2 1) f)
-
-  -- the next send has room
+  -- the next buffered send has room
   room-left : in-waiting-half s x r ≡ false → is-buffered (op s i) ≡ true → fits-buffer s r i x ≡ true
-  unfolding fits-buffer in-waiting-half
-  room-left half b =
-      le-leb (place-at x r .in-use + charge-of (op s i)) (board s r .attached)
-      (omega (
-        arith,
-        sum-gap (N-of s) i (charge-of (op s i)) (charge-in s x r) (covered s r) (n .inside) (λ j l. charge-most j)
-            (omega (
-              arith,
-              charge-none s x r i (λ e. omega (arith, fresh)),
-              covered-mine s r i (n .ranked),
-              ap
-                  (λ (z : Bool). cond z (charge-of (op s i)) 0) b,
-            )),
-        R .in-use-sum r (n .rank-small),
-        covered-sum s g r (n .rank-small),
-        calm-covered s c r (n .rank-small),
-      ))
+  unfolding fits-buffer in-waiting-half kept-in
+  room-left half b = fits-covered in-attached g R r n fresh b (calm-covered s c r (n .rank-small))
     where
       fresh : state-at x i ≡ 0
       fresh = next-fresh s x r (R .placed) n (or-false-left (place-at x r .waiting) (only-half (op s i)) half)
@@ -217,3 +117,54 @@ calm-order {s} c {i} {j} {x} {y} X Y k m q sk sm rr fk fm hm hk l = go (decLt k 
           (sym same) o,
     ))
     go (no h) (no o) = absurd (omega (arith, l, ap (Y .arrival) (let e : k ≡ m = omega arith in e)))
+
+-- STANDARD SENDS where rooms are 0 or cover all
+pub covered-kept : {s : Sheet} → rooms-cover s ≡ true → {i j : List ℕ} {x y : Job} → Reached s i x → Reached s j y →
+    ((k : ℕ) → Entered x k → Entered y k) → (k : ℕ) → state-at x k ≡ 2 → 2 ≤ state-at y k
+unfolding unmatched-state
+covered-kept {s} c {i} {j} {x} {y} X Y on k two = go (ℕ-discrete (state-at y k) 3)
+  where
+    U : Unmatched s k (state-at x k)
+    U = X .shaped .unmatched k (omega (arith, two)) (λ e. omega (arith, two))
+
+    by : {kept : Bool} → Keeps s k kept → (is-buffered (op s k) ≡ true) ⊎ ((is-standard (op s k) ≡ true) × (0 < board s (rank-of s k) .room)) →
+        kept ≡ true
+    by K (inl e) = K .buffered e
+    by K (inr e) = K .covered c (e .0) (e .1)
+
+    half-or-kept : (a b : Bool) → U .kept ≡ b → _≡_ {A = ℕ} (cond a 5 (cond b 2 1)) 2 → U .kept ≡ true
+    half-or-kept true b e h = absurd (omega arith)
+    half-or-kept false true e h = e
+    half-or-kept false false e h = absurd (omega arith)
+
+    go : Dec (state-at y k ≡ 3) → 2 ≤ state-at y k
+    go (yes e) = omega (arith, e)
+    go (no d) =
+        let W = Y .shaped .unmatched k (on k (omega (arith, two))) d in
+        let kept = half-or-kept (only-half (op s k)) (U .kept) refl (sym (U .is) ∙ two) in
+        complete (only-half (op s k)) (W .is ∙ ap (λ (b : Bool). cond (only-half (op s k)) 5 (cond b 2 1)) (by (W .keeps) (U .keeps .only kept)))
+      where
+        complete : (a : Bool) → state-at y k ≡ cond a 5 2 → 2 ≤ state-at y k
+        complete true e = omega (arith, e)
+        complete false e = omega (arith, e)
+
+pub covered-fits : {s : Sheet} (g : Valid s) → rooms-cover s ≡ true → {i j : List ℕ} {x y : Job} (X : Reached s i x) (Y : Reached s j y) (r k : ℕ) →
+    Next s x r → Next s y r → k ≡ next-op s x r → k ≡ next-op s y r → state-at x k ≡ 0 → state-at y k ≡ 0 → is-standard (op s k) ≡ true →
+    fits-room s r k x ≡ fits-room s r k y
+unfolding fits-room kept-in
+covered-fits {s} g c {i} {j} {x} {y} X Y r k n m e f fx fy d = go (rooms-each s c r (n .rank-small))
+  where
+    fits : {l : List ℕ} {z : Job} → Reached s l z → Next s z r → k ≡ next-op s z r → state-at z k ≡ 0 → Covered in-room (board s r) (s .ops) →
+        fits-beside in-room s r k z ≡ true
+    fits {l} {z} Z o h fresh covers =
+        subst (λ (q : ℕ). fits-beside in-room s r q z ≡ true) (sym h)
+        (fits-covered in-room g Z r o (state-name z (sym h) ∙ fresh) (ap (λ (q : ℕ). is-standard (op s q)) (sym h) ∙ d) covers)
+
+    go : Room-covered (board s r) (s .ops) →
+        is-standard (op s k) && (ltb 0 (board s r .room) && fits-beside in-room s r k x)
+        ≡ is-standard (op s k) && (ltb 0 (board s r .room) && fits-beside in-room s r k y)
+    go (inl none-there) =
+        ap (λ (b : Bool). is-standard (op s k) && (b && fits-beside in-room s r k x)) (le-ltb 0 (board s r .room) (omega arith))
+        ∙ ap (λ (b : Bool). is-standard (op s k) && (b && fits-beside in-room s r k y)) (sym (le-ltb 0 (board s r .room) (omega arith)))
+    go (inr covers) =
+        ap (λ (b : Bool). is-standard (op s k) && (ltb 0 (board s r .room) && b)) (fits X n e fx covers ∙ sym (fits Y m f fy covers))

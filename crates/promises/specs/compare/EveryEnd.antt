@@ -17,6 +17,7 @@ use Rattle.rules.specs.Job.{Job, Stop, place-at, started, job}
 use Rattle.rules.specs.Step.{able, step, next-op, in-waiting-half, is-none}
 use Rattle.rules.specs.Claims.{calm, left-by}
 use Rattle.laws.specs.Tests.{true-not-false}
+use Rattle.laws.specs.Calm.{calm-rooms}
 use Rattle.invariant.specs.sheet.Valid.{Valid}
 use Rattle.invariant.specs.deliveries.Laws.{Delivery-laws}
 use Rattle.laws.specs.Sums.{sum-below, sum-same}
@@ -25,11 +26,11 @@ use Rattle.invariant.specs.step.Places.{Next, Moved, able-next}
 use Rattle.invariant.specs.preserve.Step.{step-sound}
 use Rattle.invariant.specs.preserve.Orders.{start-reached, start-position, left-keeps}
 use Rattle.invariant.specs.step.Position.{position, position-finished, position-waiting}
-use Rattle.promises.specs.compare.Behind.{Behind, still-able}
+use Rattle.promises.specs.compare.Behind.{Behind, still-able, places-entered}
 use Rattle.promises.specs.compare.AfterStep.{finishing, position-on, moved-position, moved-position-other}
 use Rattle.promises.specs.compare.Exchange.{step-moved}
 use Rattle.promises.specs.compare.SamePositions.{Same-positions}
-use Rattle.promises.specs.compare.CalmSheets.{calm-going, calm-order, calm-no-query}
+use Rattle.promises.specs.compare.CalmSheets.{calm-going, calm-order, calm-no-query, covered-kept}
 
 -- x is reached, and behind y
 record Reached-behind (s : Sheet) (i : List ℕ) (y x : Job) : Type 0 where
@@ -48,6 +49,7 @@ module _ {s : Sheet} (g : Valid s) (A : Delivery-laws s) (c : calm s ≡ true) (
         record {
           places = C .places;
           order = calm-order c X Y;
+          kept = covered-kept (calm-rooms s c) X Y (places-entered g (X .placed) (Y .placed) (C .places));
         }
 
     n : Next s x r
@@ -168,6 +170,8 @@ ends-same-positions {s} g A c a b lent room end-a end-b X Y =
       order = calm-order c X Y;
       order-back = calm-order c Y X;
       queries = λ k t. true-not-false t (calm-no-query s c k);
+      kept = covered-kept (calm-rooms s c) X Y (places-entered g (X .placed) (Y .placed) (λ r l. omega (arith, places r l)));
+      kept-back = covered-kept (calm-rooms s c) Y X (places-entered g (Y .placed) (X .placed) (λ r l. omega (arith, places r l)));
     }
   where
     x : Job

@@ -1,5 +1,6 @@
 -- Two neighbouring able steps of different boards may be exchanged, on any sheet: where neither stops the job in either
--- order, they do not enter two messages that one any-source receive or probe fits, and a query tells the same first and second.
+-- order, they do not enter two messages that one any-source receive or probe fits, and a query tells the same first and second, as a
+-- standard send is buffered or not.
 -- After both orders the boards stand alike and the messages that one receive could take, or one probe tell, came in the same
 -- order, so the jobs are alike.
 --   step-moved             where the boards stand after a step that goes on
@@ -17,16 +18,16 @@ use native.Mathlib.Decide.{ℕ-discrete, decLe}
 use lib.ListN.{length}
 use borrow.Author.Tests.{eq-eqb}
 use Rattle.rules.specs.Limits.{any}
-use Rattle.rules.specs.Sheet.{Sheet, op, rank-of, inbox-total, is-send, only-half, selects, tells-completion, tells}
+use Rattle.rules.specs.Sheet.{Sheet, op, rank-of, inbox-total, is-send, is-standard, only-half, selects, tells-completion, tells}
 use Rattle.rules.specs.Job.{Job, entry-at, place-at}
-use Rattle.rules.specs.Step.{able, step, next-op, in-waiting-half, fits-with, complete-if, waited, query-row, half-row}
+use Rattle.rules.specs.Step.{able, step, next-op, in-waiting-half, fits-with, fits-room, complete-if, waited, query-row, half-row}
 use Rattle.rules.specs.Claims.{is-any-source}
 use Rattle.laws.specs.Tests.{and-both}
-use Rattle.promises.specs.Statements.{Harmless, Tells-same}
+use Rattle.promises.specs.Statements.{Harmless, Tells-same, Keeps-same}
 use Rattle.invariant.specs.sheet.Valid.{Valid}
 use Rattle.invariant.specs.deliveries.Laws.{Delivery-laws}
-use Rattle.invariant.specs.sheet.Kinds.{send-not-only-half, fit-source, completion-tells}
-use Rattle.invariant.specs.Invariant.{Entered, state-at, reach, Reached, Extended}
+use Rattle.invariant.specs.sheet.Kinds.{send-not-only-half, standard-send, fit-source, completion-tells}
+use Rattle.invariant.specs.Invariant.{Entered, state-at, reach, is-kept, Reached, Extended}
 use Rattle.invariant.specs.matching.RowChanges.{state-name}
 use Rattle.invariant.specs.preserve.Told.{query-row-is}
 use Rattle.invariant.specs.matching.Monotone.{Same-order}
@@ -37,6 +38,7 @@ use Rattle.invariant.specs.step.Position.{position}
 use Rattle.promises.specs.compare.Behind.{Behind, still-able, places-entered}
 use Rattle.promises.specs.compare.AfterStep.{After, continues, stops-job, step-after, step-counted, finishing, moved-position-other}
 use Rattle.promises.specs.compare.AfterStep.{position-next, position-moved, position-further, stop-stays}
+use Rattle.promises.specs.compare.NewlyKept.{is-kept-by, exchange-kept}
 use Rattle.promises.specs.compare.SamePositions.{Same-positions}
 
 -- A STEP of p, after which the job goes on
@@ -59,6 +61,7 @@ module _ {s : Sheet} (g : Valid s) (A : Delivery-laws s) {lent : List ℕ} (room
       record {
         places = λ r l. ahead r (ℕ-discrete r p);
         order = arrivals-same-order (arrivals-step E);
+        kept = λ k two. E .complete-on k (omega (arith, two));
       }
     where
       ahead : (r : ℕ) → Dec (r ≡ p) → position x r ≤ position (step s p x) r
@@ -200,6 +203,10 @@ module _ {s : Sheet} (g : Valid s) (A : Delivery-laws s) {lent : List ℕ} (room
       go (inr e) (inl f) = no-race-in m k w f e sm sk rr fm fk gone out
       go (inr e) (inr f) = c (e ∙ sym f)
 
+  -- the next operations of the two boards are two
+  next-apart : next-op s x p ≢ next-op s x q
+  next-apart e = d (sym (able-next s g x p a .ranked) ∙ ap (λ (z : ℕ). rank-of s z) e ∙ able-next s g x q b .ranked)
+
   -- QUERIES tell the same in both orders
   -- in a step of board r from z, where query k is r's next operation: what it tells
   told-by-step : {z : Job} {Z : Reached s lent z} (r k : ℕ) → Extended Z (step s r z) (next-op s z r) → k ≡ next-op s z r →
@@ -237,8 +244,7 @@ module _ {s : Sheet} (g : Valid s) (A : Delivery-laws s) {lent : List ℕ} (room
           -- p's step, first or second
           of-p : k ≡ next-op s x p → entry-at (step s p (step s q x)) k ≡ entry-at (step s q (step s p x)) k
           of-p e =
-              let not-q : k ≢ next-op s x q = λ f. d (sym (able-next s g x p a .ranked) ∙ ap (λ (z : ℕ). rank-of s z) (sym e ∙ f)
-              ∙ able-next s g x q b .ranked) in
+              let not-q : k ≢ next-op s x q = λ f. next-apart (sym e ∙ f) in
               let here : k ≡ next-op s (step s q x) p = e ∙ position-next s x (step s q x) p second-p in
               let first-in : Entered (step s p x) k = EPQ .back k (λ f. not-q (f ∙ sym (position-next s x (step s p x) q second-q))) inn in
               told-by-step p k EQP here t (on k inn) (λ h. out (EQ .back k not-q h))
@@ -250,8 +256,7 @@ module _ {s : Sheet} (g : Valid s) (A : Delivery-laws s) {lent : List ℕ} (room
 
           of-q : k ≡ next-op s x q → entry-at (step s p (step s q x)) k ≡ entry-at (step s q (step s p x)) k
           of-q e =
-              let not-p : k ≢ next-op s x p = λ f. d (sym (able-next s g x p a .ranked) ∙ ap (λ (z : ℕ). rank-of s z) (sym f ∙ e)
-              ∙ able-next s g x q b .ranked) in
+              let not-p : k ≢ next-op s x p = λ f. next-apart (sym f ∙ e) in
               let here : k ≡ next-op s (step s p x) q = e ∙ position-next s x (step s p x) q second-q in
               let first-in : Entered (step s q x) k = EQP .back k (λ f. not-p (f ∙ sym (position-next s x (step s q x) p second-p))) (on k inn) in
               EQP .telling .kept k told first-in ∙ told-by-step q k EQ e t first-in out
@@ -264,6 +269,18 @@ module _ {s : Sheet} (g : Valid s) (A : Delivery-laws s) {lent : List ℕ} (room
           new : (k ≡ next-op s x p) ⊎ (k ≡ next-op s x q) → entry-at (step s p (step s q x)) k ≡ entry-at (step s q (step s p x)) k
           new (inl e) = of-p e
           new (inr e) = of-q e
+
+  -- STANDARD SENDS are buffered in both orders or in neither
+  -- board r's send k, which is its next one, is kept by the job and by the job after board j's step
+  same-kept : (r j k : ℕ) → able s x r ≡ true → Keeps-same s x r j → k ≡ next-op s x r → (Entered x k → ⊥) →
+      is-kept s (rank-of s k) k x ≡ is-kept s (rank-of s k) k (step s j x)
+  unfolding Keeps-same
+  same-kept r j k c same e out =
+      subst (λ (z : ℕ). is-kept s z k x ≡ is-kept s z k (step s j x))
+      (sym (ap (λ (z : ℕ). rank-of s z) e ∙ able-next s g x r c .ranked))
+      (is-kept-by s r k x (step s j x)
+      (λ t. subst (λ (z : ℕ). fits-room s r z x ≡ fits-room s r z (step s j x)) (sym e)
+      (sym (same (in-no-half r k c e (standard-send (op s k) t) out) (ap (λ (z : ℕ). is-standard (op s z)) (sym e) ∙ t)))))
 
   -- after both orders the boards stand at the same places
   pub swap-same-positions : Same-positions (EPQ .reached) (EQP .reached)
@@ -281,6 +298,8 @@ module _ {s : Sheet} (g : Valid s) (A : Delivery-laws s) {lent : List ℕ} (room
             arrivals-order grown-qp grown-pq (λ k h. h) (λ k h. h) on same
             (λ k m w sk sm rr fk fm hk hm. no-races k m w sk sm rr fk fm hk (back m hm));
         queries = swap-queries on back;
+        kept = exchange-kept EP EPQ EQ EQP next-p next-q next-apart on same-p same-q;
+        kept-back = exchange-kept EQ EQP EP EPQ next-q next-p (λ e. next-apart (sym e)) back same-q same-p;
       }
     where
       grown-pq : Arrivals-grew X (EPQ .reached)
@@ -294,6 +313,20 @@ module _ {s : Sheet} (g : Valid s) (A : Delivery-laws s) {lent : List ℕ} (room
 
       on : (k : ℕ) → Entered (step s q (step s p x)) k → Entered (step s p (step s q x)) k
       on = places-entered g (EPQ .reached .placed) (EQP .reached .placed) (λ r l. omega (arith, swap-places r))
+
+      next-p : next-op s x p ≡ next-op s (step s q x) p
+      next-p = position-next s x (step s q x) p second-p
+
+      next-q : next-op s x q ≡ next-op s (step s p x) q
+      next-q = position-next s x (step s p x) q second-q
+
+      same-p : (Entered x (next-op s x p) → ⊥) →
+          is-kept s (rank-of s (next-op s x p)) (next-op s x p) x ≡ is-kept s (rank-of s (next-op s x p)) (next-op s x p) (step s q x)
+      same-p = same-kept p q (next-op s x p) a (H .keeps-same) refl
+
+      same-q : (Entered x (next-op s x q) → ⊥) →
+          is-kept s (rank-of s (next-op s x q)) (next-op s x q) x ≡ is-kept s (rank-of s (next-op s x q)) (next-op s x q) (step s p x)
+      same-q = same-kept q p (next-op s x q) b (H .keeps-same-swapped) refl
 
       back : (k : ℕ) → Entered (step s p (step s q x)) k → Entered (step s q (step s p x)) k
       back = places-entered g (EQP .reached .placed) (EPQ .reached .placed) (λ r l. omega (arith, swap-places r))

@@ -17,13 +17,13 @@ use lib.Dec.{ltb, leb, eqb}
 use lib.ListN.{getD}
 use borrow.Author.Tests.{le-ltb}
 use Rattle.rules.specs.Sheet.{Sheet, op, board, P-of, N-of, frees-slot, is-send, is-receive}
-use Rattle.rules.specs.Job.{Job, Entry, Stop, bare-entry, entry-at, place-at}
+use Rattle.rules.specs.Job.{Job, Entry, Stop, Store, in-attached, in-room, account, in-use-at, peak-at, bare-entry, entry-at, place-at}
 use Rattle.rules.specs.Step.{able, is-finished, next-op, in-waiting-half, half-complete, half-ends, complete, complete-if, waited, is-none, first-message}
 use Rattle.rules.specs.Order.{lowest-able, next-rank, none-able}
 use Rattle.rules.specs.Report.{count-from, is-pending-message, is-pending-receive, pending-messages, pending-receives, cut-messages, all-finished}
-use Rattle.rules.specs.Report.{verdict-of, header-bytes, board-state, board-row, board-rows, report}
+use Rattle.rules.specs.Report.{verdict-of, header-bytes, board-state, room-bytes, board-row, board-rows, report}
 use Rattle.rules.specs.Claims.{without-peaks, Alike}
-use Rattle.promises.specs.compare.ReportBytes.{bare-row, bare-rows, bare-report, report-bare}
+use Rattle.promises.specs.compare.ReportBytes.{bare-room, bare-row, bare-rows, bare-report, report-bare}
 
 -- the same rows, stop, steps and places, peaks aside
 pub record Equal-but-peaks (s : Sheet) (x y : Job) : Type 0 where
@@ -32,7 +32,7 @@ pub record Equal-but-peaks (s : Sheet) (x y : Job) : Type 0 where
   pub steps : x .steps ≡ y .steps
   pub finished : (r : ℕ) → r < P-of s → place-at x r .finished ≡ place-at y r .finished
   pub waiting : (r : ℕ) → r < P-of s → place-at x r .waiting ≡ place-at y r .waiting
-  pub in-use : (r : ℕ) → r < P-of s → place-at x r .in-use ≡ place-at y r .in-use
+  pub in-use : (w : Store) (r : ℕ) → r < P-of s → in-use-at w x r ≡ in-use-at w y r
   -- a pending message fits an operation in both or in neither (probes)
   pub found : (i : ℕ) → is-none (first-message s i (x .messages)) ≡ is-none (first-message s i (y .messages))
 
@@ -141,37 +141,46 @@ module _ (s : Sheet) (x y : Job) (e : Equal-but-peaks s x y) where
   unfolding header-bytes
   equal-header = cc (e .stop, equal-verdict (x .stop), e .steps, equal-messages, equal-receives, equal-cut)
 
-  -- THE ROWS
-  equal-row : (r : ℕ) → r < P-of s → bare-row s x r ≡ bare-row s y r
-  unfolding bare-row board-state
-  equal-row r l = cc (e .finished r l, e .in-use r l, equal-finished r l, equal-able r)
+  -- THE ROWS, of either edition
+  equal-row : (b : Bool) (r : ℕ) → r < P-of s → bare-row b s x r ≡ bare-row b s y r
+  unfolding bare-row bare-room board-state account
+  equal-row b r l = cc (e .finished r l, e .in-use in-attached r l, e .in-use in-room r l, equal-finished r l, equal-able r)
 
-  equal-rows : (k r : ℕ) → r + k ≤ P-of s → bare-rows k r s x ≡ bare-rows k r s y
+  equal-rows : (b : Bool) (k r : ℕ) → r + k ≤ P-of s → bare-rows b k r s x ≡ bare-rows b k r s y
   unfolding bare-rows
-  equal-rows zero r l = refl
-  equal-rows (suc k) r l = cc (equal-row r (omega arith), equal-rows k (suc r) (omega arith))
+  equal-rows b zero r l = refl
+  equal-rows b (suc k) r l = cc (equal-row b r (omega arith), equal-rows b k (suc r) (omega arith))
 
-  pub equal-report : without-peaks (P-of s) (report s x) ≡ without-peaks (P-of s) (report s y)
+  pub equal-report : (b : Bool) → without-peaks b (P-of s) (report b s x) ≡ without-peaks b (P-of s) (report b s y)
   unfolding bare-report
-  equal-report =
-      let bare : bare-report s x ≡ bare-report s y = cc (equal-header, equal-rows (P-of s) 0 (omega arith), e .entries) in
-      report-bare s x ∙ bare ∙ sym (report-bare s y)
+  equal-report b =
+      let bare : bare-report b s x ≡ bare-report b s y = cc (equal-header, equal-rows b (P-of s) 0 (omega arith), e .entries) in
+      report-bare b s x ∙ bare ∙ sym (report-bare b s y)
 
   pub equal-alike : x .memory ≡ y .memory → Alike s x y
   unfolding Alike
   equal-alike m = (m, equal-report)
 
   -- WITH PEAKS
-  module _ (peaks : (r : ℕ) → r < P-of s → place-at x r .peak ≡ place-at y r .peak) where
-    whole-row : (r : ℕ) → r < P-of s → board-row s x r ≡ board-row s y r
-    unfolding board-row board-state
-    whole-row r l = cc (e .finished r l, e .in-use r l, peaks r l, equal-finished r l, equal-able r)
+  module _ (peaks : (w : Store) (r : ℕ) → r < P-of s → peak-at w x r ≡ peak-at w y r) (b : Bool) where
+    whole-row : (r : ℕ) → r < P-of s → board-row b s x r ≡ board-row b s y r
+    unfolding board-row room-bytes board-state account
+    whole-row r l =
+        cc (
+          e .finished r l,
+          e .in-use in-attached r l,
+          e .in-use in-room r l,
+          peaks in-attached r l,
+          peaks in-room r l,
+          equal-finished r l,
+          equal-able r,
+        )
 
-    whole-rows : (k r : ℕ) → r + k ≤ P-of s → board-rows k r s x ≡ board-rows k r s y
+    whole-rows : (k r : ℕ) → r + k ≤ P-of s → board-rows b k r s x ≡ board-rows b k r s y
     unfolding board-rows
     whole-rows zero r l = refl
     whole-rows (suc k) r l = cc (whole-row r (omega arith), whole-rows k (suc r) (omega arith))
 
-    pub whole-report : report s x ≡ report s y
+    pub whole-report : report b s x ≡ report b s y
     unfolding report
     whole-report = cc (equal-header, whole-rows (P-of s) 0 (omega arith), e .entries)

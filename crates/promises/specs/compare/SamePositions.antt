@@ -1,30 +1,31 @@
 -- Jobs whose boards stand at the same places, in which messages that one receive could take, or one probe tell, came in the same
--- order, and in which queries told the same: the same rows, use and ables; a step of one board keeps them so.
+-- order, in which queries told the same and the same is buffered: the same rows, use and ables; a step of one board keeps them so.
 --   Same-positions                                      the relation
 --   positions-rows, positions-in-use, positions-able    what is equal in both; positions-equal: all but peaks and memory
 --   positions-step                                      one step
 -- Assumes nothing.
 use mathlib.Core.Path.{_≡_, refl, sym, ap, subst, _∙_}
 use mathlib.Core.Logic.{_≢_}
-use mathlib.Core.Bool.{Bool, true}
+use mathlib.Core.Bool.{Bool, true, _&&_}
 use mathlib.Core.List.{List}
 use mathlib.Core.Option.{Option, none, some}
 use Prim.Native.Nat.{ℕ, suc, _+_, _≤_, _<_}
 use native.Mathlib.Omega.{arith}
 use native.Mathlib.Decide.{ℕ-discrete, decLe}
-use lib.Dec.{leb}
+use lib.Dec.{ltb, leb}
 use lib.ListN.{length}
 use lib.Seq.{ext-getD}
-use Rattle.rules.specs.Sheet.{Sheet, op, board, P-of, N-of, inbox-total, tells-completion, tells}
-use Rattle.rules.specs.Job.{Job, Stop, bare-entry, entry-at, place-at}
-use Rattle.rules.specs.Step.{able, step, next-op, is-none, first-message, first-receive, fits-with, fits-buffer, charge-of, complete, complete-if}
+use Rattle.rules.specs.Sheet.{Sheet, op, board, P-of, N-of, rank-of, inbox-total, is-standard, tells-completion, tells}
+use Rattle.rules.specs.Job.{Job, Stop, Store, in-attached, in-room, in-use-at, bare-entry, entry-at, place-at}
+use Rattle.rules.specs.Step.{able, step, next-op, is-none, first-message, first-receive, fits-with, fits-beside, fits-buffer, fits-room, size-of, charge-of, complete}
+use Rattle.rules.specs.Step.{complete-if}
 use Rattle.rules.specs.Step.{waited, query-row, half-row}
 use Rattle.invariant.specs.sheet.Valid.{Valid}
 use Rattle.invariant.specs.deliveries.Laws.{Delivery-laws}
 use Rattle.laws.specs.Sums.{sum-same}
 use Rattle.laws.specs.WaitingLists.{holds-found}
 use Rattle.invariant.specs.sheet.Kinds.{completion-tells}
-use Rattle.invariant.specs.Invariant.{Entered, state-at, charge-in, Reached, Extended}
+use Rattle.invariant.specs.Invariant.{Entered, state-at, charge-in, is-kept, Reached, Extended}
 use Rattle.invariant.specs.matching.Monotone.{Same-order}
 use Rattle.invariant.specs.matching.RowChanges.{state-same, state-name}
 use Rattle.invariant.specs.preserve.Charges.{charge-same}
@@ -37,11 +38,12 @@ use Rattle.promises.specs.compare.ArrivalGrowth.{arrivals-step, arrivals
 use Rattle.invariant.specs.step.Position.{position, position-finished, position-waiting}
 use Rattle.promises.specs.compare.Behind.{Behind, places-entered, behind-entered}
 use Rattle.promises.specs.compare.BothBehind.{both-behind-rows}
+use Rattle.promises.specs.compare.NewlyKept.{is-kept-by, step-keeps}
 use Rattle.promises.specs.compare.AfterStep.{stop-after, step-stop, After, continues, stops-job, step-after, step-counted, finishing}
 use Rattle.promises.specs.compare.AfterStep.{moved-position-other, places-position, position-next, position-half, position-moved}
 
 -- the boards of x and y stand at the same places, messages that one receive could take, or one probe tell, came in the same
--- order, and queries told the same
+-- order, queries told the same, and what is buffered in one is buffered or matched in the other
 pub record Same-positions {s : Sheet} {i j : List ℕ} {x y : Job} (X : Reached s i x) (Y : Reached s j y) : Type 0 where
   pub stop : x .stop ≡ y .stop
   pub steps : x .steps ≡ y .steps
@@ -49,6 +51,8 @@ pub record Same-positions {s : Sheet} {i j : List ℕ} {x y : Job} (X : Reached 
   pub order : Same-order s (X .arrival) x (Y .arrival) y
   pub order-back : Same-order s (Y .arrival) y (X .arrival) x
   pub queries : (k : ℕ) → tells-completion (op s k) ≡ true → entry-at y k ≡ entry-at x k
+  pub kept : (k : ℕ) → state-at x k ≡ 2 → 2 ≤ state-at y k
+  pub kept-back : (k : ℕ) → state-at y k ≡ 2 → 2 ≤ state-at x k
 
 module _ {s : Sheet} (g : Valid s) {i j : List ℕ} {x y : Job} {X : Reached s i x} {Y : Reached s j y} (K : Same-positions X Y) where
   pub positions-behind : Behind X Y
@@ -56,6 +60,7 @@ module _ {s : Sheet} (g : Valid s) {i j : List ℕ} {x y : Job} {X : Reached s i
       record {
         places = λ r l. omega (arith, K .places r l);
         order = K .order;
+        kept = K .kept;
       }
 
   pub positions-ahead : Behind Y X
@@ -63,16 +68,17 @@ module _ {s : Sheet} (g : Valid s) {i j : List ℕ} {x y : Job} {X : Reached s i
       record {
         places = λ r l. omega (arith, K .places r l);
         order = K .order-back;
+        kept = K .kept-back;
       }
 
   pub positions-rows : (k : ℕ) → entry-at y k ≡ entry-at x k
   positions-rows = both-behind-rows g X Y positions-behind positions-ahead (K .queries)
 
-  pub positions-in-use : (r : ℕ) → r < P-of s → place-at x r .in-use ≡ place-at y r .in-use
-  positions-in-use r l =
-      X .in-use-sum r l
-      ∙ sum-same (N-of s) (charge-in s x r) (charge-in s y r) (λ k h. charge-same s x y r k (state-same (positions-rows k)))
-      ∙ sym (Y .in-use-sum r l)
+  pub positions-in-use : (w : Store) (r : ℕ) → r < P-of s → in-use-at w x r ≡ in-use-at w y r
+  positions-in-use w r l =
+      X .in-use-sum w r l
+      ∙ sum-same (N-of s) (charge-in w s x r) (charge-in w s y r) (λ k h. charge-same w s x y r k (state-same (positions-rows k)))
+      ∙ sym (Y .in-use-sum w r l)
 
   -- a pending message fits an operation in both, or in neither
   same-message : (k : ℕ) → is-none (first-message s k (x .messages)) ≡ is-none (first-message s k (y .messages))
@@ -105,11 +111,20 @@ module _ {s : Sheet} (g : Valid s) {i j : List ℕ} {x y : Job} {X : Reached s i
     pub same-next : next-op s x r ≡ next-op s y r
     same-next = position-next s x y r (K .places r l)
 
+    -- what fits a store of board r fits it in both
+    same-beside : (w : Store) (k : ℕ) → fits-beside w s r k x ≡ fits-beside w s r k y
+    unfolding fits-beside
+    same-beside w k = ap (λ (n : ℕ). leb (n + charge-of w (op s k)) (size-of w (board s r))) (positions-in-use w r l)
+
     same-room : fits-buffer s r (next-op s x r) x ≡ fits-buffer s r (next-op s y r) y
     unfolding fits-buffer
-    same-room =
-        ap (λ (n : ℕ). leb (n + charge-of (op s (next-op s x r))) (board s r .attached)) (positions-in-use r l)
-        ∙ ap (λ (k : ℕ). leb (place-at y r .in-use + charge-of (op s k)) (board s r .attached)) same-next
+    same-room = same-beside in-attached (next-op s x r) ∙ ap (λ (k : ℕ). fits-beside in-attached s r k y) same-next
+
+    same-kept : (k : ℕ) → is-kept s r k x ≡ is-kept s r k y
+    unfolding fits-room
+    same-kept k =
+        is-kept-by s r k x y
+        (λ e. ap (λ (b : Bool). is-standard (op s k) && (ltb 0 (board s r .room) && b)) (same-beside in-room k))
 
   -- a posted receive that fits is pending in both
   same-found : (m : ℕ) → is-none (first-receive s m (x .receives)) ≡ is-none (first-receive s m (y .receives))
@@ -222,6 +237,15 @@ module _ {s : Sheet} (g : Valid s) {i j : List ℕ} {x y : Job} {X : Reached s i
             fresh (yes h) = absurd (not-now (entered-back k h))
             fresh (no d) = omega arith
 
+    -- the operation that the step enters is kept in both jobs or in neither
+    kept-both : is-kept s (rank-of s (next-op s x r)) (next-op s x r) x ≡ is-kept s (rank-of s (next-op s x r)) (next-op s x r) y
+    kept-both =
+        subst (λ (q : ℕ). is-kept s q (next-op s x r) x ≡ is-kept s q (next-op s x r) y) (sym (able-next s g x r a .ranked))
+        (same-kept r small (next-op s x r))
+
+    kept-both-back : is-kept s (rank-of s (next-op s y r)) (next-op s y r) y ≡ is-kept s (rank-of s (next-op s y r)) (next-op s y r) x
+    kept-both-back = subst (λ (k : ℕ). is-kept s (rank-of s k) k y ≡ is-kept s (rank-of s k) k x) (same-next r small) (sym kept-both)
+
     -- a step of one board in both keeps them so
     pub positions-step : Same-positions (EX .reached) (EY .reached)
     positions-step =
@@ -240,4 +264,8 @@ module _ {s : Sheet} (g : Valid s) {i j : List ℕ} {x y : Job} {X : Reached s i
               one-entered k m hk (entered-back m hm) (λ h. out (behind-entered g X Y positions-behind k h))
               (λ h. gone (behind-entered g X Y positions-behind m h)) d);
           queries = step-queries;
+          kept = step-keeps EX EY (same-next r small) (K .kept) (behind-entered g Y X positions-ahead) entered-on kept-both;
+          kept-back =
+              step-keeps EY EX (sym (same-next r small)) (K .kept-back) (behind-entered g X Y positions-behind) entered-back
+              kept-both-back;
         }

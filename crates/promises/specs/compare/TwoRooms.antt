@@ -8,10 +8,11 @@ use mathlib.Core.Path.{_≡_, refl, sym, ap₂, subst, _∙_}
 use mathlib.Core.Bool.{Bool, true, false, _&&_, cond}
 use mathlib.Core.List.{List, [], _∷_}
 use Prim.Native.Nat.{ℕ, zero, suc, _≤_, _<_, max}
+use native.Mathlib.Omega.{arith}
 use lib.Dec.{eqb}
 use lib.ListN.{length}
 use Rattle.rules.specs.Sheet.{Sheet, op, P-of, N-of, inbox-total, is-receive}
-use Rattle.rules.specs.Job.{Job, job, place-at, started}
+use Rattle.rules.specs.Job.{Job, Store, in-use-at, job, started}
 use Rattle.rules.specs.Step.{able, step, delivered}
 use Rattle.rules.specs.Order.{follow}
 use Rattle.invariant.specs.sheet.Valid.{Valid}
@@ -42,6 +43,8 @@ start-same-positions {s} g i j =
       order = start-order g i j;
       order-back = start-order g j i;
       queries = λ k t. start-entry g j k ∙ sym (start-entry g i k);
+      kept = λ k two. none-entered g i k (omega (arith, two));
+      kept-back = λ k two. none-entered g j k (omega (arith, two));
     }
 
 pub rooms-same-positions : {s : Sheet} → Valid s → Delivery-laws s → {i j : List ℕ} → inbox-total s ≤ length i → inbox-total s ≤ length j →
@@ -77,22 +80,22 @@ positions-near {s} g {n} {i} {j} {x} {y} {X} {Y} K h =
 
 -- THE SAME PEAKS: what is in use after each step is the same
 pub most-same : {s : Sheet} → Valid s → Delivery-laws s → {i j : List ℕ} → inbox-total s ≤ length i → inbox-total s ≤ length j →
-    (r : ℕ) → r < P-of s → (rs : List ℕ) {x y : Job} {X : Reached s i x} {Y : Reached s j y} → Same-positions X Y →
-    most-in-use s rs x r ≡ most-in-use s rs y r
+    (w : Store) (r : ℕ) → r < P-of s → (rs : List ℕ) {x y : Job} {X : Reached s i x} {Y : Reached s j y} → Same-positions X Y →
+    most-in-use w s rs x r ≡ most-in-use w s rs y r
 unfolding most-in-use
-most-same g A room-x room-y r l [] K = refl
-most-same {s} g A room-x room-y r l (q ∷ rs) {x} {y} K =
+most-same g A room-x room-y w r l [] K = refl
+most-same {s} g A room-x room-y w r l (q ∷ rs) {x} {y} K =
     go (able s x q) refl (able s y q) refl
     (λ a b.
     let after = positions-step g K A room-x room-y q a b in
-    ap₂ max (positions-in-use g after r l) (most-same g A room-x room-y r l rs after))
+    ap₂ max (positions-in-use g after w r l) (most-same g A room-x room-y w r l rs after))
   where
     go : (a : Bool) → able s x q ≡ a → (b : Bool) → able s y q ≡ b →
         (able s x q ≡ true → able s y q ≡ true →
-        max (place-at (step s q x) r .in-use) (most-in-use s rs (step s q x) r)
-        ≡ max (place-at (step s q y) r .in-use) (most-in-use s rs (step s q y) r)) →
-        cond a (max (place-at (step s q x) r .in-use) (most-in-use s rs (step s q x) r)) 0
-        ≡ cond b (max (place-at (step s q y) r .in-use) (most-in-use s rs (step s q y) r)) 0
+        max (in-use-at w (step s q x) r) (most-in-use w s rs (step s q x) r)
+        ≡ max (in-use-at w (step s q y) r) (most-in-use w s rs (step s q y) r)) →
+        cond a (max (in-use-at w (step s q x) r) (most-in-use w s rs (step s q x) r)) 0
+        ≡ cond b (max (in-use-at w (step s q y) r) (most-in-use w s rs (step s q y) r)) 0
     go true e true f same = same e f
     go true e false f same = true-not-false (sym (positions-able g K q) ∙ e) f
     go false e true f same = true-not-false (positions-able g K q ∙ f) e

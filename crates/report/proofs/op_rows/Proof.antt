@@ -1,11 +1,11 @@
 -- `report::op_rows` meets its contract. The loop's invariant: the first i rows are written. The measure is how many are
 -- left. Assumes nothing.
 use mathlib.Core.Path.{_≡_, _∙_, ap}
-use Prim.Native.Nat.{ℕ, _-_, _≤_}
+use Prim.Native.Nat.{ℕ, _-_, _*_, _≤_}
 use native.Mathlib.Omega.{arith}
 use Rattle.rules.specs.Limits.{op-row-size}
 use Rattle.rules.specs.Step.{splice}
-use Rattle.report.specs.ReportRows.{row-in, row-in-length, joined, Rowing, rowing-none, rowing-more}
+use Rattle.report.specs.ReportRows.{row-in, row-in-length, joined, joined-length, Rowing, rowing-none, rowing-more}
 use borrow.Author.Needs.{needs}
 use Rattle.report.proofs.op_rows.Statement.{statement}
 use Rattle.report.proofs.op_rows.Tie as tie
@@ -30,7 +30,12 @@ loop-again : tie.Need-loop-again Inv-loop μ-loop
 loop-again c =
     let l = c .before .before .before .before .before .loop in
     let z = c .before .before .before .before .before .before .before .before in
-    (rowing-more op-row-size (row-in-length (z .args .c .now)) (l .inv .0) (c .before .before .op-row .ensures) (omega (arith, z .pre .2)), omega arith)
+    let rows = row-in (z .args .c .now) in
+    let each = row-in-length (z .args .c .now) in (
+      rowing-more (op-row-size * l .i) (joined-length op-row-size rows each 0 (l .i)) (l .inv .0) (c .before .before .op-row .ensures)
+          (omega (arith, z .pre .2, each (l .i))),
+      omega arith,
+    )
 
 returns : tie.Need-returns Inv-loop μ-loop
 returns c =

@@ -1,12 +1,13 @@
-//! *Check* and *premise* on the largest sheets and on a small one.
+//! *Check* and *premise* on the largest sheets of both editions and on small ones.
 
 use crate::lines::{heading, line};
 use jamturret::lent::{self, Answer};
 use jamturret_host::layout::kind::STANDARD;
-use jamturret_host::layout::{MOST_BOARDS, MOST_OPERATIONS, MOST_PAYLOAD, SLOTS};
+use jamturret_host::layout::{Edition, SLOTS};
+use jamturret_host::layout::{MOST_BOARDS, MOST_OPERATIONS, MOST_ROOM};
 use jamturret_host::sheet::{Board, Operation, Sheet};
 use jamturret_host::timing::{in_turn, median};
-use jamturret_host::{bench_jobs, judge};
+use jamturret_host::{bench_jobs, judge, traffic};
 use std::hint::black_box;
 
 /// Areas of a board, each of its own bytes.
@@ -65,7 +66,7 @@ const SCRIPTS: [(&str, usize, Script); 3] = [
 ];
 
 /// Name, calls a measurement, sheet: the most operations beside half of them,
-/// and a small job.
+/// and small jobs.
 fn sheets() -> Vec<(&'static str, usize, Sheet)> {
     let mut sheets = Vec::new();
     for (name, boards, script) in SCRIPTS {
@@ -73,7 +74,15 @@ fn sheets() -> Vec<(&'static str, usize, Sheet)> {
             sheets.push((name, 1, full(operations, boards, script)));
         }
     }
+    // Edition 2, with rooms that cover all (document 02, K6).
+    for operations in [MOST_OPERATIONS / 2, MOST_OPERATIONS] {
+        let sheet = full(operations, MOST_BOARDS, blocking);
+        let sheet = sheet.with_room(MOST_ROOM as u16);
+        sheets.push(("blocking, edition 2", 1, sheet));
+    }
     sheets.push(("case 1", 500, bench_jobs::case_1()));
+    let in_rooms = bench_jobs::case_6_in_rooms([3, 3]);
+    sheets.push(("case 6 in rooms", 500, in_rooms));
     sheets
 }
 
@@ -81,16 +90,15 @@ fn sheets() -> Vec<(&'static str, usize, Sheet)> {
 fn full(operations: usize, boards: usize, script: Script) -> Sheet {
     let length = operations / boards;
     let board = Board {
-        attached: 0,
         inbox: AREA * AREAS as u16,
         script: (0..length).map(|index| script(index, length)).collect(),
+        ..Board::default()
     };
     Sheet {
+        edition: Edition::First,
         communicators: 8,
         boards: vec![board; boards],
-        payload: (0..MOST_PAYLOAD)
-            .map(|at| (at * 7 + at / 256) as u8)
-            .collect(),
+        payload: traffic::full_payload(),
     }
 }
 

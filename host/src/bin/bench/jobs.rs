@@ -1,4 +1,4 @@
-//! *Run* and *follow* on large jobs and on a small one, beside the efficient
+//! *Run* and *follow* on large jobs and on small ones, beside the efficient
 //! judge, which keeps its entries the same way; and how the times grow.
 
 use crate::lines::{heading, line};
@@ -90,7 +90,7 @@ impl Timed {
     }
 }
 
-/// Every shape of the most operations beside half of them, and a small job.
+/// Every shape of the most operations beside half of them, and small jobs.
 pub fn table(rounds: usize) {
     let mut jobs = Vec::new();
     for (name, sheet) in traffic::SHAPES {
@@ -99,6 +99,8 @@ pub fn table(rounds: usize) {
         }
     }
     jobs.push(("case 1", 100, Timed::new(&bench_jobs::case_1())));
+    let in_rooms = bench_jobs::case_6_in_rooms([3, 3]);
+    jobs.push(("case 6 in rooms", 100, Timed::new(&in_rooms)));
     heading("run");
     for (name, calls, job) in &jobs {
         line(name, &job.sheet, job.run(rounds, *calls));

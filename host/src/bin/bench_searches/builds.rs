@@ -79,6 +79,7 @@ impl Build {
             report,
             order_out,
             scratch,
+            ..
         } = desk;
         let Some(run) = self.run else {
             return lent::run(sheet, inbox, report, order_out, scratch);

@@ -1,14 +1,15 @@
 //! What an accepted order leaves: deliveries and the report, both made from
 //! the rows.
 
-use super::job::{set_word, state, Job, FINISHED, IN_USE, PEAK};
-use crate::layout::{board, kind, operation as at, word};
+use super::job::{set_word, state, Job};
+use crate::layout::board_row::{FINISHED, STATE};
+use crate::layout::{board, kind, operation as at, word, REPORT_HEADER_BYTES};
 
 /// Copies the message of every matched receive. A delivery is lent its own
 /// area and nothing else (document 01, Delivery).
 pub fn deliver(job: &Job, inbox: &mut [u8]) {
     let mut rest = inbox;
-    for (rank, entry) in job.view.boards.iter().enumerate() {
+    for (rank, entry) in job.view.boards().iter().enumerate() {
         let (own, others) = rest.split_at_mut(usize::from(word(entry, board::INBOX)));
         rest = others;
         let first = job.view.first(rank);
@@ -33,13 +34,14 @@ fn copy(job: &Job, message: usize, area: &mut [u8]) {
     area[..length].copy_from_slice(&job.view.payload[from..from + length]);
 }
 
-/// Document 01, The report.
+/// Document 01, The report; board rows of edition 2: document 02, K6.
 pub fn report(job: &Job, room: &mut [u8]) {
-    let (header, rest) = room.split_at_mut(16);
-    let (boards, rest) = rest.split_at_mut(8 * job.places.len());
+    let bytes = job.view.edition.board_row_bytes();
+    let (header, rest) = room.split_at_mut(REPORT_HEADER_BYTES);
+    let (boards, rest) = rest.split_at_mut(bytes * job.places.len());
     let mut able = false;
     let mut all_finished = true;
-    for (rank, row) in boards.chunks_exact_mut(8).enumerate() {
+    for (rank, row) in boards.chunks_exact_mut(bytes).enumerate() {
         let state = board_row(job, rank, row);
         able |= state == 1;
         all_finished &= state == 2;
@@ -72,10 +74,8 @@ fn board_row(job: &Job, rank: usize, row: &mut [u8]) -> u8 {
         true => 2,
         false => u8::from(job.able(rank)),
     };
-    set_word(row, 0, finished);
-    set_word(row, 2, word(place, IN_USE));
-    set_word(row, 4, word(place, PEAK));
-    row[6] = state;
-    row[7] = 0;
+    // Its numbers stand in the place as they do in the row.
+    row.copy_from_slice(&place[..row.len()]);
+    row[STATE] = state;
     state
 }

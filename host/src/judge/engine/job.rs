@@ -1,9 +1,10 @@
 //! A job in lent scratch, and its steps (document 01, How a board steps; probes
-//! and queries: document 02, K9).
+//! and queries: document 02, K9; rooms for standard sends: K6).
 
 use super::list::List;
 use super::scratch::{Place, Row, Scratch, BARE};
 use super::view::{fits, View};
+use crate::layout::board_row::{self, FINISHED, IN_USE, PEAK, STANDARD_PEAK, STANDARD_USE};
 use crate::layout::{kind, operation as at, word, BSEND_OVERHEAD, SLOTS};
 
 pub mod state {
@@ -14,11 +15,13 @@ pub mod state {
     pub const FINISHED: u8 = 5;
 }
 
-/// Places in a board's place.
-pub const FINISHED: usize = 0;
-pub const IN_USE: usize = 2;
-pub const PEAK: usize = 4;
-const WAITING: usize = 6;
+/// In a board's place, where a row has its state.
+const WAITING: usize = board_row::STATE;
+
+/// The places of an account: bytes in use, and the most of them so far.
+type Account = [usize; 2];
+const ATTACHED: Account = [IN_USE, PEAK];
+const STANDARD: Account = [STANDARD_USE, STANDARD_PEAK];
 
 /// Why, at which rank and at which operation a job stopped.
 #[derive(Clone, Copy)]
@@ -59,9 +62,13 @@ fn fitting<'a>(
     }
 }
 
-/// What a buffered message is charged.
-fn cost(sent: &[u8]) -> u16 {
-    word(sent, at::LENGTH) + BSEND_OVERHEAD as u16
+/// What a message in a buffer or a room is charged, and to which account.
+fn charged(sent: &[u8]) -> (Account, u16) {
+    let length = word(sent, at::LENGTH);
+    match sent[at::KIND] {
+        kind::STANDARD => (STANDARD, length),
+        _ => (ATTACHED, length + BSEND_OVERHEAD as u16),
+    }
 }
 
 impl<'a> Job<'a> {
@@ -71,7 +78,7 @@ impl<'a> Job<'a> {
         let mut job = Job {
             view,
             rows: &mut scratch.rows[..view.operations.len()],
-            places: &mut scratch.places[..view.boards.len()],
+            places: &mut scratch.places[..view.boards().len()],
             messages: List::empty(scratch.messages),
             receives: List::empty(scratch.receives),
             ranks: &mut scratch.ranks[..view.operations.len()],
@@ -81,8 +88,8 @@ impl<'a> Job<'a> {
             stop: None,
         };
         job.rows.fill(BARE);
-        job.places.fill([0; 8]);
-        for rank in 0..view.boards.len() {
+        job.places.fill(Place::default());
+        for rank in 0..view.boards().len() {
             job.note_script(rank);
         }
         job
@@ -218,16 +225,23 @@ impl<'a> Job<'a> {
             self.match_up(index, receive);
             return true;
         }
-        match sent[at::KIND] {
+        let buffered = match sent[at::KIND] {
             kind::READY => return self.stop(4, rank, index),
-            kind::BUFFERED => {
-                if !self.charge(rank, cost(sent)) {
-                    return self.stop(3, rank, index);
-                }
-                self.rows[index][0] = state::BUFFERED;
+            kind::BUFFERED if !self.charge(rank, index, view.attached(rank)) => {
+                return self.stop(3, rank, index);
             }
-            _ => self.rows[index][0] = state::PENDING,
-        }
+            kind::BUFFERED => true,
+            // Room 0 is none for empty messages too.
+            kind::STANDARD => {
+                let room = view.room(rank);
+                room > 0 && self.charge(rank, index, room)
+            }
+            _ => false,
+        };
+        self.rows[index][0] = match buffered {
+            true => state::BUFFERED,
+            false => state::PENDING,
+        };
         self.messages.push(index);
         true
     }
@@ -241,17 +255,19 @@ impl<'a> Job<'a> {
         false
     }
 
-    /// False if the attached buffer has no room. A step that charges a board
-    /// releases nothing of it, so its peak is met here or not at all.
-    fn charge(&mut self, rank: usize, cost: u16) -> bool {
+    /// False if a message does not fit beside what its account of this size has
+    /// in use. A step that charges a board releases nothing of it, so its peak is
+    /// met here or not at all.
+    fn charge(&mut self, rank: usize, index: usize, size: u16) -> bool {
+        let ([use_at, peak_at], cost) = charged(&self.view.operations[index]);
         let place = &mut self.places[rank];
-        let in_use = word(place, IN_USE) + cost;
-        if in_use > self.view.attached(rank) {
+        let in_use = word(place, use_at) + cost;
+        if in_use > size {
             return false;
         }
-        set_word(place, IN_USE, in_use);
-        if in_use > word(place, PEAK) {
-            set_word(place, PEAK, in_use);
+        set_word(place, use_at, in_use);
+        if in_use > word(place, peak_at) {
+            set_word(place, peak_at, in_use);
         }
         true
     }
@@ -261,9 +277,10 @@ impl<'a> Job<'a> {
     fn match_up(&mut self, message: usize, receive: usize) {
         let sent = &self.view.operations[message];
         if self.rows[message][0] == state::BUFFERED {
+            let ([use_at, _], cost) = charged(sent);
             let place = &mut self.places[usize::from(self.ranks[message])];
-            let in_use = word(place, IN_USE) - cost(sent);
-            set_word(place, IN_USE, in_use);
+            let in_use = word(place, use_at) - cost;
+            set_word(place, use_at, in_use);
         }
         let capacity = word(&self.view.operations[receive], at::LENGTH);
         let cut = word(sent, at::LENGTH) > capacity;

@@ -52,7 +52,7 @@ pub fn run(sheet: &[u8], rooms: Rooms, order_out: &mut [u8]) -> Answer {
         Err(answer) => return answer,
     };
     let mut job = Job::start(&view, rooms.scratch);
-    while let Some(rank) = (0..view.boards.len()).find(|&rank| job.able(rank)) {
+    while let Some(rank) = (0..view.boards().len()).find(|&rank| job.able(rank)) {
         order_out[job.steps] = rank as u8;
         job.step(rank);
     }

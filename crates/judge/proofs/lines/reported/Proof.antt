@@ -17,15 +17,15 @@ use Rattle.judge.proofs.lines.reported.Statement.{statement}
 use Rattle.judge.proofs.lines.reported.Tie as tie
 
 -- the report's own bytes lie in its room
-module _ (c : tie.After-report-size) where
+module _ (c : tie.After-size) where
   abbrev own : ℕ
-  own = c .report-size .result
+  own = c .size .result
 
   abbrev room : List ℕ
   room = c .before .before .before .before .before .args .report .now
 
   inside : own ≤ length room
-  inside = omega (arith, c .report-size .ensures .1, c .before .before .before .before .before .pre .0 .long)
+  inside = omega (arith, c .size .ensures .1, c .before .before .before .before .before .pre .0 .long)
 
   long : length (take own room) ≡ own
   long = length-take-le own room inside
@@ -33,7 +33,7 @@ module _ (c : tie.After-report-size) where
   -- and are the report
   printed-is : hex-line (take own room) ≡ report-line (c .before .before .before .before .before .args .sheet .now)
   unfolding report-line
-  printed-is = ap hex-line (ap (λ (k : ℕ). take k room) (c .report-size .ensures .0) ∙ c .before .before .before .before .before .pre .0 .own)
+  printed-is = ap hex-line (ap (λ (k : ℕ). take k room) (c .size .ensures .0) ∙ c .before .before .before .before .before .pre .0 .own)
 
   size : 3 * own ≡ length (report-line (c .before .before .before .before .before .args .sheet .now))
   size = omega (arith, ap length printed-is, hex-line-length (take own room), long)
@@ -42,7 +42,7 @@ hex-line-requires : tie.Need-hex-line-requires
 hex-line-requires c κs =
     let k = c .before .before in
     let z = k .before .before .before .before .before in
-    (omega (arith, long k, k .report-size .ensures .0), omega (arith, long k, k .report-size .ensures .1, z .pre .1))
+    (omega (arith, long k, k .size .ensures .0), omega (arith, long k, k .size .ensures .1, z .pre .1))
 
 returns : tie.Need-returns
 returns c =
@@ -59,7 +59,7 @@ returns c =
     record {
       is = line-stands (a .line .now) (put .last .1 .0) (report-line bs) (3 * own k) (put .ensures ∙ ap (λ (l : List ℕ). splice (a .line .now) 0 l) (printed-is k)) (size k);
       told-is = line-stands (a .told .now) (told .last .1 .0) (facts-line bs) (told .result) (told .ensures .0 ∙ ap (λ (l : List ℕ). splice (a .told .now) 0 l) same) (told .ensures .1 ∙ ap length same);
-      fits = omega (arith, k .report-size .ensures .1);
+      fits = omega (arith, k .size .ensures .1);
       told-fits = omega (arith, told .ensures .1, numbers-line-most (facts .result), ap length (facts .ensures), facts-long (a .report .now) (premise .result .number) (premise .result .place));
     }
 

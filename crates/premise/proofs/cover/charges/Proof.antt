@@ -3,16 +3,17 @@
 use Prim.Native.Nat.{_-_}
 use native.Mathlib.Omega.{arith}
 use Rattle.rules.specs.Sheet.{sheet-in}
+use Rattle.account.specs.Stores.{stands-for}
 use Rattle.premise.specs.Charges.{Summed, summed-none, summed-more, summed-all}
 use borrow.Author.Needs.{needs}
 use Rattle.premise.proofs.cover.charges.Statement.{statement}
 use Rattle.premise.proofs.cover.charges.Tie as tie
 
 abbrev Inv-loop : tie.InvT-loop
-Inv-loop s r i₀ end sum₀ i sum = Summed (sheet-in s) r i end sum
+Inv-loop s w r i₀ end sum₀ i sum = Summed (stands-for w) (sheet-in s) r i end sum
 
 abbrev μ-loop : tie.MeasureT-loop
-μ-loop s r i₀ end sum₀ i sum = end - i
+μ-loop s w r i₀ end sum₀ i sum = end - i
 
 loop-holds : tie.Need-loop-holds Inv-loop μ-loop
 loop-holds c =

@@ -1,44 +1,37 @@
--- `premise::cover::refusal` meets its contract. The loop's invariant: every board before r is covered. The measure is how many
--- boards are left. Assumes nothing.
-use mathlib.Core.Path.{_≡_}
-use Prim.Native.Nat.{_-_}
+-- `premise::cover::refusal` meets its contract. The loop's invariant: every board before r keeps the store's rule. The measure is how
+-- many boards are left. Assumes nothing.
+use mathlib.Core.Bool.{Bool}
+use Prim.Native.Nat.{ℕ, _-_}
 use native.Mathlib.Omega.{arith}
-use lib.Dec.{leb}
-use Rattle.rules.specs.Sheet.{Sheet, sheet-in, P-of}
-use Rattle.rules.specs.Premise.{cover-good, cover-refusal}
+use Rattle.rules.specs.Sheet.{sheet-in, P-of}
+use Rattle.rules.specs.Refusal.{first-broken}
 use Rattle.laws.specs.Answers.{Sought, sought-none, sought-more, sought-bad, sought-all}
+use Rattle.premise.specs.Covers.{cover-number, store-good}
 use borrow.Author.Needs.{needs}
 use Rattle.premise.proofs.cover.refusal.Statement.{statement}
 use Rattle.premise.proofs.cover.refusal.Tie as tie
 
 abbrev Inv-loop : tie.InvT-loop
-Inv-loop s p r₀ r = Sought (cover-refusal (sheet-in s)) 22 (cover-good (sheet-in s)) r p
+Inv-loop s w p r₀ r =
+    let f : ℕ → Bool = store-good w (sheet-in s) in
+    Sought (first-broken (cover-number w) f (P-of (sheet-in s)) 0) (cover-number w) f r p
 
 abbrev μ-loop : tie.MeasureT-loop
-μ-loop s p r₀ r = p - r
+μ-loop s w p r₀ r = p - r
 
 loop-holds : tie.Need-loop-holds Inv-loop μ-loop
-unfolding cover-refusal
 loop-holds c = sought-none (P-of (sheet-in (c .before .before .args .s .now))) (omega arith)
-
--- the test of a board's charges is the definition's
-module _ (c : tie.After-attached Inv-loop μ-loop) where
-  abbrev s : Sheet
-  s = sheet-in (c .before .before .before .before .before .before .args .s .now)
-
-  tested : leb (c .before .charges .result) (c .attached .result) ≡ cover-good s (c .before .before .before .loop .r)
-  unfolding cover-good
-  tested = cc
 
 returns : tie.Need-returns Inv-loop μ-loop
 returns c =
-    let t = c .before .before .before in
-    sought-bad (t .before .loop .inv) (t .loop-test .taken) (tested (c .before)) (c .if1 .taken)
+    let k = c .before .before in
+    rw (c .number .ensures)
+    (sought-bad (k .before .before .loop .inv) (k .before .loop-test .taken) (k .is-good .ensures) (c .before .if1 .taken))
 
 loop-again : tie.Need-loop-again Inv-loop μ-loop
 loop-again c =
-    let t = c .before .before .before in
-    sought-more (t .before .loop .inv) (t .loop-test .taken) (tested (c .before)) (c .if1 .left)
+    let k = c .before in
+    sought-more (k .before .before .loop .inv) (k .before .loop-test .taken) (k .is-good .ensures) (c .if1 .left)
 
 returns-2 : tie.Need-returns-2 Inv-loop μ-loop
 returns-2 c = sought-all (c .before .loop .inv) (c .loop-test .left)

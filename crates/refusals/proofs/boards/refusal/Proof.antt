@@ -5,7 +5,7 @@ use mathlib.Core.Bool.{_&&_}
 use Prim.Native.Nat.{ℕ, _+_, _-_}
 use native.Mathlib.Omega.{arith}
 use lib.Dec.{eqb, leb}
-use Rattle.rules.specs.Limits.{most-attached, most-inbox}
+use Rattle.rules.specs.Limits.{most-attached, most-inbox, most-room}
 use Rattle.rules.specs.Sheet.{Sheet, sheet-in}
 use Rattle.rules.specs.Refusal.{board-good}
 use Rattle.laws.specs.Ranks.{inbox-start-more}
@@ -24,30 +24,31 @@ loop-holds : tie.Need-loop-holds Inv-loop μ-loop
 loop-holds c = walked-none (sheet-in (c .before .before .args .s .now))
 
 -- the entry that was read: its test is the definition's
-module _ (c : tie.After-attached Inv-loop μ-loop) where
+module _ (c : tie.After-room Inv-loop μ-loop) where
   abbrev s : Sheet
-  s = sheet-in (c .before .before .before .before .before .before .before .args .s .now)
+  s = sheet-in (c .before .before .before .before .before .before .before .before .args .s .now)
 
   abbrev sum : ℕ
-  sum = c .before .before .before .before .loop .sum
+  sum = c .before .before .before .before .before .loop .sum
 
   abbrev total-now : ℕ
-  total-now = c .before .before .before .before .loop .total + c .before .before .inbox .result
+  total-now = c .before .before .before .before .before .loop .total + c .before .before .before .inbox .result
 
-  tested : (eqb (c .before .first .result) sum && (leb (c .attached .result) most-attached && leb total-now most-inbox))
-      ≡ board-good s (c .before .before .before .before .loop .r)
+  tested : (eqb (c .before .before .first .result) sum
+      && ((leb (c .before .attached .result) most-attached && leb total-now most-inbox) && leb (c .room .result) most-room))
+      ≡ board-good s (c .before .before .before .before .before .loop .r)
   unfolding board-good
-  tested = cc (inbox-start-more s (c .before .before .before .before .loop .r) (omega arith))
+  tested = cc (inbox-start-more s (c .before .before .before .before .before .loop .r) (omega arith))
 
 returns : tie.Need-returns Inv-loop μ-loop
-returns c = walked-bad (c .before .before .before .before .before .loop .inv) (omega arith) (tested (c .before)) (c .if1 .taken)
+returns c = walked-bad (c .before .before .before .before .before .before .loop .inv) (omega arith) (tested (c .before)) (c .if1 .taken)
 
 loop-again : tie.Need-loop-again Inv-loop μ-loop
 loop-again c =
     let d = c .before .before in
-    walked-more (d .before .before .before .before .loop .inv) (omega arith) (tested d) (c .before .if1 .left) (c .count .result) (total-now d)
+    walked-more (d .before .before .before .before .before .loop .inv) (omega arith) (tested d) (c .before .if1 .left) (c .count .result) (total-now d)
     (c .count .ensures .is) (c .count .ensures .small)
-    (ap (λ (n : ℕ). d .before .before .before .before .loop .total + n) (d .before .before .inbox .ensures .is))
+    (ap (λ (n : ℕ). d .before .before .before .before .before .loop .total + n) (d .before .before .before .inbox .ensures .is))
 
 returns-2 : tie.Need-returns-2 Inv-loop μ-loop
 returns-2 c = walked-total (c .before .before .before .loop .inv) (omega arith) (omega arith)
@@ -62,5 +63,5 @@ refusal-spec =
     tie.close
     (tie.spec
     Inv-loop μ-loop (λ c κs. search needs) loop-holds (λ c κs. search needs) (λ c. omega arith) (λ c κs. search needs)
-    (λ c κs. search needs) returns (λ c κs. search needs) (λ c. omega arith) (λ c. omega arith) (λ c. omega arith)
+    (λ c κs. search needs) (λ c κs. search needs) returns (λ c κs. search needs) (λ c. omega arith) (λ c. omega arith) (λ c. omega arith)
     loop-again (λ c κs. search needs) returns-2 returns-3)

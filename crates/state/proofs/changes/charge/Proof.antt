@@ -1,67 +1,59 @@
 -- `state::changes::charge` meets its contract: where the account has room, the place with the account that a charge leaves. Assumes nothing.
-use mathlib.Core.Path.{_≡_, refl, sym, ap, _∙_}
-use mathlib.Core.Bool.{true, false}
-use Prim.Native.Nat.{ℕ, _+_, max}
-use native.Mathlib.Omega.{arith}
-use lib.Dec.{leb}
-use borrow.Author.Tests.{leb-true, not-true, not-false}
-use Rattle.rules.specs.Sheet.{Sheet, P-of}
-use Rattle.rules.specs.Job.{Job, Place, place, place-at}
-use Rattle.rules.specs.Step.{charged}
+use mathlib.Core.Path.{refl, sym, ap, _∙_}
+use borrow.Author.Tests.{not-true, not-false}
+use Rattle.rules.specs.Job.{Place, figures}
+use Rattle.rules.specs.Step.{splice}
 use Rattle.laws.specs.Tests.{true-not-false}
-use Rattle.account.specs.declared.Account.{Account}
-use Rattle.account.specs.Accounts.{room-is, taken-room, charged-is}
-use Rattle.state.specs.declared.BoardPlace.{BoardPlace}
-use Rattle.state.specs.Decoded.{place-of}
-use Rattle.state.specs.Changes.{place-read, place-change}
+use Rattle.account.specs.Stores.{stands-for}
+use Rattle.account.specs.Accounts.{room-is}
+use Rattle.state.specs.Layout.{seat-at}
+use Rattle.state.specs.Decoded.{place-row}
+use Rattle.state.specs.Changes.{charged-in, place-change, room-asked}
+use Rattle.state.specs.Charged.{charged-as, charged-fits}
 use borrow.Author.Needs.{needs}
 use Rattle.state.proofs.changes.charge.Statement.{statement}
 use Rattle.state.proofs.changes.charge.Tie as tie
-use Rattle.state.proofs.changes.charge.Reads as reads
-use Rattle.state.proofs.changes.charge.Lts as lts
-use Rattle.account.proofs.charging.Reads as charging-reads
-use Rattle.state.proofs.places.place_of.Reads as place-of-reads
-use Rattle.state.proofs.places.put_place.Reads as put-place-reads
 
 returns : tie.Need-returns
-unfolding place
 returns c =
-    let a = c .before .before .before .before .before .before .args in
-    let old = c .before .before .before .place-of in
-    let q = old .result in
-    let full = sym (c .before .before .charging .ensures .1 ∙ room-is (a .size) (q .in_use) (q .peak) (a .n)) ∙ not-true _ (c .if1 .taken) in
+    let a = c .before .before .before .before .before .before .before .args in
+    let old = c .before .before .before .before .place-of in
+    let f = c .before .before .before .figures-in in
+    let full =
+    sym (c .before .before .charging .ensures .1 ∙ room-is _ _ _ _)
+    ∙ not-true _ (c .if1 .taken) in
     record {
       says =
           λ s t x d l.
-          sym (ap (λ (z : Place). leb (z .in-use + a .n) (a .size)) (sym (place-read s (a .c .now) t x d (a .r) q l (old .ensures))) ∙ full);
+          sym full
+          ∙ room-asked s (a .c .now) t x d (stands-for (a .w)) (a .r) (a .size) (a .n) (old .result) (f .result) l (old .ensures) (f .ensures);
       taken = λ e. absurd (true-not-false e refl);
       refused = λ e. refl;
     }
 
 returns-2 : tie.Need-returns-2
-unfolding place charged
+unfolding figures
 returns-2 c =
-    let a = c .before .before .before .before .before .before .before .before .before .before .before .args in
-    let old = c .before .before .before .before .before .before .before .before .place-of in
-    let q = old .result in
-    let said = c .before .before .before .before .before .before .before .charging in
-    let fits = sym (said .ensures .1 ∙ room-is (a .size) (q .in_use) (q .peak) (a .n)) ∙ not-false _ (c .before .before .before .before .before .if1 .left) in
-    let account-is = said .ensures .0 ∙ taken-room (a .size) (q .in_use) (q .peak) (a .n) fits in
-    let new : BoardPlace = record { finished = q .finished; waiting = q .waiting; in_use = said .result .account .in_use; peak = said .result .account .peak } in
+    let d = c .before .before .before .before .before in
+    let a = d .before .before .before .before .before .before .before .args in
+    let old = d .before .before .before .before .place-of in
+    let f = d .before .before .before .figures-in in
+    let said = d .before .before .charging in
+    let w = stands-for (a .w) in
+    let put = c .before .before .put-account in
+    let small = d .before .before .before .before .before .before .before .pre .1 in
+    let fits = sym (said .ensures .1 ∙ room-is _ _ _ _) ∙ not-false _ (d .if1 .left) in
     record {
       says =
           λ s t x d l.
-          sym (ap (λ (z : Place). leb (z .in-use + a .n) (a .size)) (sym (place-read s (a .c .now) t x d (a .r) q l (old .ensures))) ∙ fits);
+          sym fits ∙ room-asked s (a .c .now) t x d w (a .r) (a .size) (a .n) (old .result) (f .result) l (old .ensures) (f .ensures);
       taken =
           λ e t s x d l.
-          place-change s (a .c .now) t x d (charged (a .n)) (a .r) q new (c .before .before .put-place .last .0) l (old .ensures)
-          (ap (λ (z : Account). place (q .finished) (q .waiting) (z .in_use) (z .peak)) (said .ensures .0) ∙ sym (charged-is (a .size) (a .n) (place-of q) fits))
-          (record {
-            finished-fits = old .ensures .finished-fits;
-            in-use-fits = omega (arith, ap (λ (z : Account). z .in_use) account-is, leb-true (q .in_use + a .n) (a .size) fits);
-            peak-fits = omega (arith, ap (λ (z : Account). z .peak) account-is, old .ensures .peak-fits, leb-true (q .in_use + a .n) (a .size) fits);
-          })
-          (c .before .before .put-place .ensures);
+          place-change s (a .c .now) t x d (charged-in w (a .n)) (a .r) (old .result) (put .last .0) l (old .ensures)
+          (charged-fits w (a .size) (a .n) (old .result) (f .result) (f .ensures) (old .ensures .fits) fits small)
+          (put .ensures
+          ∙ ap (λ (p : Place). splice (a .c .now) (seat-at (a .r)) (place-row p))
+          (charged-as w (a .size) (a .n) (old .result) (f .result) (f .ensures) (said .result .account) fits (said .ensures .0)));
       refused = λ e. absurd (true-not-false refl e);
     }
 
@@ -69,5 +61,5 @@ pub charge-spec : {M : Type 1} → statement M
 charge-spec =
     tie.close
     (tie.spec
-    (λ c κs. search needs) (λ c κs. search needs) (λ c. search needs) returns (λ c κs. search needs) (λ c. search needs)
-    returns-2)
+    (λ c κs. search needs) (λ c κs. search needs) (λ c κs. search needs) (λ c. search needs) returns (λ c κs. search needs)
+    (λ c. search needs) returns-2)

@@ -4,7 +4,7 @@ use mathlib.Core.List.{List}
 use Prim.Native.Nat.{ℕ, _*_}
 use lib.ListN.{replicate}
 use Rattle.rules.specs.Step.{splice}
-use Rattle.state.specs.Layout.{places-at}
+use Rattle.state.specs.Layout.{seat-size, places-at}
 use borrow.Author.Needs.{needs}
 use Rattle.state.proofs.start.init.Statement.{statement}
 use Rattle.state.proofs.start.init.Tie as tie
@@ -12,7 +12,7 @@ use Rattle.state.proofs.start.init.Tie as tie
 returns : tie.Need-returns
 returns c =
     let a = c .before .before .before .before .before .before .before .before .before .args in
-    c .before .before .fill .ensures ∙ ap (λ (s : List ℕ). splice s places-at (replicate (8 * a .p) 0)) (c .before .before .before .before .before .before .put-rows .ensures)
+    c .before .before .fill .ensures ∙ ap (λ (s : List ℕ). splice s places-at (replicate (seat-size * a .p) 0)) (c .before .before .before .before .before .before .put-rows .ensures)
 
 pub init-spec : {M : Type 1} → statement M
 init-spec =

@@ -1,21 +1,13 @@
 -- `steps::sends::leave` meets its contract: by mode, each way is the definition's. Assumes nothing.
-use mathlib.Core.Path.{_≡_, refl, sym, _∙_, ap, subst}
-use Prim.Native.Nat.{ℕ, _<_}
+use mathlib.Core.Path.{refl, sym, _∙_}
 use native.Mathlib.Omega.{arith}
-use Rattle.rules.specs.Sheet.{sheet-in, N-of}
+use Rattle.rules.specs.Sheet.{sheet-in}
 use Rattle.simulation.specs.Simulates.{simulates-as}
-use Rattle.steps.specs.Unmatched.{unmatched-ready, unmatched-buffered, unmatched-pending}
+use Rattle.steps.specs.Unmatched.{unmatched-ready, unmatched-buffered, unmatched-other}
 use Rattle.steps.specs.Pending.{stop-simulates}
 use borrow.Author.Needs.{needs}
 use Rattle.steps.proofs.sends.leave.Statement.{statement}
 use Rattle.steps.proofs.sends.leave.Tie as tie
-use Rattle.steps.proofs.sends.leave.Reads as reads
-use Rattle.steps.proofs.sends.leave.Lts as lts
-use Rattle.sheet.proofs.ops.is_buffered.Reads as is-buffered-reads
-use Rattle.sheet.proofs.ops.is_ready.Reads as is-ready-reads
-use Rattle.state.proofs.controls.halting.Reads as halting-reads
-use Rattle.steps.proofs.sends.buffer_or_stop.Reads as buffer-or-stop-reads
-use Rattle.steps.proofs.sends.pend.Reads as pend-reads
 
 returns : tie.Need-returns
 returns c =
@@ -38,9 +30,9 @@ returns-3 c =
     let a = c .before .before .before .before .before .before .before .before .before .before .args in
     let s = sheet-in (a .s .now) in
     simulates-as
-    (λ x o. unmatched-pending s (a .r) (a .i) x (sym (c .before .before .before .before .before .before .before .is-ready .ensures) ∙ c .before .before .before .before .before .before .if1 .left)
+    (λ x o. unmatched-other s (a .r) (a .i) x (sym (c .before .before .before .before .before .before .before .is-ready .ensures) ∙ c .before .before .before .before .before .before .if1 .left)
     (sym (c .before .before .before .before .before .is-buffered .ensures) ∙ c .before .before .before .before .if2 .left))
-    (c .before .before .pend .ensures)
+    (c .before .before .keep-or-pend .ensures)
 
 pub leave-spec : {M : Type 1} → statement M
 leave-spec =
