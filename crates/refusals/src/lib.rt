@@ -2,5 +2,4 @@
 mod boards;
 pub mod check;
 mod header;
-mod ops;
 mod scripts;

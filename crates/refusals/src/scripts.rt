@@ -7,7 +7,6 @@ ghost use Rattle.laws.specs.Laid.{Laid};
 ghost use Rattle.laws.specs.Tabled.{Tabled};
 ghost use Rattle.laws.specs.Scripts.{script-broken, all-broken};
 ghost use Rattle.refusals.specs.Rules.{number, keeps, Asked};
-use crate::ops;
 use sheet::Answer;
 use sheet::header;
 
@@ -25,7 +24,7 @@ fn script_refusal(s: &[u8], rule: Rule, r: usize) -> Answer
         (a .number) (a .place) ⌝ }
 {
     match rule {
-        Rule::Fields => ops::script_refusal(s, r),
+        Rule::Fields => fields::script_refusal(s, r),
         Rule::Requests => requests::script_refusal(s, r),
         Rule::Freed => requests::forgotten::script_refusal(s, r),
     }

@@ -1,9 +1,9 @@
--- `refusals::ops::probe_is_good` meets its contract: each part of the test is the definition's. Assumes nothing.
+-- `fields::probe_is_good` meets its contract: each part of the test is the definition's. Assumes nothing.
 use mathlib.Core.Path.{refl}
 use Rattle.rules.specs.Refusal.{probe-good}
 use borrow.Author.Needs.{needs}
-use Rattle.refusals.proofs.ops.probe_is_good.Statement.{statement}
-use Rattle.refusals.proofs.ops.probe_is_good.Tie as tie
+use Rattle.fields.proofs.probe_is_good.Statement.{statement}
+use Rattle.fields.proofs.probe_is_good.Tie as tie
 
 returns : tie.Need-returns
 unfolding probe-good

@@ -1,8 +1,8 @@
--- `refusals::ops::wait_is_good` meets its contract: each part of the test is the definition's. Assumes nothing.
+-- `fields::wait_is_good` meets its contract: each part of the test is the definition's. Assumes nothing.
 use Rattle.rules.specs.Refusal.{wait-good}
 use borrow.Author.Needs.{needs}
-use Rattle.refusals.proofs.ops.wait_is_good.Statement.{statement}
-use Rattle.refusals.proofs.ops.wait_is_good.Tie as tie
+use Rattle.fields.proofs.wait_is_good.Statement.{statement}
+use Rattle.fields.proofs.wait_is_good.Tie as tie
 
 returns : tie.Need-returns
 unfolding wait-good

@@ -1,11 +1,11 @@
--- `refusals::ops::extent_is_good` meets its contract: each part of the test is the definition's. Assumes nothing.
+-- `fields::extent_is_good` meets its contract: each part of the test is the definition's. Assumes nothing.
 use lib.Dec.{eqb, ltb}
 use Rattle.rules.specs.Limits.{slot-limit}
 use Rattle.rules.specs.Refusal.{extent-good, slot-good}
 use Rattle.laws.specs.Tests.{cond-formula}
 use borrow.Author.Needs.{needs}
-use Rattle.refusals.proofs.ops.extent_is_good.Statement.{statement}
-use Rattle.refusals.proofs.ops.extent_is_good.Tie as tie
+use Rattle.fields.proofs.extent_is_good.Statement.{statement}
+use Rattle.fields.proofs.extent_is_good.Tie as tie
 
 returns : tie.Need-returns
 unfolding extent-good slot-good

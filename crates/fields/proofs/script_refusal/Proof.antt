@@ -1,4 +1,4 @@
--- `refusals::ops::script_refusal` meets its contract. The loop's invariant: the search inside the script has come to operation i.
+-- `fields::script_refusal` meets its contract. The loop's invariant: the search inside the script has come to operation i.
 -- The measure is how many operations of the script are left. Assumes nothing.
 use mathlib.Core.Path.{_≡_}
 use Prim.Native.Nat.{_-_}
@@ -8,8 +8,8 @@ use Rattle.rules.specs.Refusal.{op-good, room-for}
 use Rattle.laws.specs.Decoded.{comms-decoded}
 use Rattle.laws.specs.Scripts.{Searched, searched-none, searched-inside, searched-rank, searched-more, searched-bad, searched-all}
 use borrow.Author.Needs.{needs}
-use Rattle.refusals.proofs.ops.script_refusal.Statement.{statement}
-use Rattle.refusals.proofs.ops.script_refusal.Tie as tie
+use Rattle.fields.proofs.script_refusal.Statement.{statement}
+use Rattle.fields.proofs.script_refusal.Tie as tie
 
 abbrev Inv-loop : tie.InvT-loop
 Inv-loop s r p comms payload inbox i₀ end i = Searched (sheet-in s) 6 (op-good (sheet-in s)) r i end

@@ -1,8 +1,8 @@
--- `refusals::ops::envelope_is_good` meets its contract: each part of the test is the definition's. Assumes nothing.
+-- `fields::envelope_is_good` meets its contract: each part of the test is the definition's. Assumes nothing.
 use Rattle.rules.specs.Refusal.{envelope-good, or-any}
 use borrow.Author.Needs.{needs}
-use Rattle.refusals.proofs.ops.envelope_is_good.Statement.{statement}
-use Rattle.refusals.proofs.ops.envelope_is_good.Tie as tie
+use Rattle.fields.proofs.envelope_is_good.Statement.{statement}
+use Rattle.fields.proofs.envelope_is_good.Tie as tie
 
 returns : tie.Need-returns
 unfolding envelope-good or-any
