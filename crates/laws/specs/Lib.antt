@@ -17,6 +17,7 @@
 --   Premise   the premise service accepts exactly calm sheets
 --   Table     a rule of a constant table, tested once
 --   Xor       exclusive or
+--   Flip      one bit changed, by exclusive or
 --   CrcStep   a byte of the CRC by a table of remainders
 --   Sums          sums over the numbers below n
 --   WaitingLists  members, order, searches, removal
@@ -42,6 +43,7 @@ pub mod Calm
 pub mod Premise
 pub mod Table
 pub mod Xor
+pub mod Flip
 pub mod CrcStep
 pub mod Sums
 pub mod WaitingLists

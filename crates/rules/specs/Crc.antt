@@ -2,8 +2,8 @@
 -- high bit first, no final change. Assumes nothing: these are definitions.
 use mathlib.Core.Bool.{Bool, true, false, cond}
 use mathlib.Core.List.{List, [], _∷_, _++_}
-use Prim.Native.Nat.{ℕ, zero, suc, _+_, _*_, _/_, _%_}
-use lib.Dec.{leb}
+use Prim.Native.Nat.{ℕ, zero, suc, _+_, _-_, _*_, _/_, _%_}
+use lib.Dec.{leb, eqb}
 use lib.ListN.{take, drop}
 
 -- exclusive or of the lowest `bits` bits of two numbers
@@ -11,9 +11,13 @@ unfoldable pub xor : (bits a b : ℕ) → ℕ
 xor zero a b = 0
 xor (suc k) a b = (a + b) % 2 + 2 * xor k (a / 2) (b / 2)
 
--- one shift: the high bit goes out, and where it was set the polynomial goes in
+-- one bit of a number, given by its value, is changed
+unfoldable pub flip : (bit n : ℕ) → ℕ
+flip p n = cond (eqb (n / p % 2) 0) (n + p) (n - p)
+
+-- one shift: the high bit goes out, and where it was set the polynomial goes in, the bits of 1021 hex
 unfoldable pub shift : ℕ → ℕ
-shift c = cond (leb 32768 c) (xor 16 (2 * c % 65536) 0x1021) (2 * c % 65536)
+shift c = cond (leb 32768 c) (flip 0x1000 (flip 0x20 (flip 1 (2 * c % 65536)))) (2 * c % 65536)
 
 unfoldable pub shifts : (times c : ℕ) → ℕ
 shifts zero c = c
@@ -21,7 +25,7 @@ shifts (suc k) c = shifts k (shift c)
 
 -- a byte enters at the high end, and eight shifts follow
 unfoldable pub crc-byte : (c b : ℕ) → ℕ
-crc-byte c b = shifts 8 (xor 16 c (256 * b))
+crc-byte c b = shifts 8 (256 * xor 8 (c / 256) b + c % 256)
 
 unfoldable pub crc-from : (c : ℕ) → List ℕ → ℕ
 crc-from c [] = c

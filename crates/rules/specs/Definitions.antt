@@ -25,7 +25,7 @@ use Rattle.rules.specs.BenchStandardRefused
 unfoldable pub definitions : Unit {0}
 unfolding
     Limits.boards-size Limits.board-rows-size
-    Crc.xor Crc.shift Crc.shifts Crc.crc-byte Crc.crc-from Crc.crc
+    Crc.xor Crc.flip Crc.shift Crc.shifts Crc.crc-byte Crc.crc-from Crc.crc
     Sheet.no-op Sheet.no-board Sheet.P-of Sheet.N-of Sheet.op Sheet.board Sheet.is-send Sheet.is-standard Sheet.is-buffered
     Sheet.is-ready Sheet.is-receive Sheet.is-wait Sheet.is-probe Sheet.is-query Sheet.is-nonblocking
     Sheet.tells-message Sheet.tells-completion Sheet.tells Sheet.selects Sheet.only-half Sheet.no-half
