@@ -56,6 +56,12 @@ pub fn found<const N: usize>(names: [&'static str; N], found: [bool; N]) -> Vec<
         .collect()
 }
 
+/// Hex pairs, a blank between.
+pub fn hex(bytes: &[u8]) -> String {
+    let pairs: Vec<String> = bytes.iter().map(|byte| format!("{byte:02X}")).collect();
+    pairs.join(" ")
+}
+
 /// Says what is needed to see a difference again and ends the program.
 pub fn difference(
     seed: u64,
@@ -69,8 +75,7 @@ pub fn difference(
         eprintln!("  {who}: {answer}");
     }
     if sheet.len() <= PRINTED_BYTES {
-        let hex: Vec<String> = sheet.iter().map(|byte| format!("{byte:02X}")).collect();
-        eprintln!("  sheet, {} bytes: {}", sheet.len(), hex.join(" "));
+        eprintln!("  sheet, {} bytes: {}", sheet.len(), hex(sheet));
     } else {
         let name = format!("jamturret-{seed}-{number}-{}.sheet", process::id());
         let path = env::temp_dir().join(name);

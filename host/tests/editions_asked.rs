@@ -1,6 +1,10 @@
 //! The cases around the second edition (document 02, K6) that the differential
 //! test of check and premise counts, each on a sheet made by hand.
 
+#[path = "common/all_made.rs"]
+mod all_made;
+
+use all_made::all_made;
 use jamturret_host::command::found;
 use jamturret_host::editions::{asked, ASKED};
 use jamturret_host::judge;
@@ -19,15 +23,6 @@ fn counted(sheet: &[u8]) -> Vec<&'static str> {
 fn mended(mut sheet: Vec<u8>) -> Vec<&'static str> {
     mend_crc(&mut sheet);
     counted(&sheet)
-}
-
-/// All names from one to another are made.
-fn all_made(from: &str, to: &str, made: &[&str]) {
-    let place = |name| ASKED.iter().position(|other| *other == name);
-    let (first, last) = (place(from).expect("a name"), place(to).expect("a name"));
-    for name in &ASKED[first..=last] {
-        assert!(made.contains(name), "{name}");
-    }
 }
 
 /// Three boards that do nothing, with these rooms.
@@ -112,7 +107,7 @@ fn wrong_offsets_are_counted() {
         assert_eq!(moved(edition, by), names, "{edition:?} {by:?}");
         made.extend(names);
     }
-    all_made(between, "refused 3, length of 1, else of 2", &made);
+    all_made(&ASKED, between, "refused 3, length of 1, else of 2", &made);
     // With another wrong offset beside it nothing is told apart.
     let mut sheet = three([0; 3]).bytes();
     add_word(&mut sheet, header::BOARD_TABLE, 1);
@@ -180,7 +175,7 @@ fn wrong_entries_are_counted() {
         assert_eq!(entries(changes), names, "{changes:?}");
         made.extend(names);
     }
-    all_made(first, total, &made);
+    all_made(&ASKED, first, total, &made);
     // One board is neither the first nor the last of several.
     let alone = Sheet::of_scripts(&[&[]], 8).with_room(above);
     assert!(counted(&alone.bytes()).is_empty());
@@ -233,7 +228,7 @@ fn each_counts(all: &[Asked], from: &str, to: &str) {
         );
         made.extend(*names);
     }
-    all_made(from, to, &made);
+    all_made(&ASKED, from, to, &made);
 }
 
 #[test]

@@ -1,9 +1,14 @@
 //! The cases around the second edition and its rooms (document 02, K6) that the
 //! differential test of calls counts, each on a sheet made by hand.
 
+#[path = "common/all_made.rs"]
+mod all_made;
 #[path = "common/in_rooms.rs"]
 mod in_rooms;
+#[path = "common/each_counts.rs"]
+mod orders;
 
+use all_made::all_made;
 use in_rooms::in_rooms;
 use jamturret_host::bench_jobs::{case_6, case_6_in_rooms};
 use jamturret_host::command::found;
@@ -12,6 +17,7 @@ use jamturret_host::desk::{Desk, FILL};
 use jamturret_host::editions::{called, CALLED};
 use jamturret_host::layout::kind::{BUFFERED, READY, STANDARD};
 use jamturret_host::sheet::{Operation, Sheet};
+use orders::Counted;
 
 /// What is counted of a call in such rooms.
 fn counted_in(sheet: &Sheet, call: &Call, change: impl Fn(&mut Desk)) -> Vec<&'static str> {
@@ -22,27 +28,11 @@ fn counted_in(sheet: &Sheet, call: &Call, change: impl Fn(&mut Desk)) -> Vec<&'s
     found(CALLED, called(&bytes, call, &outcome))
 }
 
-/// Sheet, order and what is counted of it.
-type Counted<'a> = (Sheet, &'a [u8], &'a [&'static str]);
-
 /// Each order counts what is said of it and nothing else; the names.
-fn each_counts(all: &[Counted]) -> Vec<&'static str> {
-    for (sheet, order, names) in all {
-        let call = Call::Follow(order.to_vec());
-        assert_eq!(counted_in(sheet, &call, |_| {}), *names, "{order:?}");
-    }
-    all.iter()
-        .flat_map(|(_, _, names)| names.to_vec())
-        .collect()
-}
-
-/// All names of these groups are made.
-fn all_made(from: &str, to: &str, made: &[&str]) {
-    let place = |name| CALLED.iter().position(|other| *other == name);
-    let (first, last) = (place(from).expect("a name"), place(to).expect("a name"));
-    for name in &CALLED[first..=last] {
-        assert!(made.contains(name), "{name}");
-    }
+fn each_counts(all: &[Counted<Sheet>]) -> Vec<&'static str> {
+    orders::each_counts(all, |sheet, order| {
+        counted_in(sheet, &Call::Follow(order.to_vec()), |_| {})
+    })
 }
 
 /// To rank 1, with tag 7.
@@ -135,7 +125,7 @@ fn sends_in_rooms_are_counted() {
         ),
     ]);
     let last = "standard send in a room, a buffer is in use";
-    all_made(BLOCKING, last, &made);
+    all_made(&CALLED, BLOCKING, last, &made);
 }
 
 #[test]
@@ -172,7 +162,7 @@ fn full_rooms_and_empty_messages_are_counted() {
             ],
         ),
     ]);
-    all_made(FILLS, "empty standard send in a full room", &made);
+    all_made(&CALLED, FILLS, "empty standard send in a full room", &made);
 }
 
 #[test]
@@ -226,7 +216,7 @@ fn sends_without_room_are_counted() {
         (two(&[standard(3)], 0), &[1, 0], &[]),
         (two(&[standard(0)], 1), &[1, 0], &[last]),
     ]);
-    all_made(MISSING, last, &made);
+    all_made(&CALLED, MISSING, last, &made);
 }
 
 #[test]
@@ -266,7 +256,7 @@ fn accounts_and_verdicts_are_counted() {
             &[BLOCKING, "verdict 2, a standard message in a room"],
         ),
     ]);
-    all_made(BOTH, STOPPED, &made);
+    all_made(&CALLED, BOTH, STOPPED, &made);
 }
 
 #[test]
@@ -307,7 +297,7 @@ fn waits_queries_and_probes_are_counted() {
             &[BLOCKING, AT_LARGE, told],
         ),
     ]);
-    all_made(waited, told, &made);
+    all_made(&CALLED, waited, told, &made);
 }
 
 #[test]

@@ -6,6 +6,7 @@
 mod two_communicators;
 
 use jamturret::lent::Answer;
+use jamturret_host::command::hex;
 use jamturret_host::compare::{efficient, followed as follow, naive, ran as run, refused, Call};
 use jamturret_host::desk::{Desk, FILL};
 use jamturret_host::layout::kind::{BUFFERED, PROBE, QUERY, READY, STANDARD, SYNCHRONOUS};
@@ -59,12 +60,7 @@ fn whole_report() {
                     03 00 02 00 FF FF FF FF 00 00 00 00 \
                     05 00 FF FF 00 00 07 00 03 00 00 00 \
                     03 00 00 00 00 00 07 00 03 00 00 00";
-    let hex: Vec<String> = ran
-        .report
-        .iter()
-        .map(|byte| format!("{byte:02X}"))
-        .collect();
-    assert_eq!(hex.join(" "), expected);
+    assert_eq!(hex(&ran.report), expected);
     assert_eq!(ran.order(), [0, 1, 1, 0, 1]);
     assert_eq!(ran.inbox[16..20], [1, 2, 3, FILL]);
 }

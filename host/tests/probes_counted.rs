@@ -2,11 +2,16 @@
 //! test of calls counts, each on a sheet made by hand; and the promise
 //! Probe-then-receive, which can fail.
 
+#[path = "common/all_made.rs"]
+mod all_made;
+#[path = "common/each_counts.rs"]
+mod orders;
 #[path = "common/probe_operations.rs"]
 mod probe_operations;
 #[path = "common/two_communicators.rs"]
 mod two_communicators;
 
+use all_made::all_made;
 use jamturret::lent::Answer;
 use jamturret_host::command::found;
 use jamturret_host::compare::{agreed, Call};
@@ -15,6 +20,7 @@ use jamturret_host::layout::kind::{BUFFERED, READY, STANDARD, SYNCHRONOUS};
 use jamturret_host::layout::{Edition, ANY};
 use jamturret_host::probes::{called, probe_then_receive, CALLED};
 use jamturret_host::sheet::Operation;
+use orders::Counted;
 use probe_operations::{probe, queried, receive, send};
 use two_communicators::sheet;
 
@@ -26,26 +32,9 @@ fn counted_call(scripts: &[&[Operation]], order: &[u8]) -> Vec<&'static str> {
     found(CALLED, called(&sheet, &call, &outcome))
 }
 
-/// Scripts, an order and what is counted of it.
-type Counted<'a> = (&'a [&'a [Operation]], &'a [u8], &'a [&'static str]);
-
 /// Each order counts what is said of it and nothing else; the names.
-fn each_counts(all: &[Counted]) -> Vec<&'static str> {
-    for (scripts, order, names) in all {
-        assert_eq!(counted_call(scripts, order), *names, "{order:?}");
-    }
-    all.iter()
-        .flat_map(|(_, _, names)| names.to_vec())
-        .collect()
-}
-
-/// All names of these groups are made.
-fn all_made(from: &str, to: &str, made: &[&str]) {
-    let place = |name| CALLED.iter().position(|other| *other == name);
-    let (first, last) = (place(from).expect("a name"), place(to).expect("a name"));
-    for name in &CALLED[first..=last] {
-        assert!(made.contains(name), "{name}");
-    }
+fn each_counts(all: &[Counted<&[&[Operation]]>]) -> Vec<&'static str> {
+    orders::each_counts(all, |scripts, order| counted_call(scripts, order))
 }
 
 fn to(rank: u16, kind: u8) -> Operation {
@@ -132,7 +121,7 @@ fn told_messages_are_counted() {
             &[before, of_buffered, "probe passes by tag alone"],
         ),
     ]);
-    all_made(before, "two probes tell one message", &made);
+    all_made(&CALLED, before, "two probes tell one message", &made);
 }
 
 /// Rank 2 probes and receives what it was told.
@@ -195,7 +184,7 @@ fn pairs_are_counted() {
         ),
     ]);
     let last = "Probe-then-receive, told in full and cut";
-    all_made("Probe-then-receive, of any source", last, &made);
+    all_made(&CALLED, "Probe-then-receive, of any source", last, &made);
     // No pairs: not yet entered, of another communicator, of any source.
     let any_source = Operation::receive(ANY, 7, 0, 4);
     for (order, receive) in [
@@ -266,7 +255,7 @@ fn queries_are_counted() {
             ],
         ),
     ]);
-    all_made(first, both, &made);
+    all_made(&CALLED, first, both, &made);
 }
 
 #[test]
@@ -308,7 +297,7 @@ fn standing_boards_are_counted() {
     ]);
     // Above, beside what its probes show.
     made.push("verdict 1, one that fits a probe is pending");
-    all_made(first, last, &made);
+    all_made(&CALLED, first, last, &made);
 }
 
 /// A report with a pair, and the same with a byte changed.

@@ -8,6 +8,7 @@ mod in_rooms;
 use in_rooms::in_rooms;
 use jamturret::lent::Answer;
 use jamturret_host::bench_jobs::{case_6, case_6_in_rooms};
+use jamturret_host::command::hex;
 use jamturret_host::compare::{self, agreed, Call};
 use jamturret_host::desk::{Desk, FILL};
 use jamturret_host::layout::board_row::{IN_USE, PEAK, STANDARD_PEAK, STANDARD_USE};
@@ -75,12 +76,7 @@ fn whole_report() {
                     03 00 02 00 01 00 00 00 03 00 00 00 \
                     03 00 01 00 FF FF FF FF 00 00 00 00 \
                     03 00 00 00 00 00 00 00 03 00 00 00";
-    let hex: Vec<String> = ran
-        .report
-        .iter()
-        .map(|byte| format!("{byte:02X}"))
-        .collect();
-    assert_eq!(hex.join(" "), expected);
+    assert_eq!(hex(&ran.report), expected);
     assert_eq!(ran.order(), [0, 0, 0, 1, 0, 1, 1, 1]);
     assert_eq!(ran.inbox[16..20], [1, 2, 3, FILL]);
 

@@ -3,6 +3,7 @@
 --   calm-sheet-accepted  a calm sheet is accepted, with place 0
 --   premise-most         24 at the most
 --   premise-of-check     a refusal of check is the answer
+--   behind-sources, behind-modes, behind-covers   the numbers behind 20, 21 and 22
 -- Assumes nothing.
 use mathlib.Core.Path.{_≡_, ap, _∙_}
 use mathlib.Core.Bool.{Bool, true, not}
@@ -27,13 +28,13 @@ passed-each : (n : ℕ) (f : ℕ → Bool) (total : ℕ) → 1 ≤ n → first-b
 passed-each n f total h e j l = broken-passed n f total 0 (λ z. absurd (omega arith)) e j (omega arith) (omega arith)
 
 -- the numbers behind 20, 21 and 22
-abbrev behind-covers : Sheet → Refusal
+abbrev pub behind-covers : Sheet → Refusal
 behind-covers s = or-else (query-refusal s) (rooms-refusal s)
 
-abbrev behind-modes : Sheet → Refusal
+abbrev pub behind-modes : Sheet → Refusal
 behind-modes s = or-else (cover-refusal s) (behind-covers s)
 
-abbrev behind-sources : Sheet → Refusal
+abbrev pub behind-sources : Sheet → Refusal
 behind-sources s = or-else (ready-refusal s) (behind-modes s)
 
 module _ (s : Sheet) where

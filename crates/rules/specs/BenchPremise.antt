@@ -23,6 +23,13 @@ answered (asked d n p) =
     let f = premise-refusal (draft-bytes d) in
     eqb (f .number) n && eqb (f .place) p
 
+-- rank 0 sends 2 and 3 bytes, and rank 1 a byte, in standard mode; a room for each (document 02, K6)
+unfoldable pub standard-sheet : (crc room-0 room-1 : ℕ) → Draft
+standard-sheet k a b =
+    draft-2 1 k (11 ∷ 12 ∷ 13 ∷ 14 ∷ 15 ∷ [])
+    (roomed 0 1 a (send standard 1 0 4 0 2 ∷ isend standard 1 0 4 2 3 0 ∷ wait 0 ∷ receive 1 0 4 0 1 ∷ [])
+    ∷ roomed 0 5 b (receive 0 0 any 0 3 ∷ receive 0 0 4 3 2 ∷ send standard 0 0 4 0 1 ∷ []) ∷ [])
+
 unfoldable pub questions : List Question
 questions =
     -- 20 at the first operation, and at a later one: the first of two any-source receives
@@ -92,27 +99,11 @@ questions =
     ∷ asked (draft 1 0xaad3 [] (script 0 0 (ireceive 0 0 1 0 0 0 ∷ query 0 ∷ send ready 0 0 1 0 0 ∷ wait 0 ∷ []) ∷ [])) 21 2
     -- two standard sends of 2 and 3 bytes (document 02, K6): a room of 5 covers them, as one of 0 does nothing and need not; with 4, which
     -- holds either alone, 24 at rank 0
-    ∷ asked
-    (draft-2 1 0xed81 (11 ∷ 12 ∷ 13 ∷ 14 ∷ 15 ∷ [])
-    (roomed 0 1 5 (send standard 1 0 4 0 2 ∷ isend standard 1 0 4 2 3 0 ∷ wait 0 ∷ receive 1 0 4 0 1 ∷ [])
-    ∷ roomed 0 5 0 (receive 0 0 any 0 3 ∷ receive 0 0 4 3 2 ∷ send standard 0 0 4 0 1 ∷ []) ∷ []))
-    0 0
-    ∷ asked
-    (draft-2 1 0x0096 (11 ∷ 12 ∷ 13 ∷ 14 ∷ 15 ∷ [])
-    (roomed 0 1 0 (send standard 1 0 4 0 2 ∷ isend standard 1 0 4 2 3 0 ∷ wait 0 ∷ receive 1 0 4 0 1 ∷ [])
-    ∷ roomed 0 5 0 (receive 0 0 any 0 3 ∷ receive 0 0 4 3 2 ∷ send standard 0 0 4 0 1 ∷ []) ∷ []))
-    0 0
-    ∷ asked
-    (draft-2 1 0xdb7a (11 ∷ 12 ∷ 13 ∷ 14 ∷ 15 ∷ [])
-    (roomed 0 1 4 (send standard 1 0 4 0 2 ∷ isend standard 1 0 4 2 3 0 ∷ wait 0 ∷ receive 1 0 4 0 1 ∷ [])
-    ∷ roomed 0 5 0 (receive 0 0 any 0 3 ∷ receive 0 0 4 3 2 ∷ send standard 0 0 4 0 1 ∷ []) ∷ []))
-    24 0
+    ∷ asked (standard-sheet 0xed81 5 0) 0 0
+    ∷ asked (standard-sheet 0x0096 0 0) 0 0
+    ∷ asked (standard-sheet 0xdb7a 4 0) 24 0
     -- each board covers its own sends; a room of a board without standard sends covers nothing and need not; with a byte less at rank 1, 24 there
-    ∷ asked
-    (draft-2 1 0x3fcd (11 ∷ 12 ∷ 13 ∷ 14 ∷ 15 ∷ [])
-    (roomed 0 1 5 (send standard 1 0 4 0 2 ∷ isend standard 1 0 4 2 3 0 ∷ wait 0 ∷ receive 1 0 4 0 1 ∷ [])
-    ∷ roomed 0 5 1 (receive 0 0 any 0 3 ∷ receive 0 0 4 3 2 ∷ send standard 0 0 4 0 1 ∷ []) ∷ []))
-    0 0
+    ∷ asked (standard-sheet 0x3fcd 5 1) 0 0
     ∷ asked
     (draft-2 1 0xf3fd (11 ∷ 12 ∷ 13 ∷ 14 ∷ 15 ∷ [])
     (roomed 0 0 5 (send standard 1 0 4 0 2 ∷ isend standard 1 0 4 2 3 0 ∷ wait 0 ∷ [])
@@ -146,5 +137,5 @@ questions =
     ∷ asked (draft 1 0xe5b1 [] (script 0 0 [] ∷ [])) 0 0 ∷ []
 
 pub questions-answered : all answered questions ≡ true
-unfolding answered questions definitions
+unfolding answered standard-sheet questions definitions
 questions-answered = refl

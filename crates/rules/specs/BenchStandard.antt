@@ -6,16 +6,20 @@
 --   row-2 operations-finished in-use peak state room-in-use room-peak, of a board
 -- Assumes nothing.
 use mathlib.Core.List.{List, [], _∷_}
+use Prim.Native.Nat.{ℕ}
 use Rattle.rules.specs.BenchJob.{standard, buffered, synchronous, send, isend, receive, ireceive, wait, query}
 use Rattle.rules.specs.BenchJob.{roomed, Draft, draft-2, runs, follows, still-able, finished, deadlock, overflow}
 use Rattle.rules.specs.BenchJob.{_meets_, row-2, said, _becomes_, pending, cut, told, BenchJob, bench, bench-whole, bench-finds}
 
--- the sheet of job 6 with rooms that hold each message exactly
+-- the sheet of job 6 with a room for each rank; each message has 2 bytes
+unfoldable pub both-send-first : (crc room-0 room-1 : ℕ) → Draft
+both-send-first k a b =
+    draft-2 1 k (11 ∷ 12 ∷ 13 ∷ 14 ∷ [])
+    (roomed 0 2 a (send standard 1 0 5 0 2 ∷ receive 1 0 5 0 2 ∷ [])
+    ∷ roomed 0 2 b (send standard 0 0 5 2 2 ∷ receive 0 0 5 0 2 ∷ []) ∷ [])
+
 unfoldable pub both-rooms-sheet : Draft
-both-rooms-sheet =
-    draft-2 1 0xc8c5 (11 ∷ 12 ∷ 13 ∷ 14 ∷ [])
-    (roomed 0 2 2 (send standard 1 0 5 0 2 ∷ receive 1 0 5 0 2 ∷ [])
-    ∷ roomed 0 2 2 (send standard 0 0 5 2 2 ∷ receive 0 0 5 0 2 ∷ []) ∷ [])
+both-rooms-sheet = both-send-first 0xc8c5 2 2
 
 -- rank 0 sends 2 and 3 bytes, which its room holds one at a time, and then receives; rank 1 receives the first, sends
 -- synchronously and then receives the second
@@ -24,6 +28,13 @@ some-covered-sheet =
     draft-2 1 0x8439 (11 ∷ 12 ∷ 13 ∷ 14 ∷ 15 ∷ 16 ∷ [])
     (roomed 0 1 4 (send standard 1 0 4 0 2 ∷ send standard 1 0 4 2 3 ∷ receive 1 0 5 0 1 ∷ [])
     ∷ roomed 0 5 0 (receive 0 0 4 0 2 ∷ send synchronous 0 0 5 5 1 ∷ receive 0 0 4 2 3 ∷ []) ∷ [])
+
+-- rank 0's buffered send fills its attached buffer, 2 + 32, and its standard one its room, 3
+unfoldable pub two-accounts-sheet : Draft
+two-accounts-sheet =
+    draft-2 1 0x000e (11 ∷ 12 ∷ 13 ∷ 14 ∷ 15 ∷ [])
+    (roomed 34 0 3 (send buffered 1 0 1 0 2 ∷ send standard 1 0 2 2 3 ∷ [])
+    ∷ roomed 0 5 0 (receive 0 0 1 0 2 ∷ receive 0 0 2 2 3 ∷ []) ∷ [])
 
 unfoldable pub room-jobs : List BenchJob
 room-jobs =
@@ -54,9 +65,7 @@ room-jobs =
     ((90 ∷ 91 ∷ 92 ∷ 93 ∷ []) becomes (13 ∷ 14 ∷ 11 ∷ 12 ∷ []))
     -- 6, rooms 0: deadlock, as in the first edition, in wider rows
     ∷ bench-whole
-    (draft-2 1 0x9de7 (11 ∷ 12 ∷ 13 ∷ 14 ∷ [])
-    (roomed 0 2 0 (send standard 1 0 5 0 2 ∷ receive 1 0 5 0 2 ∷ [])
-    ∷ roomed 0 2 0 (send standard 0 0 5 2 2 ∷ receive 0 0 5 0 2 ∷ []) ∷ []))
+    (both-send-first 0x9de7 0 0)
     (runs (0 ∷ 1 ∷ []))
     (told deadlock 2 [] (pending 2 0) (cut 0) (row-2 0 0 0 0 0 0 ∷ row-2 0 0 0 0 0 0 ∷ []))
     ((90 ∷ 91 ∷ 92 ∷ 93 ∷ []) becomes (90 ∷ 91 ∷ 92 ∷ 93 ∷ []))
@@ -69,17 +78,19 @@ room-jobs =
     ∷ 0x00 ∷ 0x00 ∷ 0xff ∷ 0xff ∷ 0xff ∷ 0xff ∷ 0xff ∷ 0xff ∷ 0x00 ∷ 0x00 ∷ 0x00 ∷ 0x00 ∷ [])
     -- 6, both rooms a byte short: deadlock
     ∷ bench
-    (draft-2 1 0xb776 (11 ∷ 12 ∷ 13 ∷ 14 ∷ [])
-    (roomed 0 2 1 (send standard 1 0 5 0 2 ∷ receive 1 0 5 0 2 ∷ [])
-    ∷ roomed 0 2 1 (send standard 0 0 5 2 2 ∷ receive 0 0 5 0 2 ∷ []) ∷ []))
+    (both-send-first 0xb776 1 1)
     (runs (0 ∷ 1 ∷ []))
     (told deadlock 2 [] (pending 2 0) (cut 0) (row-2 0 0 0 0 0 0 ∷ row-2 0 0 0 0 0 0 ∷ []))
     ((90 ∷ 91 ∷ 92 ∷ 93 ∷ []) becomes (90 ∷ 91 ∷ 92 ∷ 93 ∷ []))
-    -- 6, one room a byte short: finished. Rank 1 goes on to its receive, which takes rank 0's message
+    -- 6, one room 0 and the other a byte short: deadlock
     ∷ bench
-    (draft-2 1 0x299c (11 ∷ 12 ∷ 13 ∷ 14 ∷ [])
-    (roomed 0 2 1 (send standard 1 0 5 0 2 ∷ receive 1 0 5 0 2 ∷ [])
-    ∷ roomed 0 2 2 (send standard 0 0 5 2 2 ∷ receive 0 0 5 0 2 ∷ []) ∷ []))
+    (both-send-first 0xe841 0 1)
+    (runs (0 ∷ 1 ∷ []))
+    (told deadlock 2 [] (pending 2 0) (cut 0) (row-2 0 0 0 0 0 0 ∷ row-2 0 0 0 0 0 0 ∷ []))
+    ((90 ∷ 91 ∷ 92 ∷ 93 ∷ []) becomes (90 ∷ 91 ∷ 92 ∷ 93 ∷ []))
+    -- 6, one room a byte short, the other covers: finished. Rank 1 goes on to its receive, which takes rank 0's message
+    ∷ bench
+    (both-send-first 0x299c 1 2)
     (runs (0 ∷ 1 ∷ 1 ∷ 1 ∷ 0 ∷ 0 ∷ 0 ∷ 1 ∷ []))
     (told finished 8 (0 meets 3 ∷ 2 meets 1 ∷ []) (pending 0 0) (cut 0) (row-2 2 0 0 2 0 0 ∷ row-2 2 0 0 2 0 2 ∷ []))
     ((90 ∷ 91 ∷ 92 ∷ 93 ∷ []) becomes (13 ∷ 14 ∷ 11 ∷ 12 ∷ []))
@@ -131,25 +142,19 @@ room-jobs =
     ((90 ∷ 91 ∷ 92 ∷ []) becomes (13 ∷ 14 ∷ 15 ∷ []))
     -- Two accounts: a buffered message fills the attached buffer, 2 + 32, and a standard one the room, 3
     ∷ bench
-    (draft-2 1 0x000e (11 ∷ 12 ∷ 13 ∷ 14 ∷ 15 ∷ [])
-    (roomed 34 0 3 (send buffered 1 0 1 0 2 ∷ send standard 1 0 2 2 3 ∷ [])
-    ∷ roomed 0 5 0 (receive 0 0 1 0 2 ∷ receive 0 0 2 2 3 ∷ []) ∷ []))
+    two-accounts-sheet
     (follows (0 ∷ 0 ∷ 0 ∷ 0 ∷ []))
     (told still-able 4 [] (pending 2 0) (cut 0) (row-2 2 34 34 2 3 3 ∷ row-2 0 0 0 1 0 0 ∷ []))
     ((90 ∷ 91 ∷ 92 ∷ 93 ∷ 94 ∷ []) becomes (90 ∷ 91 ∷ 92 ∷ 93 ∷ 94 ∷ []))
     -- the first is received: its charge goes from its own account
     ∷ bench
-    (draft-2 1 0x000e (11 ∷ 12 ∷ 13 ∷ 14 ∷ 15 ∷ [])
-    (roomed 34 0 3 (send buffered 1 0 1 0 2 ∷ send standard 1 0 2 2 3 ∷ [])
-    ∷ roomed 0 5 0 (receive 0 0 1 0 2 ∷ receive 0 0 2 2 3 ∷ []) ∷ []))
+    two-accounts-sheet
     (follows (0 ∷ 0 ∷ 0 ∷ 0 ∷ 1 ∷ 1 ∷ []))
     (told still-able 6 (0 meets 2 ∷ []) (pending 1 0) (cut 0) (row-2 2 0 34 2 3 3 ∷ row-2 1 0 0 1 0 0 ∷ []))
     ((90 ∷ 91 ∷ 92 ∷ 93 ∷ 94 ∷ []) becomes (11 ∷ 12 ∷ 92 ∷ 93 ∷ 94 ∷ []))
     -- both are
     ∷ bench
-    (draft-2 1 0x000e (11 ∷ 12 ∷ 13 ∷ 14 ∷ 15 ∷ [])
-    (roomed 34 0 3 (send buffered 1 0 1 0 2 ∷ send standard 1 0 2 2 3 ∷ [])
-    ∷ roomed 0 5 0 (receive 0 0 1 0 2 ∷ receive 0 0 2 2 3 ∷ []) ∷ []))
+    two-accounts-sheet
     (follows (0 ∷ 0 ∷ 0 ∷ 0 ∷ 1 ∷ 1 ∷ 1 ∷ 1 ∷ []))
     (told finished 8 (0 meets 2 ∷ 1 meets 3 ∷ []) (pending 0 0) (cut 0) (row-2 2 0 34 2 0 3 ∷ row-2 2 0 0 2 0 0 ∷ []))
     ((90 ∷ 91 ∷ 92 ∷ 93 ∷ 94 ∷ []) becomes (11 ∷ 12 ∷ 13 ∷ 14 ∷ 15 ∷ []))

@@ -72,7 +72,8 @@ unfolding
     BenchFurther.further-jobs
     BenchProbes.probe-sheet BenchProbes.probe-buffered-sheet BenchProbes.any-probe-sheet BenchProbes.query-sheet
     BenchProbes.query-receive-sheet BenchProbes.stopped-sheet BenchProbes.hanging-sheet BenchProbes.probe-jobs
-    BenchStandard.both-rooms-sheet BenchStandard.some-covered-sheet BenchStandard.room-jobs
+    BenchStandard.both-send-first BenchStandard.both-rooms-sheet BenchStandard.some-covered-sheet
+    BenchStandard.two-accounts-sheet BenchStandard.room-jobs
     BenchRefusal.altered BenchRefusal.header-only BenchRefusal.plain BenchRefusal.of-rank-1 BenchRefusal.of-each
     BenchRefusal.is-answer BenchRefusal.as-answered
     BenchRefused.bench-calls

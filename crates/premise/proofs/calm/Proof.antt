@@ -2,10 +2,10 @@
 -- accepts, the answer is that of the numbers that are left. Assumes nothing.
 use Prim.Native.Nat.{ℕ}
 use Rattle.rules.specs.Sheet.{Sheet, sheet-in}
-use Rattle.rules.specs.Refusal.{Refusal, or-else}
 use Rattle.rules.specs.Service.{answers}
 use Rattle.rules.specs.Premise.{any-source-refusal, ready-refusal, cover-refusal, query-refusal, rooms-refusal, calm-refusal}
 use Rattle.laws.specs.Answers.{or-else-told, or-else-next}
+use Rattle.laws.specs.Premise.{behind-sources, behind-modes, behind-covers}
 use borrow.Author.Needs.{needs}
 use Rattle.premise.proofs.calm.Statement.{statement}
 use Rattle.premise.proofs.calm.Tie as tie
@@ -13,38 +13,28 @@ use Rattle.premise.proofs.calm.Tie as tie
 abbrev sheet : tie.Start → Sheet
 sheet z = sheet-in (z .args .s .now)
 
--- the numbers behind 22, 21 and 20
-abbrev behind-cover : Sheet → Refusal
-behind-cover s = or-else (query-refusal s) (rooms-refusal s)
-
-abbrev behind-mode : Sheet → Refusal
-behind-mode s = or-else (cover-refusal s) (behind-cover s)
-
-abbrev behind-source : Sheet → Refusal
-behind-source s = or-else (ready-refusal s) (behind-mode s)
-
-past-source : (c : tie.Else1) (m q : ℕ) → answers (behind-source (sheet (c .before .before .before .before))) m q → answers (calm-refusal (sheet (c .before .before .before .before))) m q
+past-source : (c : tie.Else1) (m q : ℕ) → answers (behind-sources (sheet (c .before .before .before .before))) m q → answers (calm-refusal (sheet (c .before .before .before .before))) m q
 unfolding calm-refusal any-source-refusal
 past-source c m q t =
     let s = sheet (c .before .before .before .before) in
     let said = c .before .before .refusal in
-    or-else-next (any-source-refusal s) (behind-source s) (said .result .number) (said .result .place) (said .ensures) (c .if1 .left) m q t
+    or-else-next (any-source-refusal s) (behind-sources s) (said .result .number) (said .result .place) (said .ensures) (c .if1 .left) m q t
 
-past-mode : (c : tie.Else2) (m q : ℕ) → answers (behind-mode (sheet (c .before .before .before .before .before .before .before))) m q → answers (calm-refusal (sheet (c .before .before .before .before .before .before .before))) m q
+past-mode : (c : tie.Else2) (m q : ℕ) → answers (behind-modes (sheet (c .before .before .before .before .before .before .before))) m q → answers (calm-refusal (sheet (c .before .before .before .before .before .before .before))) m q
 unfolding ready-refusal
 past-mode c m q t =
     let s = sheet (c .before .before .before .before .before .before .before) in
     let said = c .before .before .refusal2 in
     past-source (c .before .before .before) m q
-    (or-else-next (ready-refusal s) (behind-mode s) (said .result .number) (said .result .place) (said .ensures) (c .if2 .left) m q t)
+    (or-else-next (ready-refusal s) (behind-modes s) (said .result .number) (said .result .place) (said .ensures) (c .if2 .left) m q t)
 
-past-cover : (c : tie.Else3) (m q : ℕ) → answers (behind-cover (sheet (c .before .before .before .before .before .before .before .before .before .before))) m q → answers (calm-refusal (sheet (c .before .before .before .before .before .before .before .before .before .before))) m q
+past-cover : (c : tie.Else3) (m q : ℕ) → answers (behind-covers (sheet (c .before .before .before .before .before .before .before .before .before .before))) m q → answers (calm-refusal (sheet (c .before .before .before .before .before .before .before .before .before .before))) m q
 unfolding cover-refusal
 past-cover c m q t =
     let s = sheet (c .before .before .before .before .before .before .before .before .before .before) in
     let said = c .before .before .refusal3 in
     past-mode (c .before .before .before) m q
-    (or-else-next (cover-refusal s) (behind-cover s) (said .result .number) (said .result .place) (said .ensures) (c .if3 .left) m q t)
+    (or-else-next (cover-refusal s) (behind-covers s) (said .result .number) (said .result .place) (said .ensures) (c .if3 .left) m q t)
 
 past-query : (c : tie.Else4) (m q : ℕ) → answers (rooms-refusal (sheet (c .before .before .before .before .before .before .before .before .before .before .before .before .before))) m q → answers (calm-refusal (sheet (c .before .before .before .before .before .before .before .before .before .before .before .before .before))) m q
 unfolding query-refusal
@@ -59,7 +49,7 @@ unfolding calm-refusal any-source-refusal
 returns c =
     let s = sheet (c .before .before .before .before) in
     let said = c .before .before .refusal in
-    or-else-told (any-source-refusal s) (behind-source s) (said .result .number) (said .result .place) (said .ensures) (c .if1 .taken)
+    or-else-told (any-source-refusal s) (behind-sources s) (said .result .number) (said .result .place) (said .ensures) (c .if1 .taken)
 
 returns-2 : tie.Need-returns-2
 unfolding ready-refusal
@@ -67,7 +57,7 @@ returns-2 c =
     let s = sheet (c .before .before .before .before .before .before .before) in
     let said = c .before .before .refusal2 in
     past-source (c .before .before .before) (said .result .number) (said .result .place)
-    (or-else-told (ready-refusal s) (behind-mode s) (said .result .number) (said .result .place) (said .ensures) (c .if2 .taken))
+    (or-else-told (ready-refusal s) (behind-modes s) (said .result .number) (said .result .place) (said .ensures) (c .if2 .taken))
 
 returns-3 : tie.Need-returns-3
 unfolding cover-refusal
@@ -75,7 +65,7 @@ returns-3 c =
     let s = sheet (c .before .before .before .before .before .before .before .before .before .before) in
     let said = c .before .before .refusal3 in
     past-mode (c .before .before .before) (said .result .number) (said .result .place)
-    (or-else-told (cover-refusal s) (behind-cover s) (said .result .number) (said .result .place) (said .ensures) (c .if3 .taken))
+    (or-else-told (cover-refusal s) (behind-covers s) (said .result .number) (said .result .place) (said .ensures) (c .if3 .taken))
 
 returns-4 : tie.Need-returns-4
 unfolding query-refusal

@@ -1,34 +1,28 @@
 -- `sheet::stores::size` meets its contract: the figure of the store that is named. Assumes nothing.
-use mathlib.Core.Path.{sym, _∙_, ap}
-use Rattle.rules.specs.Sheet.{board, sheet-in}
+use mathlib.Core.Path.{_≡_, sym, subst}
+use Prim.Native.Nat.{ℕ}
+use Rattle.rules.specs.Sheet.{Board, board, sheet-in}
 use Rattle.rules.specs.Step.{size-of}
 use Rattle.account.specs.declared.Store.{Store}
 use Rattle.account.specs.Stores.{stands-for}
+use Rattle.words.specs.Read.{Word}
 use borrow.Author.Needs.{needs}
 use Rattle.sheet.proofs.stores.size.Statement.{statement}
 use Rattle.sheet.proofs.stores.size.Tie as tie
 
+named : (b : Board) {w v : Store} {n : ℕ} → w ≡ v → Word (size-of (stands-for v) b) n → Word (size-of (stands-for w) b) n
+named b {w} {v} {n} e h = subst (λ (z : Store). Word (size-of (stands-for z) b) n) (sym e) h
+
+abbrev its-board : tie.Start → Board
+its-board z = board (sheet-in (z .args .s .now)) (z .args .r)
+
 returns : tie.Need-returns
 unfolding size-of stands-for
-returns c =
-    let a = c .before .before .before .before .args in
-    record {
-      is =
-          c .attached .ensures .is
-          ∙ ap (λ (w : Store). size-of (stands-for w) (board (sheet-in (a .s .now)) (a .r))) (sym (c .before .enum-told .given .1));
-      small = c .attached .ensures .small;
-    }
+returns c = named (its-board (c .before .before .before .before)) (c .before .enum-told .given .1) (c .attached .ensures)
 
 returns-2 : tie.Need-returns-2
 unfolding size-of stands-for
-returns-2 c =
-    let a = c .before .before .before .before .args in
-    record {
-      is =
-          c .room .ensures .is
-          ∙ ap (λ (w : Store). size-of (stands-for w) (board (sheet-in (a .s .now)) (a .r))) (sym (c .before .enum-told2 .given .1));
-      small = c .room .ensures .small;
-    }
+returns-2 c = named (its-board (c .before .before .before .before)) (c .before .enum-told2 .given .1) (c .room .ensures)
 
 pub size-spec : {M : Type 1} → statement M
 size-spec =
