@@ -3,12 +3,13 @@
 
 #[path = "common/all_made.rs"]
 mod all_made;
+#[path = "common/each_counts.rs"]
+mod each_counts;
 #[path = "common/in_rooms.rs"]
 mod in_rooms;
-#[path = "common/each_counts.rs"]
-mod orders;
 
 use all_made::all_made;
+use each_counts::Counted;
 use in_rooms::in_rooms;
 use jamturret_host::bench_jobs::{case_6, case_6_in_rooms};
 use jamturret_host::command::found;
@@ -17,7 +18,6 @@ use jamturret_host::desk::{Desk, FILL};
 use jamturret_host::editions::{called, CALLED};
 use jamturret_host::layout::kind::{BUFFERED, READY, STANDARD};
 use jamturret_host::sheet::{Operation, Sheet};
-use orders::Counted;
 
 /// What is counted of a call in such rooms.
 fn counted_in(sheet: &Sheet, call: &Call, change: impl Fn(&mut Desk)) -> Vec<&'static str> {
@@ -30,7 +30,7 @@ fn counted_in(sheet: &Sheet, call: &Call, change: impl Fn(&mut Desk)) -> Vec<&'s
 
 /// Each order counts what is said of it and nothing else; the names.
 fn each_counts(all: &[Counted<Sheet>]) -> Vec<&'static str> {
-    orders::each_counts(all, |sheet, order| {
+    each_counts::each_counts(all, |sheet, order| {
         counted_in(sheet, &Call::Follow(order.to_vec()), |_| {})
     })
 }

@@ -5,13 +5,14 @@
 #[path = "common/all_made.rs"]
 mod all_made;
 #[path = "common/each_counts.rs"]
-mod orders;
+mod each_counts;
 #[path = "common/probe_operations.rs"]
 mod probe_operations;
 #[path = "common/two_communicators.rs"]
 mod two_communicators;
 
 use all_made::all_made;
+use each_counts::Counted;
 use jamturret::lent::Answer;
 use jamturret_host::command::found;
 use jamturret_host::compare::{agreed, Call};
@@ -20,7 +21,6 @@ use jamturret_host::layout::kind::{BUFFERED, READY, STANDARD, SYNCHRONOUS};
 use jamturret_host::layout::{Edition, ANY};
 use jamturret_host::probes::{called, probe_then_receive, CALLED};
 use jamturret_host::sheet::Operation;
-use orders::Counted;
 use probe_operations::{probe, queried, receive, send};
 use two_communicators::sheet;
 
@@ -34,7 +34,7 @@ fn counted_call(scripts: &[&[Operation]], order: &[u8]) -> Vec<&'static str> {
 
 /// Each order counts what is said of it and nothing else; the names.
 fn each_counts(all: &[Counted<&[&[Operation]]>]) -> Vec<&'static str> {
-    orders::each_counts(all, |scripts, order| counted_call(scripts, order))
+    each_counts::each_counts(all, |scripts, order| counted_call(scripts, order))
 }
 
 fn to(rank: u16, kind: u8) -> Operation {

@@ -31,7 +31,7 @@ use Rattle.laws.specs.Tests.{cond-false}
 use Rattle.laws.specs.Broken.{or-else-stopped}
 use Rattle.invariant.specs.step.LowestAble.{next-able}
 use Rattle.promises.specs.Statements.{told-by, Exact, Verdicts}
-use Rattle.promises.specs.ServiceStatements.{Follow-call, Run-call, told-in, Left-alike, Follow-reports}
+use Rattle.promises.specs.ServiceStatements.{Follow-call, Run-call, Left-alike, Follow-reports}
 use Rattle.promises.specs.ServiceStatements.{Run-reports, Run-replayed, Follow-by-arrival, Follows-alike, Run-alike, Follow-swaps}
 use Rattle.promises.specs.EditionStatements.{Follow-editions}
 use Rattle.promises.specs.Theorems.{verdicts, follow-reports, run-reports, run-replayed, follow-by-arrival, follows-alike, run-alike, follow-swaps, follow-editions}

@@ -6,10 +6,10 @@ use mathlib.Core.Path.{_≡_, refl, sym, _∙_, ap, ap₂}
 use mathlib.Core.List.{List, [], _∷_, _++_}
 use Prim.Native.Nat.{ℕ, _<_}
 use native.Mathlib.Omega.{arith}
-use lib.ListN.{length, getD, take}
+use lib.ListN.{length, take}
 use lib.Seq.{getD-take}
 use Rattle.rules.specs.Limits.{report-size}
-use Rattle.rules.specs.Sheet.{two, second-in, sheet-in, P-of, N-of}
+use Rattle.rules.specs.Sheet.{second-in, sheet-in, P-of, N-of}
 use Rattle.rules.specs.Refusal.{sheet-refusal}
 use Rattle.rules.specs.Service.{answers}
 use Rattle.rules.specs.Premise.{Premise-says}

@@ -1,7 +1,7 @@
 // What the judge prints and what it tells, laid out in lent rooms.
 ghost use mathlib.Core.Path.{_≡_};
 ghost use mathlib.Core.List.{_++_, _∷_, []};
-ghost use Prim.Native.Nat.{_<_, _≤_};
+ghost use Prim.Native.Nat.{_<_};
 ghost use lib.ListN.{length};
 ghost use Rattle.judge.specs.Printed.{most-report, line-size, told-size, refusal-line, report-line, header-numbers, facts-line, printed, told as Printed·told};
 ghost use Rattle.judge.specs.Calls.{Ran, Reported, Lines};

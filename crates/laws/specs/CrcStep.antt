@@ -1,12 +1,11 @@
--- A byte of the CRC by exclusive or alone, as document 03 writes it (`shift-by-xor`, `crc-byte-by-xor`); and by a table of
--- remainders: eight shifts of a sum are the sum of eight shifts, so the high byte goes through the table and the low byte moves up.
--- Assumes nothing.
+-- A byte of the CRC by a table of remainders: eight shifts of a sum are the sum of eight shifts, so the high byte goes through
+-- the table and the low byte moves up. Assumes nothing.
 use mathlib.Core.Path.{_≡_, refl, sym, _∙_, ap, ap₂, subst}
 use mathlib.Core.Bool.{Bool, true, false, cond}
 use mathlib.Core.List.{List, [], _∷_, _++_}
 use Prim.Native.Nat.{ℕ, zero, suc, _+_, _*_, _/_, _%_, _^_, _<_, _≤_}
 use native.Mathlib.Omega.{arith}
-use lib.Bits.{bitXor, xor-shr, xor-mod, xor-block, xor-shifted, xor-zero-r}
+use lib.Bits.{bitXor, xor-shr, xor-mod, xor-shifted}
 use lib.Pow.{pow-pos}
 use lib.ListN.{length, getD, drop}
 use lib.Seq.{drop-cons}
@@ -15,15 +14,10 @@ use native.Mathlib.Nat.{mul-le-mul-left}
 use lib.Dec.{leb}
 use borrow.Author.Tests.{leb-true, leb-false}
 use Rattle.rules.specs.Crc.{xor, shift, shifts, crc-byte, crc-from}
-use Rattle.laws.specs.Flip.{polynomial-in}
+use Rattle.laws.specs.CrcByXor.{shift-by-xor}
 use Rattle.laws.specs.Xor.{xor-parts, xor-is, xor-zero, xor-comm, xor-swap, xor-bound}
 
--- one shift, the polynomial as a number
-pub shift-by-xor : (c : ℕ) → shift c ≡ cond (leb 32768 c) (xor 16 (2 * c % 65536) 0x1021) (2 * c % 65536)
-unfolding shift
-shift-by-xor c = ap (λ (n : ℕ). cond (leb 32768 c) n (2 * c % 65536)) (polynomial-in (2 * c % 65536) (omega arith))
-
--- and without the test
+-- one shift, without the test
 shift-is : (c : ℕ) → c < 65536 → shift c ≡ xor 16 (2 * c % 65536) (4129 * (c / 32768))
 shift-is c h = shift-by-xor c ∙ go (leb 32768 c) refl
   where
@@ -120,33 +114,18 @@ shifts-up (suc k) c h =
 abbrev pub remainder : (k : ℕ) → ℕ
 remainder k = shifts 8 (256 * k)
 
--- a byte that enters at the high end
-entered : (c b : ℕ) → b < 256 → c < 65536 → 256 * xor 8 (c / 256) b + c % 256 ≡ bitXor (c / 256) b * 256 + c % 256
-entered c b l h = let e = xor-is 8 (c / 256) b (omega arith) l in omega arith
-
--- a byte of the CRC by exclusive or alone
-pub crc-byte-by-xor : (c b : ℕ) → c < 65536 → b < 256 → crc-byte c b ≡ shifts 8 (xor 16 c (256 * b))
-unfolding crc-byte
-crc-byte-by-xor c b h l =
-    let hi : ℕ = c / 256 in
-    let lo : ℕ = c % 256 in
-    let split : hi * 256 + lo ≡ c = omega arith in
-    let wide : b * 256 + 0 ≡ 256 * b = omega arith in
-    ap (λ (n : ℕ). shifts 8 n)
-    (entered c b l h
-    ∙ (ap (λ (n : ℕ). bitXor hi b * 256 + n) (sym (xor-zero-r lo))
-    ∙ (sym (xor-block 8 hi b lo 0 (omega arith) (omega arith)) ∙ (ap₂ bitXor split wide ∙ xor-is 16 c (256 * b) h (omega arith)))))
-
 pub crc-byte-by-table : (c b : ℕ) → c < 65536 → b < 256 → crc-byte c b ≡ bitXor (c % 256 * 256) (remainder (bitXor (c / 256) b))
 unfolding crc-byte
 crc-byte-by-table c b h l =
     let hi : ℕ = c / 256 in
     let lo : ℕ = c % 256 in
     let k : ℕ = bitXor hi b in
-    let kb : k < 256 = subst (λ (n : ℕ). n < 256) (sym (xor-is 8 hi b (omega arith) l)) (xor-bound 8 hi b) in
+    let bits : k ≡ xor 8 hi b = xor-is 8 hi b (omega arith) l in
+    let kb : k < 256 = subst (λ (n : ℕ). n < 256) (sym bits) (xor-bound 8 hi b) in
+    let mixed : 256 * xor 8 hi b + lo ≡ k * 256 + lo = omega arith in
     let apart : k * 256 + lo ≡ xor 16 (256 * k) lo =
     sym (xor-shifted k 8 lo (omega arith)) ∙ (xor-is 16 (k * 256) lo (omega arith) (omega arith) ∙ ap (λ (n : ℕ). xor 16 n lo) (omega arith)) in
-    ap (λ (n : ℕ). shifts 8 n) (entered c b l h ∙ apart)
+    ap (λ (n : ℕ). shifts 8 n) (mixed ∙ apart)
     ∙ (shifts-sum 8 (256 * k) lo (omega arith) (omega arith)
     ∙ (xor-comm 16 (shifts 8 (256 * k)) (shifts 8 lo)
     ∙ (ap (λ (n : ℕ). xor 16 n (shifts 8 (256 * k))) (shifts-up 8 lo (omega arith))

@@ -18,6 +18,7 @@
 --   Table     a rule of a constant table, tested once
 --   Xor       exclusive or
 --   Flip      one bit changed, by exclusive or
+--   CrcByXor  the CRC is document 03's
 --   CrcStep   a byte of the CRC by a table of remainders
 --   Sums          sums over the numbers below n
 --   WaitingLists  members, order, searches, removal
@@ -44,6 +45,7 @@ pub mod Premise
 pub mod Table
 pub mod Xor
 pub mod Flip
+pub mod CrcByXor
 pub mod CrcStep
 pub mod Sums
 pub mod WaitingLists

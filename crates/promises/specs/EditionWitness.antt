@@ -4,7 +4,6 @@ use mathlib.Core.Bool.{true}
 use mathlib.Core.List.{[], _∷_}
 use Prim.Native.Nat.{ℕ, zero, suc, _<_}
 use native.Mathlib.Omega.{arith}
-use Rattle.rules.specs.Sheet.{board, sheet-in}
 use Rattle.rules.specs.Claims.{passes}
 use Rattle.rules.specs.BenchJob.{synchronous, any, send, receive, roomed, Draft, draft-2, draft-bytes}
 use Rattle.rules.specs.BenchNumbered.{case-1-sheet}

@@ -60,7 +60,7 @@ rowing-none f at met h =
       is = sym (splice-none met at h);
     }
 
--- row i is put behind them, who have k bytes
+-- row i is put behind them, which have k bytes
 pub rowing-more : {f : ℕ → List ℕ} {at : ℕ} {met out after : List ℕ} {i : ℕ} (k : ℕ) → length (joined f 0 i) ≡ k →
     Rowing f at met out i → after ≡ splice out (at + k) (f i) → at + (k + length (f i)) ≤ length met → Rowing f at met after (i + 1)
 rowing-more {f} {at} {met} {out} {after} {i} k long q e h =

@@ -102,14 +102,15 @@ questions =
     ∷ asked (standard-sheet 0xed81 5 0) 0 0
     ∷ asked (standard-sheet 0x0096 0 0) 0 0
     ∷ asked (standard-sheet 0xdb7a 4 0) 24 0
-    -- each board covers its own sends; a room of a board without standard sends covers nothing and need not; with a byte less at rank 1, 24 there
+    -- each board covers its own sends; with a room a byte short at rank 1, 24 there: its synchronous send does not count
     ∷ asked (standard-sheet 0x3fcd 5 1) 0 0
     ∷ asked
     (draft-2 1 0xf3fd (11 ∷ 12 ∷ 13 ∷ 14 ∷ 15 ∷ [])
     (roomed 0 0 5 (send standard 1 0 4 0 2 ∷ isend standard 1 0 4 2 3 0 ∷ wait 0 ∷ [])
     ∷ roomed 0 5 1 (receive 0 0 any 0 3 ∷ receive 0 0 4 3 2 ∷ isend synchronous 0 0 4 0 1 0 ∷ isend standard 1 0 9 0 2 1 ∷ wait 0 ∷ wait 1 ∷ []) ∷ []))
     24 1
-    -- other modes need no room; a buffered send's buffer is asked first, and a query, though it stands behind
+    -- other modes need no room, and one without standard sends covers; a buffered send's buffer is asked first, and a query, though it
+    -- stands behind
     ∷ asked
     (draft-2 1 0x0900 (11 ∷ 12 ∷ 13 ∷ [])
     (roomed 34 0 1 (send buffered 1 0 4 0 2 ∷ send synchronous 1 0 4 0 3 ∷ [])

@@ -7,7 +7,7 @@
 -- Assumes nothing.
 use mathlib.Core.List.{List, [], _∷_}
 use Prim.Native.Nat.{ℕ}
-use Rattle.rules.specs.BenchJob.{standard, buffered, synchronous, send, isend, receive, ireceive, wait, query}
+use Rattle.rules.specs.BenchJob.{standard, buffered, synchronous, send, isend, receive, wait, query}
 use Rattle.rules.specs.BenchJob.{roomed, Draft, draft-2, runs, follows, still-able, finished, deadlock, overflow}
 use Rattle.rules.specs.BenchJob.{_meets_, row-2, said, _becomes_, pending, cut, told, BenchJob, bench, bench-whole, bench-finds}
 

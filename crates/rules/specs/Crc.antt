@@ -1,6 +1,6 @@
 -- CRC-16 (document 01, "The sheet, byte by byte"; the catalogue's CRC-16/IBM-3740): polynomial 1021 hex, start FFFF hex,
 -- high bit first, no final change. Assumes nothing: these are definitions.
-use mathlib.Core.Bool.{Bool, true, false, cond}
+use mathlib.Core.Bool.{cond}
 use mathlib.Core.List.{List, [], _∷_, _++_}
 use Prim.Native.Nat.{ℕ, zero, suc, _+_, _-_, _*_, _/_, _%_}
 use lib.Dec.{leb, eqb}

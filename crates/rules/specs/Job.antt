@@ -1,6 +1,6 @@
 -- The state of a job between two steps (document 01, "How a board steps" and "The report"). Assumes nothing: these are
 -- definitions.
-use mathlib.Core.Bool.{Bool, true, false}
+use mathlib.Core.Bool.{Bool, false}
 use mathlib.Core.List.{List, []}
 use mathlib.Core.Option.{Option, none, some}
 use Prim.Native.Nat.{ℕ}

@@ -1,6 +1,6 @@
 -- When the desk says no to a sheet (document 01, "When the desk says no"): numbers 1 to 7, lowest first, each over the whole
 -- sheet, each at its place. Assumes nothing: these are definitions.
-use mathlib.Core.Bool.{Bool, true, false, _&&_, _||_, not, cond}
+use mathlib.Core.Bool.{Bool, false, _&&_, _||_, not, cond}
 use mathlib.Core.List.{List}
 use Prim.Native.Nat.{ℕ, zero, suc, _+_, _-_}
 use lib.Dec.{ltb, leb, eqb}

@@ -1,7 +1,7 @@
 -- What check, follow and run answer, and what they leave in the lent rooms (document 01, "When the desk says no" and
 -- "What is pinned down"). An answer is two numbers, so that these definitions need no code. Assumes nothing.
 use mathlib.Core.Path.{_≡_}
-use mathlib.Core.Bool.{Bool, true, false, _||_, cond}
+use mathlib.Core.Bool.{Bool, _||_, cond}
 use mathlib.Core.List.{List, _++_}
 use mathlib.Core.Option.{Option, none, some}
 use Prim.Native.Nat.{ℕ}
@@ -10,7 +10,6 @@ use lib.ListN.{length, drop, replicate}
 use Rattle.rules.specs.Limits.{report-size, order-room, scratch-size}
 use Rattle.rules.specs.Sheet.{Sheet, second-in, sheet-in, P-of, N-of, inbox-total}
 use Rattle.rules.specs.Refusal.{Refusal, refusal, accepted, or-else, sheet-refusal}
-use Rattle.rules.specs.Job.{Job}
 use Rattle.rules.specs.Order.{follow, run}
 use Rattle.rules.specs.Report.{report}
 

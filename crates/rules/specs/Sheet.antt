@@ -1,6 +1,6 @@
 -- The sheet, byte by byte (document 01, "The sheet, byte by byte"): boards, operations and payload, and what bytes decode to.
 -- Everything that reads a sheet goes through `sheet-in`. Assumes nothing: these are definitions.
-use mathlib.Core.Bool.{Bool, true, false, _&&_, _||_, cond}
+use mathlib.Core.Bool.{Bool, true, _&&_, _||_, cond}
 use mathlib.Core.List.{List, [], _∷_}
 use Prim.Native.Nat.{ℕ, zero, suc, _+_, _*_}
 use lib.Dec.{ltb, leb, eqb}

@@ -9,7 +9,7 @@ use lib.ListN.{length, set, take, drop}
 use Rattle.rules.specs.Limits.{any, absent, bsend-overhead}
 use Rattle.rules.specs.Sheet.{Sheet, Op, Board, op, board, P-of, rank-of, inbox-start, is-standard, is-buffered, is-ready, is-receive, only-half, no-half}
 use Rattle.rules.specs.Sheet.{takes-slot, frees-slot, tells-message, tells-completion}
-use Rattle.rules.specs.Job.{Job, Entry, Figures, Place, Stop, Store, in-attached, in-room, figures, place, account, with-account, in-use-at, entry, bare-entry, entry-at}
+use Rattle.rules.specs.Job.{Job, Entry, Figures, Place, Store, in-attached, in-room, figures, place, account, with-account, in-use-at, entry, bare-entry, entry-at}
 use Rattle.rules.specs.Job.{place-at, with-entries, with-places, with-messages, with-receives, with-memory, with-stop, with-steps}
 
 -- the operation that is next on a board

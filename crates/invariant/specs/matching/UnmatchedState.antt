@@ -12,7 +12,7 @@ use mathlib.Core.Bool.{Bool, true, false, cond}
 use Prim.Native.Nat.{ℕ, _<_}
 use native.Mathlib.Omega.{arith}
 use Rattle.rules.specs.Sheet.{Sheet, op, board, rank-of, is-send, is-receive, only-half, is-standard, is-buffered}
-use Rattle.rules.specs.Job.{Store, in-attached, in-room}
+use Rattle.rules.specs.Job.{in-attached, in-room}
 use Rattle.rules.specs.Step.{kept-in, store-of}
 use Rattle.laws.specs.Tests.{true-not-false, not-so}
 use Rattle.invariant.specs.sheet.Kinds.{send-not-only-half, receive-not-only-half, receive-not-buffered, receive-not-standard, standard-not-buffered}

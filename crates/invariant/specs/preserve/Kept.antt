@@ -2,9 +2,9 @@
 --   keeps-kept         what the rule gives is what the invariant allows, and where rooms are 0 or cover all the sheet alone decides
 --   is-kept-receive    a receive is not
 -- Assumes nothing.
-use mathlib.Core.Path.{_≡_, sym, subst, _∙_}
+use mathlib.Core.Path.{_≡_, sym, subst}
 use mathlib.Core.Logic.{_⊎_, inl, inr}
-use mathlib.Core.Bool.{Bool, true, false, _&&_, _||_}
+use mathlib.Core.Bool.{true, false, _&&_, _||_}
 use mathlib.Core.List.{List}
 use Prim.Native.Nat.{ℕ, _<_}
 use native.Mathlib.Omega.{arith}
@@ -13,8 +13,7 @@ use borrow.Author.Tests.{lt-ltb}
 use Rattle.rules.specs.Sheet.{Sheet, op, board, rank-of, is-standard, is-buffered, is-receive}
 use Rattle.rules.specs.Job.{Job, in-room}
 use Rattle.rules.specs.Step.{next-op, kept-in, fits-beside, fits-room}
-use Rattle.rules.specs.Claims.{rooms-cover}
-use Rattle.laws.specs.Calm.{Room-covered, Covered, rooms-each}
+use Rattle.laws.specs.Calm.{Room-covered, rooms-each}
 use Rattle.laws.specs.Tests.{and-both, and-left, or-left, or-right, or-cases, not-so, true-not-false}
 use Rattle.invariant.specs.sheet.Valid.{Valid}
 use Rattle.invariant.specs.sheet.Kinds.{receive-not-buffered, receive-not-standard}

@@ -4,16 +4,13 @@
 --   valid-first    a board's first operation is the sum of the counts before it
 -- Assumes nothing.
 use mathlib.Core.Path.{_≡_}
-use mathlib.Core.Bool.{true, _&&_}
+use mathlib.Core.Bool.{true}
 use Prim.Native.Nat.{ℕ, suc, _+_, _≤_, _<_}
-use lib.Dec.{eqb, leb}
 use lib.ListN.{length}
-use borrow.Author.Tests.{eqb-true}
-use Rattle.rules.specs.Limits.{most-boards, most-comms, most-ops, most-payload, most-attached, most-inbox}
+use Rattle.rules.specs.Limits.{most-boards, most-comms, most-ops, most-payload, most-inbox}
 use Rattle.rules.specs.Sheet.{Sheet, board, P-of, N-of, rank-of, counts-before, inbox-start, inbox-total}
 use Rattle.rules.specs.Refusal.{board-good, op-good, request-good, slot-freed}
 use Rattle.laws.specs.Tabled.{board-entry}
-use Rattle.laws.specs.Tests.{and-left}
 
 -- a valid sheet: each part of the refusal table, settled
 pub record Valid (s : Sheet) : Type 0 where

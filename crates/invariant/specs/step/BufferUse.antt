@@ -18,8 +18,8 @@ use lib.ListN.{length, getD, set, length-set}
 use lib.Seq.{getD-set-same, getD-set-other}
 use borrow.Author.Tests.{eqb-true}
 use Rattle.rules.specs.Limits.{absent}
-use Rattle.rules.specs.Sheet.{Sheet, Op, op, rank-of, is-standard, is-buffered}
-use Rattle.rules.specs.Job.{Job, Entry, Figures, Place, Store, in-attached, in-room, job, entry, bare-entry, figures, place, first-place, account, with-account}
+use Rattle.rules.specs.Sheet.{Sheet, Op, op, rank-of, is-standard}
+use Rattle.rules.specs.Job.{Job, Entry, Figures, Place, Store, in-attached, in-room, job, entry, bare-entry, figures, first-place, account, with-account}
 use Rattle.rules.specs.Job.{in-use-at, peak-at, entry-at, place-at, with-entries, with-places, with-messages, with-receives, with-memory}
 use Rattle.rules.specs.Step.{one-finished, now-waiting, is-cut, without, delivered, store-of, kept-in, charge-of, charged, released, with-place, release}
 use Rattle.rules.specs.Step.{matched-rows, matched}

@@ -7,19 +7,18 @@
 --   front-report                     the report at the front of its room
 -- Assumes nothing.
 use mathlib.Core.Path.{_≡_, refl, sym, ap, _∙_}
-use mathlib.Core.Logic.{_≢_}
-use mathlib.Core.Bool.{Bool, true, false, cond}
+use mathlib.Core.Bool.{true}
 use mathlib.Core.List.{List}
 use mathlib.Core.Option.{Option, none, some}
 use Prim.Native.Nat.{ℕ, _≤_}
 use native.Mathlib.Omega.{arith}
-use lib.Dec.{ltb, eqb}
+use lib.Dec.{eqb}
 use lib.ListN.{length, take, drop}
 use lib.Seq.{take-at}
-use borrow.Author.Tests.{ltb-false, eq-eqb, ne-eqb, eqb-true}
-use Rattle.rules.specs.Limits.{report-size, order-room, scratch-size}
-use Rattle.rules.specs.Sheet.{Sheet, second-in, sheet-in, P-of, N-of, inbox-total}
-use Rattle.rules.specs.Refusal.{Refusal, refusal, accepted, or-else, sheet-refusal}
+use borrow.Author.Tests.{eq-eqb, eqb-true}
+use Rattle.rules.specs.Limits.{order-room}
+use Rattle.rules.specs.Sheet.{second-in, sheet-in, N-of, inbox-total}
+use Rattle.rules.specs.Refusal.{Refusal, refusal, or-else, sheet-refusal}
 use Rattle.rules.specs.Step.{is-none}
 use Rattle.rules.specs.Order.{follow, run}
 use Rattle.rules.specs.Report.{report}

@@ -10,20 +10,20 @@ use mathlib.Core.List.{List, _∷_, _++_, append-assoc}
 use mathlib.Core.Option.{Option}
 use Prim.Native.Nat.{ℕ, zero, suc, _+_, _≤_, _<_}
 use native.Mathlib.Omega.{arith}
-use lib.ListN.{length, take, drop}
+use lib.ListN.{take}
 use lib.Seq.{ext-getD, take-at, drop-at}
-use Rattle.rules.specs.Limits.{report-header-size, report-size}
-use Rattle.rules.specs.Sheet.{Sheet, Board, board, no-board, second-in, sheet-in, P-of, N-of}
+use Rattle.rules.specs.Limits.{report-header-size}
+use Rattle.rules.specs.Sheet.{Sheet, board, no-board, second-in, sheet-in, P-of}
 use Rattle.rules.specs.Job.{Job, in-room, account, in-use-at, peak-at, place-at}
 use Rattle.rules.specs.Step.{size-of}
 use Rattle.rules.specs.Order.{follow, run}
 use Rattle.rules.specs.Report.{low-two, board-state, room-bytes, board-row, board-rows, header-bytes, op-rows, report}
 use Rattle.rules.specs.Service.{order-refusal}
-use Rattle.rules.specs.Claims.{passes, left-by}
+use Rattle.rules.specs.Claims.{left-by}
 use Rattle.laws.specs.Decoded.{first-room}
 use Rattle.invariant.specs.Invariant.{Reached}
-use Rattle.promises.specs.Statements.{Lent, Ends, Run-ends}
-use Rattle.promises.specs.ServiceStatements.{Follow-call, Run-call, told-in}
+use Rattle.promises.specs.Statements.{Ends, Run-ends}
+use Rattle.promises.specs.ServiceStatements.{told-in}
 use Rattle.promises.specs.EditionStatements.{No-rooms, wide-rows, widened, Wider-rows, Same-in-both, Widened-left, Follow-editions, Run-editions}
 use Rattle.promises.specs.compare.ReportBytes.{header-length}
 use Rattle.promises.specs.claims.OneJob.{lent-reached}

@@ -3,7 +3,7 @@
 --   lent-valid, lent-reached     a valid sheet; the invariant of the job that an order leaves
 --   deliveries, verdicts, no-request-left, in-use, peaks, buffers-hold, counts, steps
 -- Assumes nothing.
-use mathlib.Core.Path.{_≡_, refl, _∙_}
+use mathlib.Core.Path.{refl, _∙_}
 use mathlib.Core.List.{List}
 use Prim.Native.Nat.{ℕ}
 use native.Mathlib.Omega.{arith}

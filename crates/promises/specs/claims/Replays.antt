@@ -9,9 +9,8 @@ use mathlib.Core.List.{List}
 use mathlib.Core.Option.{Option, none, some}
 use Prim.Native.Nat.{ℕ, _<_}
 use lib.ListN.{take}
-use Rattle.rules.specs.Limits.{report-size}
-use Rattle.rules.specs.Sheet.{Sheet, second-in, sheet-in, P-of, N-of, inbox-total}
-use Rattle.rules.specs.Job.{Job, Store, peak-at, started}
+use Rattle.rules.specs.Sheet.{Sheet, second-in, sheet-in, P-of, inbox-total}
+use Rattle.rules.specs.Job.{Job, Store, peak-at}
 use Rattle.rules.specs.Refusal.{refusal}
 use Rattle.rules.specs.Step.{is-none}
 use Rattle.rules.specs.Order.{follow, run}
@@ -23,7 +22,7 @@ use Rattle.invariant.specs.sheet.Valid.{Valid}
 use Rattle.invariant.specs.deliveries.Laws.{Delivery-laws}
 use Rattle.invariant.specs.deliveries.Commute.{delivery-laws}
 use Rattle.promises.specs.Statements.{Lent, Peaks, Ends, Run-ends}
-use Rattle.promises.specs.ServiceStatements.{Follow-call, Run-call, Same-start, told-in, Same-left, Run-replayed}
+use Rattle.promises.specs.ServiceStatements.{Follow-call, Run-call, Same-start, Same-left, Run-replayed}
 use Rattle.promises.specs.compare.PeaksAside.{whole-report}
 use Rattle.promises.specs.compare.SamePositions.{positions-equal}
 use Rattle.promises.specs.compare.WholeOrders.{Left-same-positions}

@@ -3,7 +3,7 @@
 --   row-there, figure-there      a row's bytes, found where the report has them
 --   report-tells                 the law
 -- Assumes nothing.
-use mathlib.Core.Path.{_≡_, refl, sym, ap, subst, fun-ext, _∙_}
+use mathlib.Core.Path.{_≡_, refl, sym, ap, subst, _∙_}
 use mathlib.Core.Bool.{Bool, true, false, _&&_, _||_, not, cond}
 use mathlib.Core.List.{List, [], _∷_, _++_, append-assoc}
 use mathlib.Core.Option.{Option, none, some}
@@ -14,20 +14,20 @@ use lib.Dec.{ltb, leb, eqb}
 use lib.ListN.{length, getD, take, drop, length-append, List·getD-eq-default}
 use lib.Seq.{length-take-le, getD-append-add}
 use borrow.Author.Tests.{ltb-true, ltb-false, le-leb, ne-eqb}
-use Rattle.rules.specs.Limits.{board-row-size, op-row-size, report-header-size, report-size}
+use Rattle.rules.specs.Limits.{report-size}
 use Rattle.rules.specs.Sheet.{Sheet, Board, board, no-board, P-of, N-of, two}
-use Rattle.rules.specs.Job.{Job, Entry, Figures, Place, Stop, Store, in-attached, in-room, account, in-use-at, peak-at, figures, place, first-place}
+use Rattle.rules.specs.Job.{Job, Entry, Place, Stop, Store, in-attached, in-room, account, in-use-at, peak-at, figures, place, first-place}
 use Rattle.rules.specs.Job.{bare-entry, entry-at, place-at}
-use Rattle.rules.specs.Step.{able, is-finished, in-waiting-half, half-complete, is-none, next-op, size-of}
+use Rattle.rules.specs.Step.{able, is-finished, size-of}
 use Rattle.rules.specs.Report.{low-two, verdict-of, stop-bytes, header-bytes, board-state, room-bytes, board-row, board-rows, op-row, op-rows, entry-in, report}
 use Rattle.rules.specs.Report.{count-from, is-pending-message, is-pending-receive, pending-messages, pending-receives, cut-messages}
 use Rattle.laws.specs.Tests.{true-not-false, not-so, cond-false}
-use Rattle.laws.specs.ReportRows.{board-row-length, two-behind, two-bytes, row-read}
+use Rattle.laws.specs.ReportRows.{two-behind, two-bytes, row-read}
 use Rattle.invariant.specs.sheet.Valid.{Valid}
-use Rattle.invariant.specs.Invariant.{Stopped, Reached}
+use Rattle.invariant.specs.Invariant.{Reached}
 use Rattle.invariant.specs.Facts.{able-parts}
 use Rattle.invariant.specs.Bounds.{finished-few, steps-few, peak-few, in-use-few, row-fits}
-use Rattle.promises.specs.Statements.{Told, told-by}
+use Rattle.promises.specs.Statements.{told-by}
 use Rattle.promises.specs.ServiceStatements.{board-row-at, board-figure, store-figure, board-state-is, stop-in, told-in}
 use Rattle.promises.specs.compare.ReportBytes.{header-length, board-rows-length, op-rows-length}
 

@@ -17,7 +17,6 @@ use Rattle.rules.specs.Sheet.{second-in, sheet-in, N-of}
 use Rattle.laws.specs.Decoded.{first-room}
 use Rattle.rules.specs.Job.{Job, Entry, entry-at}
 use Rattle.rules.specs.Refusal.{sheet-refusal, or-else}
-use Rattle.rules.specs.Step.{able}
 use Rattle.rules.specs.Order.{follow, run, none-able}
 use Rattle.rules.specs.Report.{report}
 use Rattle.rules.specs.Service.{answers, room-refusal, order-refusal, in-front, follow-refusal, Follow-says, run-refusal, Run-says}
@@ -35,7 +34,7 @@ use Rattle.promises.specs.Statements.{No-pair-left, Sends-in-order, Rece
 use Rattle.promises.specs.Statements.{Matched-sends, Why-stopped, Charged, Buffered-by-mode, Kept-in-one, Within-size}
 use Rattle.promises.specs.ProbeStatements.{Probes, Probes-told, Queries, Queries-told, Told-then-received, Receives-told}
 use Rattle.promises.specs.ServiceStatements.{Follow-call, Run-call, told-in, Reported}
-use Rattle.promises.specs.ServiceStatements.{Followed-steps, Ran-order, Follow-reports, Run-reports, Follow-by-arrival}
+use Rattle.promises.specs.ServiceStatements.{Followed-steps, Follow-reports, Run-reports, Follow-by-arrival}
 use Rattle.promises.specs.claims.OneJob.{lent-valid, lent-reached, deliveries, verdicts, no-request-left, steps, counts, in-use, kept-in-one, peaks, buffers-hold}
 use Rattle.promises.specs.claims.Matching.{none-fit, no-overtaking, no-overtaking-receives, statuses, send-statuses}
 use Rattle.promises.specs.claims.Telling.{probes, queries, told-then-received}

@@ -4,15 +4,15 @@
 --   stop-reasons, stopping-steps
 -- Assumes nothing.
 use mathlib.Core.Path.{_≡_, refl, sym, ap, subst, _∙_}
-use mathlib.Core.Logic.{_⊎_, inl, inr, _↔_}
+use mathlib.Core.Logic.{inl, inr, _↔_}
 use mathlib.Core.Bool.{Bool, true, false, cond}
 use mathlib.Core.List.{List, [], _∷_, _++_}
 use mathlib.Core.Option.{Option, none, some}
 use Prim.Native.Nat.{ℕ, suc, _+_, _≤_, _<_}
 use native.Mathlib.Omega.{arith}
 use lib.ListN.{length}
-use borrow.Author.Tests.{leb-false, lt-leb}
-use Rattle.rules.specs.Sheet.{Sheet, op, board, sheet-in, P-of, inbox-total, is-send, is-receive, is-buffered, is-ready}
+use borrow.Author.Tests.{leb-false}
+use Rattle.rules.specs.Sheet.{Sheet, op, board, sheet-in, inbox-total, is-buffered, is-ready}
 use Rattle.rules.specs.Job.{Job, Stop, in-attached, in-use-at, job, entry-at, place-at, started, with-stop, with-steps}
 use Rattle.rules.specs.Step.{able, step, next-op, is-none, fits-with, first-receive, fits-beside, fits-buffer, size-of, charge-of, stopped}
 use Rattle.rules.specs.Order.{Followed, followed, follow-from, follow}
@@ -29,8 +29,8 @@ use Rattle.invariant.specs.step.Cases.{Cause, Stops, Outcome, ends-half, ends-o
 use Rattle.invariant.specs.step.CasesHold.{outcome}
 use Rattle.invariant.specs.preserve.Step.{step-sound}
 use Rattle.invariant.specs.preserve.Orders.{start-reached}
-use Rattle.promises.specs.Statements.{Lent, told-by, Stop-reason, Why-stopped, Stop-reasons, Stopping-step, Stopping-steps}
-use Rattle.promises.specs.claims.OneJob.{lent-valid, lent-reached}
+use Rattle.promises.specs.Statements.{Lent, told-by, Stop-reason, Why-stopped, Stop-reasons, Stopping-steps}
+use Rattle.promises.specs.claims.OneJob.{lent-valid}
 
 -- a job cannot both have stopped and be going
 never : {p : Stop} {o : Option Stop} {A : Type 0} → o ≡ some p → o ≡ none → A

@@ -18,7 +18,7 @@ use lib.Dec.{ltb}
 use lib.ListN.{List·getD-eq-default}
 use borrow.Author.Tests.{le-ltb, eq-eqb}
 use Rattle.rules.specs.Limits.{any}
-use Rattle.rules.specs.Sheet.{Sheet, op, board, no-op, P-of, N-of, rank-of, is-receive, is-probe, is-query, tells-message, tells-completion, selects, only-half, is-ready, is-standard, is-buffered}
+use Rattle.rules.specs.Sheet.{Sheet, op, board, no-op, N-of, rank-of, is-receive, is-probe, is-query, tells-message, tells-completion, selects, only-half, is-ready, is-standard, is-buffered}
 use Rattle.rules.specs.Job.{Job, in-attached, in-room, place-at}
 use Rattle.rules.specs.Step.{able, step, next-op, in-waiting-half, is-none, first-receive, fits-beside, fits-buffer, fits-room, kept-in, fits-with}
 use Rattle.rules.specs.Claims.{calm, rooms-cover, is-any-source}

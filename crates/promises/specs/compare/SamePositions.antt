@@ -16,7 +16,7 @@ use lib.Dec.{ltb, leb}
 use lib.ListN.{length}
 use lib.Seq.{ext-getD}
 use Rattle.rules.specs.Sheet.{Sheet, op, board, P-of, N-of, rank-of, inbox-total, is-standard, tells-completion, tells}
-use Rattle.rules.specs.Job.{Job, Stop, Store, in-attached, in-room, in-use-at, bare-entry, entry-at, place-at}
+use Rattle.rules.specs.Job.{Job, Stop, Store, in-attached, in-room, in-use-at, bare-entry, entry-at}
 use Rattle.rules.specs.Step.{able, step, next-op, is-none, first-message, first-receive, fits-with, fits-beside, fits-buffer, fits-room, size-of, charge-of, complete}
 use Rattle.rules.specs.Step.{complete-if}
 use Rattle.rules.specs.Step.{waited, query-row, half-row}

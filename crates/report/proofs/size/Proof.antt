@@ -5,7 +5,7 @@ use mathlib.Core.List.{List}
 use Prim.Native.Nat.{ℕ}
 use native.Mathlib.Omega.{arith}
 use Rattle.rules.specs.Limits.{board-rows-size}
-use Rattle.rules.specs.Sheet.{second-in, sheet-in, P-of, N-of}
+use Rattle.rules.specs.Sheet.{second-in, sheet-in, P-of}
 use Rattle.laws.specs.Editions.{rows-most}
 use Rattle.laws.specs.Laid.{Laid}
 use borrow.Author.Needs.{needs}

@@ -5,7 +5,7 @@ use Prim.Native.Nat.{ℕ}
 use lib.Dec.{eqb}
 use lib.ListN.{length}
 use Rattle.rules.specs.Limits.{boards-at, ops-at, payload-at, sheet-size}
-use Rattle.rules.specs.Sheet.{second-in, P-in, N-in}
+use Rattle.rules.specs.Sheet.{second-in, P-in}
 use Rattle.rules.specs.Refusal.{layout-good}
 use borrow.Author.Needs.{needs}
 use Rattle.refusals.proofs.header.layout_is_good.Statement.{statement}
