@@ -14,6 +14,7 @@
 //! - `requests_left`: the cases around requests that no wait frees.
 //! - `probes`: the cases around probes and status queries.
 //! - `editions`: the cases around the second edition and its rooms.
+//! - `exchanges`: the cases around steps that trade places in an order.
 //! - `searched`: the cases around the search of a waiting list.
 //! - `random`: a seeded generator of numbers.
 //! - `generate`: generators of sheets for the differential tests.
@@ -34,6 +35,7 @@ pub mod command;
 pub mod compare;
 pub mod desk;
 pub mod editions;
+pub mod exchanges;
 pub mod generate;
 pub mod guarded;
 pub mod judge;

@@ -13,33 +13,32 @@ use mathlib.Core.List.{List}
 use mathlib.Core.Option.{Option, none, some}
 use Prim.Native.Nat.{ℕ, _≤_}
 use native.Mathlib.Omega.{arith}
-use lib.Dec.{eqb}
 use lib.ListN.{length, getD}
-use borrow.Author.Tests.{eq-eqb, ne-eqb}
+use borrow.Author.Tests.{eq-eqb}
 use Rattle.rules.specs.Limits.{order-room}
 use Rattle.rules.specs.Sheet.{Sheet, second-in, sheet-in, P-of, N-of}
 use Rattle.rules.specs.Job.{Job}
 use Rattle.rules.specs.Refusal.{Refusal, refusal, or-else, sheet-refusal}
 use Rattle.rules.specs.Order.{follow, none-able}
 use Rattle.rules.specs.Report.{verdict-of, header-bytes, report}
-use Rattle.rules.specs.Service.{answers, room-refusal, order-refusal, in-front, kept-or, Check-says, follow-refusal, Follow-says, Run-says}
+use Rattle.rules.specs.Service.{answers, room-refusal, order-refusal, in-front, Check-says, follow-refusal, Follow-says, Run-says}
 use Rattle.rules.specs.Claims.{passes, calm, left-by}
 use Rattle.rules.specs.Premise.{Premise-says}
 use Rattle.laws.specs.Premise.{premise-holds, calm-premise}
 use Rattle.sheet.specs.declared.Answer.{Answer}
-use Rattle.laws.specs.Tests.{cond-false}
 use Rattle.laws.specs.Broken.{or-else-stopped}
 use Rattle.invariant.specs.step.LowestAble.{next-able}
 use Rattle.promises.specs.Statements.{told-by, Exact, Verdicts}
 use Rattle.promises.specs.ServiceStatements.{Follow-call, Run-call, Left-alike, Follow-reports}
 use Rattle.promises.specs.ServiceStatements.{Run-reports, Run-replayed, Follow-by-arrival, Follows-alike, Run-alike, Follow-swaps}
 use Rattle.promises.specs.EditionStatements.{Follow-editions}
-use Rattle.promises.specs.Theorems.{verdicts, follow-reports, run-reports, run-replayed, follow-by-arrival, follows-alike, run-alike, follow-swaps, follow-editions}
+use Rattle.promises.specs.ExchangeStatements.{Follow-same-class}
+use Rattle.promises.specs.Theorems.{verdicts, follow-reports, run-reports, run-replayed, follow-by-arrival, follows-alike, run-alike, follow-swaps, follow-same-class, follow-editions}
 use Rattle.promises.specs.compare.ReportBytes.{first-byte}
-use Rattle.promises.specs.claims.Calls.{follow-answer, follow-lent, follow-report, run-answer}
+use Rattle.promises.specs.claims.Calls.{left-kept, follow-answer, follow-lent, follow-report, run-answer}
 use Rattle.promises.specs.claims.Reported.{follow-passes, run-passes}
 use Rattle.demands.specs.Demands.{Seen, Kept-rules, Same-answer, Check-and-follow, Run-keeps, Ended, Calls-alike}
-use Rattle.demands.specs.Demands.{Arrival-told, Two-orders, Exchanged, Follow-demands, Two-follows, Run-as-followed, Replayed, Follow-and-run, Both-editions, As-run, One-for-all}
+use Rattle.demands.specs.Demands.{Arrival-told, Two-orders, Exchanged, One-class, Follow-demands, Two-follows, Run-as-followed, Replayed, Follow-and-run, Both-editions, As-run, One-for-all}
 
 -- NO BOARD IS ABLE, by the report
 verdict-byte : (e : Bool) (s : Sheet) (x : Job) (old : List ℕ) → getD (in-front (report e s x) old) 0 0 ≡ verdict-of (x .stop) s x
@@ -113,11 +112,6 @@ run-call {bs} {f} {o} {o-now} h not-short =
     }
 
 -- DEMANDS 1 AND 2
--- what a refusal leaves
-left-kept : {n number : ℕ} (new old : List ℕ) {now : List ℕ} → n ≡ number → n ≢ 0 → now ≡ kept-or number new old → now ≡ old
-unfolding kept-or
-left-kept {n} {number} new old e h k = k ∙ cond-false (eqb number 0) new old (ne-eqb number 0 (λ z. h (e ∙ z)))
-
 module _ {bs o : List ℕ} {f : Seen} (a : Follow-seen bs o f) where
   abbrev follow-success : f .answer .number ≡ 0 → Follow-call bs o
   follow-success e = follow-call a (λ z. omega arith)
@@ -217,12 +211,19 @@ module _ {bs one other : List ℕ} {f g : Seen} (a : Follow-seen bs one f) (b : 
       follow-by-arrival bs one after (follow-success a zero-f)
       (follow-success (subst (λ (o : List ℕ). Follow-seen bs o g) other-is b) zero-g) zero-f zero-g
 
+  one-class : One-class bs one other f g
+  unfolding One-class Calls-alike Follow-same-class
+  one-class pass sheet not-short not-short-too same in-class =
+      let answer = follow-same-class bs one other (follow-call a not-short) (follow-call b not-short-too) pass sheet same in-class in
+      (answer .number, answer .place, answer .left)
+
   follow-demands : Follow-demands bs one other f g
   follow-demands =
       record {
         end-alike = two-orders;
         exchange = exchanged;
         arrival = arrival;
+        one-class = one-class;
       }
 
 module _ {bs o : List ℕ} {f g : Seen} {w w-now : List ℕ} (a : Follow-seen bs o f) (b : Run-seen bs g w w-now) where

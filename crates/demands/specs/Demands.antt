@@ -15,6 +15,7 @@ use Rattle.rules.specs.Claims.{passes, calm, accepts, left-by}
 use Rattle.sheet.specs.declared.Answer.{Answer}
 use Rattle.promises.specs.Statements.{Earlier-first}
 use Rattle.promises.specs.EditionStatements.{Same-in-both, Widened-left}
+use Rattle.promises.specs.ExchangeStatements.{Exchange-sheet, Exchangeable, In-class}
 use Rattle.promises.specs.ServiceStatements.{Follow-call, told-in, Reported, Followed-steps, Ran-order, Same-start, Same-left, Left-alike}
 
 -- what a caller sees of a call of follow or run: the answer, and inbox and report as they were lent and as the call left them
@@ -119,10 +120,21 @@ Exchanged bs order exchanged f g =
     (f .answer .number ≡ g .answer .number) × (f .answer .place ≡ g .answer .place)
     × (f .answer .number ≡ 0 → Calls-alike bs f g)
 
+-- ORDERS OF ONE CLASS of two calls of follow (document 02, K14), on a sheet whose receives may be from any source: where exchanges of
+-- steps that may trade places lead from the one order to the other (one exchange, or several one after the other), the calls get
+-- the same number and place, and with number 0 follow ends alike for both (promises: Follow-same-class).
+unfoldable pub One-class : (bs one other : List ℕ) (f g : Seen) → Type 0
+One-class bs one other f g =
+    passes bs ≡ true → Exchange-sheet bs → f .answer .number ≢ 8 → g .answer .number ≢ 8 → Same-start bs (f .inbox) (g .inbox) →
+    In-class Exchangeable (sheet-in bs) (f .inbox) one other →
+    (f .answer .number ≡ g .answer .number) × (f .answer .place ≡ g .answer .place)
+    × (f .answer .number ≡ 0 → Calls-alike bs f g)
+
 pub record Follow-demands (bs one other : List ℕ) (f g : Seen) : Type 0 where
   pub end-alike : Two-orders bs f g
   pub exchange : Exchanged bs one other f g
   pub arrival : Arrival-told bs one other f g
+  pub one-class : One-class bs one other f g
 
 -- THE TWO EDITIONS of a sheet without rooms (document 02, K6), followed with one order from inboxes with the same bytes: the same
 -- number and place, and with number 0 the same inbox, and the report with four zero bytes after each board row (promises:
@@ -133,7 +145,7 @@ Both-editions one two f g =
     (f .answer .number ≡ g .answer .number) × (f .answer .place ≡ g .answer .place)
     × (f .answer .number ≡ 0 → Widened-left one (f .inbox-now) (f .report-now) (g .inbox-now) (g .report-now))
 
--- Two calls of follow: on one sheet demands 2 and 3, with one order the two editions.
+-- Two calls of follow: on one sheet demands 2 and 3 and orders of one class, with one order the two editions.
 pub record Two-follows (bs cs one other : List ℕ) (f g : Seen) : Type 0 where
   pub on-one-sheet : bs ≡ cs → Follow-demands bs one other f g
   pub with-one-order : one ≡ other → Both-editions bs cs f g

@@ -1,7 +1,7 @@
 -- Calm sheets (document 01, "What is pinned down"), operation by operation and board by board; and the charges of a script, one
 -- operation more at a time.
 --   calm-op, calm-covered, calm-rooms, rooms-each   what calm says of an operation and of a board
---   calm-each                    and back: where all of them are so, the sheet is calm
+--   calm-each, rooms-all         and back: where all of them are so, the sheet is calm
 --   charges-none, charges-more   the charges of the first k operations from one on
 -- Assumes nothing.
 use mathlib.Core.Path.{_≡_, refl, ap, _∙_}
@@ -95,6 +95,10 @@ pub rooms-each : (s : Sheet) → rooms-cover s ≡ true → (r : ℕ) → r < P-
 unfolding rooms-cover board P-of
 rooms-each s h r l = room-covered (s .ops) (board s r) (board-each (none-or-covers (s .ops)) (s .boards) h r l)
 
+pub rooms-all : (s : Sheet) → ((r : ℕ) → r < P-of s → Room-covered (board s r) (s .ops)) → rooms-cover s ≡ true
+unfolding rooms-cover board P-of
+rooms-all s h = board-all (none-or-covers (s .ops)) (s .boards) (λ r l. covered-room (s .ops) (board s r) (h r l))
+
 module _ (s : Sheet) (c : calm s ≡ true) where
   calm-boards : all-covered s && rooms-cover s ≡ true
   unfolding calm
@@ -116,11 +120,11 @@ module _ (s : Sheet) (c : calm s ≡ true) where
 pub calm-each : (s : Sheet) → ((k : ℕ) → k < N-of s → Not-wild (op s k)) →
     ((r : ℕ) → r < P-of s → Covered in-attached (board s r) (s .ops)) →
     ((r : ℕ) → r < P-of s → Room-covered (board s r) (s .ops)) → calm s ≡ true
-unfolding calm op N-of board P-of all-covered rooms-cover
+unfolding calm op N-of board P-of all-covered
 calm-each s t c d =
     and-both (not-wild-all (s .ops) t)
     (and-both (board-all (covers in-attached (s .ops)) (s .boards) (λ r l. covered-covers in-attached (s .ops) (board s r) (c r l)))
-    (board-all (none-or-covers (s .ops)) (s .boards) (λ r l. covered-room (s .ops) (board s r) (d r l))))
+    (rooms-all s d))
 
 -- CHARGES
 charges-last : (w : Store) (a : List Op) (o : Op) →

@@ -19,7 +19,7 @@ use Prim.Native.Nat.{ℕ, _+_, _≤_}
 use lib.Dec.{leb}
 use lib.ListN.{length}
 use borrow.Author.Tests.{leb-true, not-true, eq-eqb}
-use Rattle.rules.specs.Sheet.{Sheet, Op, P-of, is-receive, is-ready, is-buffered, tells-completion, inbox-total, second-in, sheet-in}
+use Rattle.rules.specs.Sheet.{Sheet, Op, P-of, is-ready, is-buffered, tells-completion, inbox-total, second-in, sheet-in}
 use Rattle.rules.specs.Order.{none-able}
 use Rattle.rules.specs.Report.{report}
 use Rattle.rules.specs.Claims as claims
@@ -30,16 +30,14 @@ use Rattle.rules.specs.BenchProbes.{any-probe-sheet, query-sheet}
 use Rattle.rules.specs.BenchStandard.{both-rooms-sheet, some-covered-sheet}
 use Rattle.rules.specs.Definitions.{definitions}
 use Rattle.laws.specs.Tests.{and-left, and-right, true-not-false}
+use Rattle.promises.specs.ExchangeStatements.{none-of, is-any-receive, no-query}
 
--- THE CONDITIONS OF CALM, one by one
+-- THE CONDITIONS OF CALM, one by one, beside no-query
 unfoldable pub no-any-source : Sheet → Bool
-no-any-source s = all (λ o. not (is-any-source o)) (s .ops)
+no-any-source s = none-of is-any-source (s .ops)
 
 unfoldable pub no-ready : Sheet → Bool
-no-ready s = all (λ o. not (is-ready o)) (s .ops)
-
-unfoldable pub no-query : Sheet → Bool
-no-query s = all (λ o. not (tells-completion o)) (s .ops)
+no-ready s = none-of is-ready (s .ops)
 
 -- buffers cover, and rooms are 0 or cover (document 02, K6)
 unfoldable pub covered : Sheet → Bool
@@ -47,7 +45,7 @@ covered s = all-covered s && rooms-cover s
 
 -- too little for the first: no receive is from any source, and a probe may be
 unfoldable pub no-any-receive : Sheet → Bool
-no-any-receive s = all (λ o. not (is-receive o && is-any-source o)) (s .ops)
+no-any-receive s = none-of is-any-receive (s .ops)
 
 -- too little for the last: on each board the lengths of all its buffered sends add up to at most its attached size
 unfoldable pub all-lengths : List Op → ℕ
@@ -60,13 +58,13 @@ lengths-calm s =
 
 -- the conditions together are calm
 wild-parts : (os : List Op) →
-    none-wild os ≡ (all (λ o. not (is-any-source o)) os && all (λ o. not (is-ready o)) os) && all (λ o. not (tells-completion o)) os
-unfolding none-wild all
+    none-wild os ≡ (none-of is-any-source os && none-of is-ready os) && none-of tells-completion os
+unfolding none-wild none-of
 wild-parts [] = refl
 wild-parts (o ∷ os) =
     ap (λ (b : Bool). (not (is-any-source o) && (not (is-ready o) && not (tells-completion o))) && b) (wild-parts os)
-    ∙ go (not (is-any-source o)) (not (is-ready o)) (not (tells-completion o)) (all (λ o. not (is-any-source o)) os)
-    (all (λ o. not (is-ready o)) os) (all (λ o. not (tells-completion o)) os)
+    ∙ go (not (is-any-source o)) (not (is-ready o)) (not (tells-completion o)) (none-of is-any-source os) (none-of is-ready os)
+    (none-of tells-completion os)
   where
     go : (a b c d e f : Bool) → (a && (b && c)) && ((d && e) && f) ≡ ((a && d) && (b && e)) && (c && f)
     go true true true d e f = refl
@@ -287,31 +285,31 @@ peaks-apart p =
 
 -- THE LAWS: what calm still asks when one of its conditions is dropped, and orders that then end apart
 any-source-apart : ends-apart (λ s. (no-ready s && no-query s) && covered s) any-source-pair ≡ true
-unfolding definitions ends-apart no-ready no-query covered any-source-pair
+unfolding definitions none-of ends-apart no-ready no-query covered any-source-pair
 any-source-apart = refl
 
 any-probe-apart : ends-apart (λ s. ((no-any-receive s && no-ready s) && no-query s) && covered s) any-probe-pair ≡ true
-unfolding definitions ends-apart no-any-receive no-ready no-query covered any-probe-pair
+unfolding definitions none-of is-any-receive ends-apart no-any-receive no-ready no-query covered any-probe-pair
 any-probe-apart = refl
 
 ready-apart : ends-apart (λ s. (no-any-source s && no-query s) && covered s) ready-pair ≡ true
-unfolding definitions ends-apart no-any-source no-query covered ready-pair
+unfolding definitions none-of ends-apart no-any-source no-query covered ready-pair
 ready-apart = refl
 
 query-apart : ends-apart (λ s. (no-any-source s && no-ready s) && covered s) query-pair ≡ true
-unfolding definitions ends-apart no-any-source no-ready covered query-pair
+unfolding definitions none-of ends-apart no-any-source no-ready covered query-pair
 query-apart = refl
 
 uncovered-apart : ends-apart (λ s. ((no-any-source s && no-ready s) && no-query s) && rooms-cover s) uncovered-pair ≡ true
-unfolding definitions ends-apart no-any-source no-ready no-query uncovered-pair two-buffered
+unfolding definitions none-of ends-apart no-any-source no-ready no-query uncovered-pair two-buffered
 uncovered-apart = refl
 
 room-apart : ends-apart (λ s. ((no-any-source s && no-ready s) && no-query s) && all-covered s) room-pair ≡ true
-unfolding definitions ends-apart no-any-source no-ready no-query room-pair
+unfolding definitions none-of ends-apart no-any-source no-ready no-query room-pair
 room-apart = refl
 
 lengths-apart : ends-apart lengths-calm lengths-pair ≡ true
-unfolding definitions ends-apart lengths-calm no-any-source no-ready no-query all-lengths lengths-pair two-buffered
+unfolding definitions none-of ends-apart lengths-calm no-any-source no-ready no-query all-lengths lengths-pair two-buffered
 lengths-apart = refl
 
 -- receives from any source cannot be allowed

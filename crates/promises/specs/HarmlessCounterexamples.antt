@@ -3,35 +3,31 @@
 -- a standard send is buffered before it exactly if it is after it, and where races for probes are allowed and races for receives
 -- are not, there is an exchange that leaves reports which differ in more than peaks.
 -- The exchanges are those of SwapCounterexamples, computed.
---   Goes-on, No-race, Both-tell-same, Both-keep-same   the conditions of Harmless
+--   No-race, Both-tell-same, Both-keep-same   with Goes-on the conditions of Harmless
 --   parts-harmless               together they are Harmless
 --   Swap-where                   an exchange leaves jobs alike where a condition holds of it; with Harmless it is promised
 --   harm-refutes                 an exchange that ends apart, and of which the condition holds, refutes Swap-where
+--   query-apart, any-probe-apart, room-apart             the exchanges end apart; ..-goes-on: and stop the job in neither order
 --   query-step-matters, probe-race-matters, room-step-matters
 -- Assumes nothing.
 use mathlib.Core.Path.{_≡_, refl}
 use mathlib.Core.Logic.{_≢_}
-use mathlib.Core.Bool.{Bool, true, false, _&&_, not}
-use mathlib.Core.List.{List, [], _∷_, _++_}
-use mathlib.Core.Option.{none}
-use Prim.Native.Nat.{ℕ, zero, suc}
-use lib.ListN.{getD}
-use borrow.Author.Tests.{not-true}
-use Rattle.rules.specs.Sheet.{Sheet, Op, no-op, op, sheet-in, is-send, is-receive}
+use mathlib.Core.Bool.{Bool, true, false}
+use mathlib.Core.List.{List, _∷_, _++_}
+use Prim.Native.Nat.{ℕ}
+use Rattle.rules.specs.Sheet.{Sheet, Op, op, sheet-in, is-send}
 use Rattle.rules.specs.Job.{Job}
-use Rattle.rules.specs.Step.{able, step, next-op, in-waiting-half, fits-with}
+use Rattle.rules.specs.Step.{able, next-op, in-waiting-half, fits-with}
 use Rattle.rules.specs.Claims.{is-any-source, accepts, left-by, Alike}
-use Rattle.rules.specs.BenchJob.{all}
 use Rattle.rules.specs.Definitions.{definitions}
-use Rattle.laws.specs.Tests.{and-left, and-right, true-not-false}
-use Rattle.promises.specs.Statements.{Lent, Tells-same, Keeps-same, Harmless, Swap-general}
+use Rattle.laws.specs.Tests.{true-not-false}
+use Rattle.promises.specs.Statements.{Lent}
+use Rattle.promises.specs.ExchangeStatements.{none-of, is-any-receive, Tells-same, Keeps-same, Harmless, Swap-general, Goes-on}
+use Rattle.promises.specs.compare.ScriptTests.{none-at}
 use Rattle.promises.specs.SwapCounterexamples.{Exchange, bytes-of, sheet-of, job-before, swaps-apart, apart-of}
 use Rattle.promises.specs.SwapCounterexamples.{any-probe-exchange, query-exchange, room-exchange}
 
--- THE CONDITIONS OF HARMLESS, one by one: the steps stop the job in neither order
-unfoldable pub Goes-on : Sheet → Job → (p q : ℕ) → Type 0
-Goes-on s x p q = (step s q (step s p x) .stop ≡ none) × (step s p (step s q x) .stop ≡ none)
-
+-- THE CONDITIONS OF HARMLESS, one by one, beside Goes-on
 -- they do not enter two messages that one operation fits which a test counts
 unfoldable pub No-race : (counts : Op → Bool) → Sheet → Job → (p q : ℕ) → Type 0
 No-race counts s x p q =
@@ -86,20 +82,20 @@ harm-refutes H e h harm claim =
     (a .accepted) (a .unlike) (a .able-one) (a .able-other) harm)
 
 -- THE EXCHANGES, as they end on any sheet
-any-probe-apart : swaps-apart (λ s. true) any-probe-exchange ≡ true
+pub any-probe-apart : swaps-apart (λ s. true) any-probe-exchange ≡ true
 unfolding definitions swaps-apart any-probe-exchange
 any-probe-apart = refl
 
-query-apart : swaps-apart (λ s. true) query-exchange ≡ true
+pub query-apart : swaps-apart (λ s. true) query-exchange ≡ true
 unfolding definitions swaps-apart query-exchange
 query-apart = refl
 
-room-apart : swaps-apart (λ s. true) room-exchange ≡ true
+pub room-apart : swaps-apart (λ s. true) room-exchange ≡ true
 unfolding definitions swaps-apart room-exchange
 room-apart = refl
 
 -- a query and the receive that completes its send: nothing stops, and the query sends nothing that could race
-query-goes-on : Goes-on (sheet-of query-exchange) (job-before query-exchange) 0 1
+pub query-goes-on : Goes-on (sheet-of query-exchange) (job-before query-exchange) 0 1
 unfolding Goes-on definitions query-exchange
 query-goes-on = (refl, refl)
 
@@ -112,7 +108,7 @@ unfolding Both-keep-same Keeps-same definitions query-exchange
 query-keeps-same = (λ h t. refl, λ h t. refl)
 
 -- two sends to a board that probes for any source: nothing stops, no receive is from any source, and neither is a query
-any-probe-goes-on : Goes-on (sheet-of any-probe-exchange) (job-before any-probe-exchange) 0 1
+pub any-probe-goes-on : Goes-on (sheet-of any-probe-exchange) (job-before any-probe-exchange) 0 1
 unfolding Goes-on definitions any-probe-exchange
 any-probe-goes-on = (refl, refl)
 
@@ -125,7 +121,7 @@ unfolding Both-keep-same Keeps-same definitions any-probe-exchange
 any-probe-keeps-same = (λ h t. refl, λ h t. refl)
 
 -- a standard send and the receive that frees its room: nothing stops, the receive sends nothing, and neither is a query
-room-goes-on : Goes-on (sheet-of room-exchange) (job-before room-exchange) 0 1
+pub room-goes-on : Goes-on (sheet-of room-exchange) (job-before room-exchange) 0 1
 unfolding Goes-on definitions room-exchange
 room-goes-on = (refl, refl)
 
@@ -137,26 +133,16 @@ room-tells-same : Both-tell-same (sheet-of room-exchange) (job-before room-excha
 unfolding Both-tell-same Tells-same definitions room-exchange
 room-tells-same = (λ t. true-not-false t refl, λ t. true-not-false t refl)
 
--- what holds of no operation of a list, nor of what stands behind it, holds of none at any place
-nowhere : (f : Op → Bool) (os : List Op) (r : ℕ) → all (λ o. not (f o)) os ≡ true → f no-op ≡ false → f (getD os r no-op) ≡ false
-unfolding all
-nowhere f [] r h n = n
-nowhere f (o ∷ os) zero h n = not-true (f o) (and-left (not (f o)) (all (λ o. not (f o)) os) h)
-nowhere f (o ∷ os) (suc r) h n = nowhere f os r (and-right (not (f o)) (all (λ o. not (f o)) os) h) n
-
-abbrev pub is-any-receive : Op → Bool
-is-any-receive o = is-receive o && is-any-source o
-
 any-probe-no-race : No-race is-any-receive (sheet-of any-probe-exchange) (job-before any-probe-exchange) 0 1
-unfolding No-race definitions any-probe-exchange
+unfolding No-race definitions none-of is-any-receive any-probe-exchange
 any-probe-no-race r u v m n c f g =
-    true-not-false c (nowhere is-any-receive (sheet-of any-probe-exchange .ops) r refl refl)
+    true-not-false c (none-at is-any-receive (sheet-of any-probe-exchange .ops) r refl refl)
 
 -- THE LAWS: with the other conditions of Harmless alone a query's step may not be exchanged
 pub query-step-matters : Swap-where (λ s x p q. Goes-on s x p q × No-race is-any-source s x p q × Both-keep-same s x p q) → ⊥
 unfolding query-exchange
 query-step-matters =
-    harm-refutes (λ s x p q. Goes-on s x p q × No-race is-any-source s x p q × Both-keep-same s x p q) query-exchange query-apart
+    harm-refutes _ query-exchange query-apart
     (query-goes-on, query-no-race, query-keeps-same)
 
 -- nor two sends that race for an any-source probe, though they race for no receive
@@ -164,12 +150,11 @@ pub probe-race-matters :
     Swap-where (λ s x p q. Goes-on s x p q × No-race is-any-receive s x p q × Both-tell-same s x p q × Both-keep-same s x p q) → ⊥
 unfolding any-probe-exchange
 probe-race-matters =
-    harm-refutes (λ s x p q. Goes-on s x p q × No-race is-any-receive s x p q × Both-tell-same s x p q × Both-keep-same s x p q)
-    any-probe-exchange any-probe-apart (any-probe-goes-on, any-probe-no-race, any-probe-tells-same, any-probe-keeps-same)
+    harm-refutes _ any-probe-exchange any-probe-apart (any-probe-goes-on, any-probe-no-race, any-probe-tells-same, any-probe-keeps-same)
 
 -- nor a standard send whose room the other step frees (document 02, K6)
 pub room-step-matters : Swap-where (λ s x p q. Goes-on s x p q × No-race is-any-source s x p q × Both-tell-same s x p q) → ⊥
 unfolding room-exchange
 room-step-matters =
-    harm-refutes (λ s x p q. Goes-on s x p q × No-race is-any-source s x p q × Both-tell-same s x p q) room-exchange room-apart
+    harm-refutes _ room-exchange room-apart
     (room-goes-on, room-no-race, room-tells-same)

@@ -1,7 +1,7 @@
 -- What is promised of job sheets, in the order of document 01: demand 2 (how boards step), run, demand 3 (orders). Each claim
 -- stands in plain words and then in antt, over `rules` only. ProbeStatements has what is promised of probes and queries,
--- ServiceStatements the same of the services. Theorems proves each under its name in small letters. Assumes nothing: these are
--- statements.
+-- ExchangeStatements which two steps may trade places where receives are from any source, ServiceStatements the same of the
+-- services. Theorems proves each under its name in small letters. Assumes nothing: these are statements.
 use mathlib.Core.Path.{_≡_}
 use mathlib.Core.Logic.{_⊎_, _≢_, _↔_}
 use mathlib.Core.Bool.{Bool, true, false, _&&_, _||_, cond}
@@ -12,13 +12,13 @@ use lib.Dec.{ltb, leb, eqb}
 use lib.ListN.{length, getD, drop}
 use Rattle.rules.specs.Limits.{absent, order-room}
 use Rattle.rules.specs.Sheet.{Sheet, op, board, sheet-in, P-of, N-of, rank-of, inbox-total, is-send, is-receive, is-standard, is-buffered, is-ready}
-use Rattle.rules.specs.Sheet.{takes-slot, frees-slot, tells-completion}
+use Rattle.rules.specs.Sheet.{takes-slot, frees-slot}
 use Rattle.rules.specs.Job.{Job, Entry, Stop, Store, in-attached, in-use-at, peak-at, entry, entry-at, place-at, started, with-stop, with-steps}
-use Rattle.rules.specs.Step.{able, step, next-op, waited, complete-if, in-waiting-half, is-finished, fits-with, is-cut, copied, area-start}
-use Rattle.rules.specs.Step.{kept-in, size-of, charge-of, fits-room}
+use Rattle.rules.specs.Step.{able, step, waited, is-finished, fits-with, is-cut, copied, area-start}
+use Rattle.rules.specs.Step.{kept-in, size-of, charge-of}
 use Rattle.rules.specs.Order.{follow, run, none-able}
 use Rattle.rules.specs.Report.{verdict-of, count-from, pending-messages, pending-receives, cut-messages}
-use Rattle.rules.specs.Claims.{passes, is-any-source, accepts, left-by, Alike, Given}
+use Rattle.rules.specs.Claims.{passes, accepts, left-by, Alike, Given}
 
 -- What every claim is given: a sheet that passes check, and inbox room enough. Nothing is asked of the order: the claims hold of
 -- what the steps before a refusal left, too.
@@ -337,43 +337,5 @@ Swap-same =
     (bs i before after : List ℕ) (p q : ℕ) → Given bs i →
     let s = sheet-in bs in
     accepts s before i ≡ true → p ≢ q → able s (left-by s before i) p ≡ true → able s (left-by s before i) q ≡ true →
-    (follow s (before ++ (p ∷ q ∷ after)) i .refused-at ≡ follow s (before ++ (q ∷ p ∷ after)) i .refused-at)
-    × Alike s (left-by s (before ++ (p ∷ q ∷ after)) i) (left-by s (before ++ (q ∷ p ∷ after)) i)
-
--- A query that is p's next step tells the same before q's step and after it.
-unfoldable pub Tells-same : Sheet → Job → (p q : ℕ) → Type 0
-Tells-same s x p q =
-    tells-completion (op s (next-op s x p)) ≡ true →
-    complete-if (step s q x) (waited s (next-op s x p)) ≡ complete-if x (waited s (next-op s x p))
-
--- A standard send that p's next step initiates is buffered before q's step exactly if it is after it (document 02, K6). On a sheet
--- whose rooms are 0 or cover all it always is so.
-unfoldable pub Keeps-same : Sheet → Job → (p q : ℕ) → Type 0
-Keeps-same s x p q =
-    in-waiting-half s x p ≡ false → is-standard (op s (next-op s x p)) ≡ true →
-    fits-room s p (next-op s x p) (step s q x) ≡ fits-room s p (next-op s x p) x
-
--- Swap-same's claim on any sheet, any-source receives and probes, queries, ready sends, small buffers and small rooms included,
--- where the exchange is harmless: the two steps stop the job in neither order, they do not enter two messages that one any-source
--- receive or probe fits (as two sends to one board and communicator whose script has such an operation may), a query among them
--- tells the same before the other step and after it, and a standard send among them is buffered before it exactly if it is after it.
-pub record Harmless (s : Sheet) (x : Job) (p q : ℕ) : Type 0 where
-  pub goes-on : step s q (step s p x) .stop ≡ none
-  pub goes-on-swapped : step s p (step s q x) .stop ≡ none
-  pub no-race :
-      (r : ℕ) → in-waiting-half s x p ≡ false → in-waiting-half s x q ≡ false →
-      is-send (op s (next-op s x p)) ≡ true → is-send (op s (next-op s x q)) ≡ true → is-any-source (op s r) ≡ true →
-      fits-with s (next-op s x p) r ≡ true → fits-with s (next-op s x q) r ≡ true → ⊥
-  pub tells-same : Tells-same s x p q
-  pub tells-same-swapped : Tells-same s x q p
-  pub keeps-same : Keeps-same s x p q
-  pub keeps-same-swapped : Keeps-same s x q p
-
-unfoldable pub Swap-general : Type 0
-Swap-general =
-    (bs i before after : List ℕ) (p q : ℕ) → Lent bs i →
-    let s = sheet-in bs in
-    accepts s before i ≡ true → p ≢ q → able s (left-by s before i) p ≡ true → able s (left-by s before i) q ≡ true →
-    Harmless s (left-by s before i) p q →
     (follow s (before ++ (p ∷ q ∷ after)) i .refused-at ≡ follow s (before ++ (q ∷ p ∷ after)) i .refused-at)
     × Alike s (left-by s (before ++ (p ∷ q ∷ after)) i) (left-by s (before ++ (q ∷ p ∷ after)) i)

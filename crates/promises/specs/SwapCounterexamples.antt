@@ -28,7 +28,8 @@ use Rattle.rules.specs.BenchProbes.{any-probe-sheet, query-sheet}
 use Rattle.rules.specs.BenchStandard.{some-covered-sheet}
 use Rattle.rules.specs.Definitions.{definitions}
 use Rattle.laws.specs.Tests.{and-left, and-right, true-not-false}
-use Rattle.promises.specs.Counterexamples.{no-any-source, no-ready, no-query, covered, no-any-receive, lengths-calm, all-lengths}
+use Rattle.promises.specs.Counterexamples.{no-any-source, no-ready, covered, no-any-receive, lengths-calm, all-lengths}
+use Rattle.promises.specs.ExchangeStatements.{none-of, is-any-receive, no-query}
 use Rattle.promises.specs.Counterexamples.{two-buffered, uncovered-sheet, lengths-sheet, same-refl}
 
 -- demand 3's claim about exchanged steps, on the sheets that pass a test
@@ -64,7 +65,7 @@ job-before e = left-by (sheet-of e) (e .before) (e .inbox)
 abbrev pub job-after : Exchange → (p q : ℕ) → Job
 job-after e p q = left-by (sheet-of e) (e .before ++ (p ∷ q ∷ e .after)) (e .inbox)
 
-abbrev report-after : Exchange → (p q : ℕ) → List ℕ
+abbrev pub report-after : Exchange → (p q : ℕ) → List ℕ
 report-after e p q = without-peaks (second-of e) (P-of (sheet-of e)) (report (second-of e) (sheet-of e) (job-after e p q))
 
 abbrev passing : (Sheet → Bool) → Exchange → Bool
@@ -230,31 +231,31 @@ lengths-exchange =
     }
 
 any-source-apart : swaps-apart (λ s. (no-ready s && no-query s) && covered s) any-source-exchange ≡ true
-unfolding definitions swaps-apart no-ready no-query covered any-source-exchange
+unfolding definitions none-of swaps-apart no-ready no-query covered any-source-exchange
 any-source-apart = refl
 
 any-probe-apart : swaps-apart (λ s. ((no-any-receive s && no-ready s) && no-query s) && covered s) any-probe-exchange ≡ true
-unfolding definitions swaps-apart no-any-receive no-ready no-query covered any-probe-exchange
+unfolding definitions none-of is-any-receive swaps-apart no-any-receive no-ready no-query covered any-probe-exchange
 any-probe-apart = refl
 
 ready-apart : swaps-apart (λ s. (no-any-source s && no-query s) && covered s) ready-exchange ≡ true
-unfolding definitions swaps-apart no-any-source no-query covered ready-exchange
+unfolding definitions none-of swaps-apart no-any-source no-query covered ready-exchange
 ready-apart = refl
 
 query-apart : swaps-apart (λ s. (no-any-source s && no-ready s) && covered s) query-exchange ≡ true
-unfolding definitions swaps-apart no-any-source no-ready covered query-exchange
+unfolding definitions none-of swaps-apart no-any-source no-ready covered query-exchange
 query-apart = refl
 
 uncovered-apart : swaps-apart (λ s. ((no-any-source s && no-ready s) && no-query s) && rooms-cover s) uncovered-exchange ≡ true
-unfolding definitions swaps-apart no-any-source no-ready no-query uncovered-exchange two-buffered
+unfolding definitions none-of swaps-apart no-any-source no-ready no-query uncovered-exchange two-buffered
 uncovered-apart = refl
 
 room-apart : swaps-apart (λ s. ((no-any-source s && no-ready s) && no-query s) && all-covered s) room-exchange ≡ true
-unfolding definitions swaps-apart no-any-source no-ready no-query room-exchange
+unfolding definitions none-of swaps-apart no-any-source no-ready no-query room-exchange
 room-apart = refl
 
 lengths-apart : swaps-apart lengths-calm lengths-exchange ≡ true
-unfolding definitions swaps-apart lengths-calm no-any-source no-ready no-query all-lengths lengths-exchange two-buffered
+unfolding definitions none-of swaps-apart lengths-calm no-any-source no-ready no-query all-lengths lengths-exchange two-buffered
 lengths-apart = refl
 
 -- THE LAWS: what calm still asks when one of its conditions is dropped

@@ -16,7 +16,10 @@
 --   Reported      demand 2 of the services
 --   Replays       the order that a run wrote, followed
 --   Editions      sheets without rooms, in both editions
---   SwapSame      exchanged steps
+--   SwapGeneral   harmless steps exchanged, on any sheet
+--   SwapAnySource exchanged steps where receives are from any source
+--   SwapSame      exchanged steps on calm sheets
+--   Classes       orders that exchanges lead to one another
 pub mod Deliveries
 pub mod Verdicts
 pub mod RequestsLeft
@@ -31,7 +34,10 @@ pub mod Calls
 pub mod ReportTells
 pub mod Services
 pub mod EndsAlike
+pub mod SwapGeneral
+pub mod SwapAnySource
 pub mod SwapSame
+pub mod Classes
 pub mod Reported
 pub mod Replays
 pub mod Editions

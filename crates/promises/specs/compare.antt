@@ -12,6 +12,7 @@
 --   TwoRooms              one order on two inbox rooms
 --   Exchange              two able steps exchanged
 --   CalmSheets            calm sheets never stop
+--   ScriptTests           tests of the operations of a list and of a script
 --   EveryEnd              every order stays behind every full one
 pub mod Behind
 pub mod NewlyKept
@@ -26,4 +27,5 @@ pub mod WholeOrders
 pub mod TwoRooms
 pub mod Exchange
 pub mod CalmSheets
+pub mod ScriptTests
 pub mod EveryEnd

@@ -32,8 +32,11 @@ struct Manner {
     stray: usize,
     /// Messages of a board to itself.
     to_oneself: usize,
-    /// Receives from any source.
+    /// Messages of other boards to the last one.
+    to_last: usize,
+    /// Receives from any source, and the lowest communicator that has them.
     any_source: usize,
+    any_source_on: u16,
     /// Receives that come with a probe.
     probes: usize,
     /// Probes from any source.
@@ -106,10 +109,12 @@ fn manner(random: &mut Random, calm: bool) -> Manner {
         displaced: random.pick(&[0, 0, 0, 10, 40]),
         stray: random.pick(&[0, 0, 0, 5, 20]),
         to_oneself: random.pick(&[0, 0, 5, 20]),
+        to_last: 0,
         any_source: match calm {
             true => 0,
             false => random.pick(&[0, 10, 40, 100]),
         },
+        any_source_on: 0,
         probes: random.pick(&[0, 0, 0, 30, 70]),
         any_source_probes: match calm {
             true => 0,
@@ -142,6 +147,7 @@ pub fn nearly_calm(random: &mut Random) -> Sheet {
     let manner = Manner {
         boards: random.between(3, 4),
         communicators: random.pick(&[1, 1, 2]),
+        to_last: random.pick(&[0, 60, 90]),
         probes,
         any_source_probes: 80,
         queries,
@@ -160,8 +166,32 @@ pub fn nearly_covered(random: &mut Random) -> Sheet {
         messages: random.between(4, 14),
         stray: random.pick(&[10, 20, 30]),
         displaced: random.pick(&[0, 10, 40]),
+        to_last: random.pick(&[0, 60, 90]),
         kinds: STANDARD_MOSTLY,
         rooms: Rooms::Any,
+        ..manner(random, true)
+    };
+    sheet(random, &manner)
+}
+
+/// With receives from any source, and neither queries nor probes from any source;
+/// buffers and rooms mostly cover, and sends may be ready ones.
+pub fn from_any_source(random: &mut Random) -> Sheet {
+    let manner = Manner {
+        boards: random.between(3, 4),
+        messages: random.between(2, 10),
+        communicators: random.pick(&[1, 1, 2, 3]),
+        to_last: random.pick(&[0, 60, 90]),
+        calm: random.chance(60),
+        any_source: random.pick(&[20, 50, 100]),
+        any_source_on: random.pick(&[0, 0, 1]),
+        kinds: random.pick(&[
+            WITHOUT_READY,
+            WITHOUT_READY,
+            ALL_KINDS,
+            &[BUFFERED],
+            UNBUFFERED,
+        ]),
         ..manner(random, true)
     };
     sheet(random, &manner)
@@ -256,6 +286,7 @@ fn wishes(random: &mut Random, manner: &Manner) -> Vec<Vec<Operation>> {
     for _ in 0..manner.messages {
         let source = random.below(manner.boards);
         let destination = match manner.boards > 1 && !random.chance(manner.to_oneself) {
+            true if random.chance(manner.to_last) => manner.boards - 1,
             true => (source + random.between(1, manner.boards - 1)) % manner.boards,
             false => source,
         };
@@ -315,7 +346,7 @@ fn pair(
     if random.chance(30) {
         receive.tag = ANY;
     }
-    if random.chance(manner.any_source) {
+    if send.communicator >= manner.any_source_on && random.chance(manner.any_source) {
         receive.peer = ANY;
     }
     (send, receive)

@@ -293,6 +293,12 @@ impl<'a> Job<'a> {
         room > 0 && self.boards[rank].standard.in_use + length <= room
     }
 
+    /// Whether a standard send has a room above 0 that does not hold it now.
+    pub fn lacks_room(&self, rank: usize, index: usize) -> bool {
+        let standard = self.script.operations[index].kind == kind::STANDARD;
+        standard && self.script.boards[rank].room > 0 && !self.has_room(rank, index)
+    }
+
     /// Both are complete; a charged message is no longer charged.
     fn match_up(&mut self, message: usize, receive: usize) {
         if self.states[message] == State::Buffered {

@@ -36,8 +36,9 @@ mod script;
 mod services;
 
 pub use check::check;
-pub use orders::{after, each_probe, each_search, each_standard_send, order_by};
-pub use orders::{After, Probe, Search, StandardSend};
+pub use orders::{after, after_each, neighbours, order_by};
+pub use orders::{each_probe, each_search, each_standard_send};
+pub use orders::{After, Neighbours, Probe, Search, StandardSend};
 pub use premise::premise;
 pub use rooms::{Needs, Rooms, SCRATCH_ROOM};
 pub use services::{follow, needs, run};

@@ -3,6 +3,7 @@
 use super::job::Job;
 use super::script::Script;
 use crate::layout::kind;
+use std::ops::Range;
 
 /// The order that `choose` makes of an accepted sheet: it is asked before
 /// each step which of the able ranks steps, and stops with none. The order
@@ -45,18 +46,72 @@ pub struct After {
     pub able: Vec<u8>,
     /// The operation that each board has come to; none if it is finished.
     pub at: Vec<Option<usize>>,
+    /// The operation that the next step of each board initiates, if it does.
+    pub initiated: Vec<Option<usize>>,
+    /// That is a standard send which its board's room does not hold.
+    pub lacks_room: Vec<bool>,
     /// A step has stopped the job.
     pub stopped: bool,
 }
 
+impl After {
+    fn of(job: &Job) -> After {
+        let ranks = 0..job.boards.len();
+        let lacks_room =
+            |rank| initiated(job, rank).is_some_and(|index| job.lacks_room(rank, index));
+        After {
+            able: able(job),
+            at: ranks.clone().map(|rank| job.at(rank)).collect(),
+            initiated: ranks.clone().map(|rank| initiated(job, rank)).collect(),
+            lacks_room: ranks.map(lacks_room).collect(),
+            stopped: job.stop.is_some(),
+        }
+    }
+}
+
 pub fn after(sheet: &[u8], order: &[u8]) -> After {
     let script = Script::read(sheet);
+    After::of(&walk(&script, order, |_, _, _| {}))
+}
+
+/// Where each beginning of an order that follow accepts leaves the boards, from
+/// one length on up to another.
+pub fn after_each(sheet: &[u8], order: &[u8], lengths: Range<usize>) -> Vec<After> {
+    let script = Script::read(sheet);
+    let mut all = Vec::new();
+    walk(&script, &order[..lengths.end], |job, steps, _| {
+        if lengths.contains(&steps) {
+            all.push(After::of(job));
+        }
+    });
+    all
+}
+
+/// The next steps of two able ranks, after an order that follow accepts.
+pub struct Neighbours {
+    /// The operation that each rank has come to.
+    pub at: [usize; 2],
+    /// The operation that each step initiates, if it does.
+    pub initiated: [Option<usize>; 2],
+    /// A step stops the job, in the one order of the two or in the other.
+    pub stop: bool,
+}
+
+pub fn neighbours(sheet: &[u8], order: &[u8], ranks: [u8; 2]) -> Neighbours {
+    let script = Script::read(sheet);
+    let ranks = ranks.map(usize::from);
     let job = walk(&script, order, |_, _, _| {});
-    let ranks = 0..job.boards.len();
-    After {
-        able: able(&job),
-        at: ranks.map(|rank| job.at(rank)).collect(),
-        stopped: job.stop.is_some(),
+    let stops = |ranks: [usize; 2]| {
+        let mut job = walk(&script, order, |_, _, _| {});
+        ranks.into_iter().any(|rank| {
+            job.step(rank);
+            job.stop.is_some()
+        })
+    };
+    Neighbours {
+        at: ranks.map(|rank| job.at(rank).expect("the rank is able")),
+        initiated: ranks.map(|rank| initiated(&job, rank)),
+        stop: stops(ranks) || stops([ranks[1], ranks[0]]),
     }
 }
 
@@ -158,6 +213,12 @@ pub fn each_standard_send(sheet: &[u8], order: &[u8], mut show: impl FnMut(Stand
             });
         }
     });
+}
+
+/// The operation that the next step of a rank initiates, if it does.
+fn initiated(job: &Job, rank: usize) -> Option<usize> {
+    let at = job.at(rank)?;
+    job.searches(rank).map(|_| at)
 }
 
 fn able(job: &Job) -> Vec<u8> {

@@ -5,15 +5,16 @@
 //! On sheets that only their any-source probes, their queries (K9) or their rooms
 //! leave out, orders that end otherwise are counted.
 
+use super::exchangeable::exchangeable;
 use super::{orders, Trial};
 use crate::buffers::Buffered;
 use crate::compare::Call;
 use crate::desk::Desk;
 use crate::editions::Standard;
-use crate::layout::{board_row, kind, operation, word, Edition, ANY};
-use crate::random::Random;
+use crate::exchanges::{has_any_source, Exchange, KEPT_OUT};
+use crate::layout::{board_row, kind, word, Edition};
 use crate::requests_left::reading::{operations, state_of};
-use crate::sheet::{boards, field_of, kind_of};
+use crate::sheet::{boards, kind_of};
 use crate::{judge, probes};
 use jamturret::lent::Answer;
 
@@ -30,19 +31,15 @@ pub struct Against {
 }
 
 pub fn against(sheet: &[u8]) -> Against {
-    let kind = |index: usize| kind_of(sheet, index);
-    let any_source = |index: usize| field_of(sheet, index, operation::PEER) == usize::from(ANY);
-    let from_any =
-        |asks: u8| operations(sheet).any(|index| kind(index) == asks && any_source(index));
     let uncovered = |rank| {
         let board = Buffered::of(sheet, rank);
         board.charges > board.attached
     };
     Against {
-        transfers: from_any(kind::RECEIVE)
+        transfers: has_any_source(sheet, kind::RECEIVE)
             || probes::has(sheet, kind::READY)
             || (0..boards(sheet)).any(uncovered),
-        probes: from_any(kind::PROBE),
+        probes: has_any_source(sheet, kind::PROBE),
         queries: probes::has(sheet, kind::QUERY),
         rooms: (0..boards(sheet)).any(|rank| Standard::of(sheet, rank).uncovered()),
     }
@@ -81,8 +78,26 @@ impl Trial<'_> {
             self.counts.roomy_orders += u64::from(used_room(&ran));
         }
         for _ in 0..EXCHANGES {
-            self.exchange(&before)?;
+            self.exchange_calm(&before)?;
         }
+        Ok(())
+    }
+
+    /// Two neighbouring steps exchanged on a sheet that demand 3 speaks of: a case of
+    /// the claim about sheets with receives from any source (K14).
+    fn exchange_calm(&mut self, before: &Desk) -> Result<(), String> {
+        let Some((order, index)) = exchangeable(self.sheet, &mut self.random) else {
+            return Ok(());
+        };
+        let exchange = Exchange::new(self.sheet, &order, index);
+        if exchange.kept_out() != [false; KEPT_OUT.len()] {
+            return Err(format!("steps {index} and the next are kept out"));
+        }
+        let one = self.exchange(&exchange, before)?;
+        let accepted = one.answer == Answer::SUCCESS;
+        self.counts.exchanged[usize::from(!accepted)] += 1;
+        self.counts.exchanged_probes += u64::from(exchange.probes());
+        self.counts.exchanged_roomy += u64::from(accepted && used_room(&one.desk));
         Ok(())
     }
 
@@ -110,29 +125,6 @@ impl Trial<'_> {
         let ended = self.ask(&call, before)?.desk;
         Ok((call, ended.without_peaks() == ran.without_peaks()))
     }
-
-    fn exchange(&mut self, before: &Desk) -> Result<(), String> {
-        let Some((order, index)) = exchangeable(self.sheet, &mut self.random) else {
-            return Ok(());
-        };
-        let mut exchanged = order.clone();
-        exchanged.swap(index, index + 1);
-        let probes = steps_a_probe(self.sheet, &order, index);
-        let one = self.ask(&Call::Follow(order), before)?;
-        let call = Call::Follow(exchanged);
-        let other = self.ask(&call, before)?;
-        let alike = one.answer == other.answer
-            && (one.answer != Answer::SUCCESS
-                || one.desk.without_peaks() == other.desk.without_peaks());
-        self.counts.exchanged[usize::from(one.answer != Answer::SUCCESS)] += 1;
-        self.counts.exchanged_probes += u64::from(probes);
-        let accepted = one.answer == Answer::SUCCESS;
-        self.counts.exchanged_roomy += u64::from(accepted && used_room(&one.desk));
-        match alike {
-            true => Ok(()),
-            false => Err(format!("{call}: steps {index} and the next exchanged")),
-        }
-    }
 }
 
 /// Whether a report tells a finished probe.
@@ -147,49 +139,4 @@ fn used_room(desk: &Desk) -> bool {
     let boards = usize::from(word(&desk.report, 6));
     let peak = |rank| desk.figure(rank, board_row::STANDARD_PEAK);
     desk.edition == Edition::Second && (0..boards).any(|rank| peak(rank) > 0)
-}
-
-/// Whether one of the two steps from an index on is a probe's.
-fn steps_a_probe(sheet: &[u8], order: &[u8], index: usize) -> bool {
-    let after = judge::after(sheet, &order[..index]);
-    let at = |rank: &u8| after.at[usize::from(*rank)];
-    let mut steps = order[index..index + 2].iter().filter_map(at);
-    steps.any(|operation| kind_of(sheet, operation) == kind::PROBE)
-}
-
-/// An order and an index in it: the beginning before the index is accepted,
-/// and the next two ranks differ and are both able there. What stands after
-/// them is nothing, right, or any ranks.
-fn exchangeable(sheet: &[u8], random: &mut Random) -> Option<(Vec<u8>, usize)> {
-    let whole = orders::whole(sheet, random);
-    let index = random.between(0, whole.len());
-    let able = judge::after(sheet, &whole[..index]).able;
-    if able.len() < 2 {
-        return None;
-    }
-    let one = random.pick(&able);
-    let other = random.pick(&able);
-    if one == other {
-        return None;
-    }
-    let mut order = [&whole[..index], &[one, other]].concat();
-    match random.below(3) {
-        0 => {}
-        1 => order.extend(&whole[index..]),
-        _ => order = continued(sheet, &order, random),
-    }
-    Some((order, index))
-}
-
-/// Able ranks after a beginning, to the end or not.
-fn continued(sheet: &[u8], beginning: &[u8], random: &mut Random) -> Vec<u8> {
-    let mut choose = orders::chooser(random);
-    let mut taken = 0;
-    let most = beginning.len() + random.pick(&[1, 3, 3000]);
-    judge::order_by(sheet, |able| {
-        let forced = beginning.get(taken).copied();
-        taken += 1;
-        let rank = forced.unwrap_or_else(|| choose(able));
-        (taken <= most && able.contains(&rank)).then_some(rank)
-    })
 }

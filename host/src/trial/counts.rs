@@ -3,6 +3,7 @@
 use super::{KINDS, ORDERS};
 use crate::command::tally;
 use crate::compare::{Call, Outcome};
+use crate::exchanges::{KEPT_OUT, TRADED};
 use crate::layout::word;
 use crate::{areas, buffers, editions, lengths, probes, requests_left, searched};
 use jamturret::lent::Answer;
@@ -58,6 +59,13 @@ pub struct Counts {
     /// Whole orders and exchanges after which a room was in use.
     pub roomy_orders: u64,
     pub exchanged_roomy: u64,
+    /// Exchanges of K14's claim that make each case around it.
+    traded: [u64; TRADED.len()],
+    /// Exchanges that one thing alone keeps out of it, and those of them whose
+    /// orders end otherwise.
+    kept_out: [[u64; 2]; KEPT_OUT.len()],
+    /// Orders that several exchanges of it lead to, with a receive from any source.
+    pub one_class: u64,
     /// Calls of edition 1 that were made of the twin in edition 2 too.
     pub twins: u64,
     /// Orders that do not end alike with run, of sheets that only their
@@ -99,6 +107,14 @@ impl Counts {
         self.cut += at(14);
     }
 
+    pub fn traded(&mut self, found: [bool; TRADED.len()]) {
+        tally(&mut self.traded, found);
+    }
+
+    pub fn kept_out(&mut self, which: usize, differs: bool) {
+        tally(&mut self.kept_out[which], [true, differs]);
+    }
+
     pub fn order(&mut self, which: usize, answer: Answer) {
         let column = match (answer.number, answer.place) {
             (0, _) => 0,
@@ -130,6 +146,14 @@ impl Counts {
         let others = others.chain([self.probed_orders, self.exchanged_probes]);
         let others = others.chain([self.roomy_orders, self.exchanged_roomy]);
         columns.chain(wrong).chain(others).min().unwrap_or(0)
+    }
+
+    /// The smallest count of a case around exchanged steps, of orders of one class, and
+    /// of exchanges kept out that end otherwise: these are seldom.
+    pub fn least_of_exchanges(&self) -> u64 {
+        let differ = self.kept_out.iter().map(|[_, differ]| *differ);
+        let cases = differ.chain(self.traded).chain([self.one_class]);
+        cases.min().unwrap_or(0)
     }
 
     /// The smallest count of a case around long scripts, which are seldom made.
@@ -173,8 +197,10 @@ impl fmt::Display for Counts {
         let probes = probes::CALLED.iter().zip(self.probes.0);
         let editions = editions::CALLED.iter().zip(self.editions.0);
         let searched = searched::CALLED.iter().zip(self.searched);
+        let traded = TRADED.iter().zip(self.traded);
         let cases = buffers.chain(areas).chain(lengths).chain(requests);
-        for (name, count) in cases.chain(probes).chain(editions).chain(searched) {
+        let others = probes.chain(editions).chain(searched).chain(traded);
+        for (name, count) in cases.chain(others) {
             writeln!(out, "{name:<48}{count:>8}")?;
         }
         self.claims(out)
@@ -205,6 +231,17 @@ impl Counts {
             "of these {} orders and {} exchanges have a probe's step, {} and {} used a room",
             self.probed_orders, self.exchanged_probes, self.roomy_orders, self.exchanged_roomy
         )?;
+        writeln!(
+            out,
+            "{} orders with receives from any source end alike with another of their class",
+            self.one_class
+        )?;
+        for (name, [tried, differ]) in KEPT_OUT.iter().zip(self.kept_out) {
+            writeln!(
+                out,
+                "exchanges that {name} alone keeps out: {tried}, of which {differ} end otherwise"
+            )?;
+        }
         writeln!(
             out,
             "{} calls of edition 1 end as those of edition 2 with rooms of 0",

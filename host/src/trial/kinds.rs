@@ -9,8 +9,8 @@ use crate::traffic;
 type Generator = fn(&mut Random) -> Vec<u8>;
 
 /// Name, how many of a hundred cases, generator.
-pub const KINDS: [(&str, usize, Generator); 12] = [
-    ("calm, small", 20, |random| {
+pub const KINDS: [(&str, usize, Generator); 13] = [
+    ("calm, small", 18, |random| {
         jobs::small(random, true).bytes()
     }),
     ("calm, medium", 4, |random| {
@@ -23,7 +23,10 @@ pub const KINDS: [(&str, usize, Generator); 12] = [
     ("calm but for rooms", 6, |random| {
         jobs::nearly_covered(random).bytes()
     }),
-    ("wild, small", 26, |random| {
+    ("receives from any source", 6, |random| {
+        jobs::from_any_source(random).bytes()
+    }),
+    ("wild, small", 22, |random| {
         jobs::small(random, false).bytes()
     }),
     ("wild, medium", 6, |random| {

@@ -5,10 +5,14 @@
 //! - `rooms`: rooms that are just right, longer or short.
 //! - `orders`: orders that are right, wrong somewhere, or go on too long.
 //! - `alike`: document 01's claim about orders (demand 3).
+//! - `exchanges`: document 02's claim about steps that trade places (K14).
+//! - `exchangeable`: two steps for it.
 //! - `counts`: what was reached.
 
 pub mod alike;
 mod counts;
+mod exchangeable;
+mod exchanges;
 mod kinds;
 mod orders;
 mod rooms;
@@ -29,6 +33,9 @@ pub use rooms::Filler;
 
 /// How many of a hundred calls of edition 1 are made of the twin too.
 const TWINS: usize = 10;
+
+/// Of how many of a hundred accepted sheets two neighbouring steps trade places.
+const TRADES: usize = 20;
 
 /// What is needed to see a difference again.
 pub struct Failure {
@@ -68,6 +75,9 @@ impl Trial<'_> {
         let Some(needs) = judge::needs(self.sheet) else {
             return self.refused_sheet();
         };
+        if self.random.chance(TRADES) {
+            return self.steps_trade();
+        }
         let against = alike::against(self.sheet);
         if against.nothing() && self.random.chance(40) {
             return self.orders_end_alike();

@@ -2,11 +2,13 @@
 -- answer is the order's, and on success inbox and report hold what the job left.
 --   Follow-answer, follow-answer     of a call of follow
 --   follow-accepted ..               and of one that answered 0
+--   left-kept, follow-kept           and of one that was refused
 --   Run-answer, run-answer           of a call of run
 --   follow-lent, run-lent            so the claims of Statements hold of it
 --   front-report                     the report at the front of its room
 -- Assumes nothing.
 use mathlib.Core.Path.{_≡_, refl, sym, ap, _∙_}
+use mathlib.Core.Logic.{_≢_}
 use mathlib.Core.Bool.{true}
 use mathlib.Core.List.{List}
 use mathlib.Core.Option.{Option, none, some}
@@ -15,7 +17,7 @@ use native.Mathlib.Omega.{arith}
 use lib.Dec.{eqb}
 use lib.ListN.{length, take, drop}
 use lib.Seq.{take-at}
-use borrow.Author.Tests.{eq-eqb, eqb-true}
+use borrow.Author.Tests.{eq-eqb, eqb-true, ne-eqb}
 use Rattle.rules.specs.Limits.{order-room}
 use Rattle.rules.specs.Sheet.{second-in, sheet-in, N-of, inbox-total}
 use Rattle.rules.specs.Refusal.{Refusal, refusal, or-else, sheet-refusal}
@@ -24,7 +26,7 @@ use Rattle.rules.specs.Order.{follow, run}
 use Rattle.rules.specs.Report.{report}
 use Rattle.rules.specs.Service.{answers, room-refusal, order-refusal, in-front, kept-or, follow-refusal, Follow-says, run-refusal, Run-says}
 use Rattle.rules.specs.Claims.{passes, accepts, left-by}
-use Rattle.laws.specs.Tests.{cond-true}
+use Rattle.laws.specs.Tests.{cond-true, cond-false}
 use Rattle.laws.specs.Broken.{or-else-passed, or-else-stopped}
 use Rattle.laws.specs.Rooms.{Roomy, not-eight, rooms-enough}
 use Rattle.promises.specs.Statements.{Lent}
@@ -43,7 +45,16 @@ kept-new : (n : ℕ) (new old : List ℕ) → n ≡ 0 → kept-or n new old ≡ 
 unfolding kept-or
 kept-new n new old h = cond-true (eqb n 0) new old (eq-eqb n 0 h)
 
+-- what a refusal leaves
+pub left-kept : {n number : ℕ} (new old : List ℕ) {now : List ℕ} → n ≡ number → n ≢ 0 → now ≡ kept-or number new old → now ≡ old
+unfolding kept-or
+left-kept {n} {number} new old e h k = k ∙ cond-false (eqb number 0) new old (ne-eqb number 0 (λ z. h (e ∙ z)))
+
 -- FOLLOW
+pub follow-kept : {bs o : List ℕ} (f : Follow-call bs o) → f .number ≢ 0 → (f .inbox-now ≡ f .inbox) × (f .report-now ≡ f .report)
+unfolding Follow-says answers
+follow-kept f h = (left-kept _ (f .inbox) (f .said .0 .0) h (f .said .1), left-kept _ (f .report) (f .said .0 .0) h (f .said .2))
+
 pub record Follow-answer {bs o : List ℕ} (f : Follow-call bs o) : Type 0 where
   pub inbox-room : inbox-total (sheet-in bs) ≤ length (f .inbox)
   pub number-is : f .number ≡ order-refusal (follow (sheet-in bs) o (f .inbox) .refused-at) .number

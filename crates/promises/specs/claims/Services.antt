@@ -1,10 +1,12 @@
 -- Demand 3 of the services, from demand 3 of the orders: calls whose inboxes start with the same bytes end alike, whatever
 -- the rooms' lengths and what stands beyond, since nothing in the inboxes influences a step.
---   follows-alike, run-alike, follow-swaps
--- Assumes nothing: what it takes from the orders (Ends-alike, Swap-same, Run-ends) is an argument of each law.
+--   follows-alike, run-alike
+--   calls-same                 two orders with one outcome: calls that answer and leave the same
+--   follow-swaps, follow-swaps-any-source, follow-same-class
+-- Assumes nothing: what it takes from the orders (Ends-alike, Run-ends and the laws about exchanges) is an argument of each law.
 use mathlib.Core.Path.{_≡_, sym, ap, _∙_}
 use mathlib.Core.Bool.{Bool, true}
-use mathlib.Core.List.{List, _∷_, _++_}
+use mathlib.Core.List.{List}
 use mathlib.Core.Option.{Option}
 use Prim.Native.Nat.{ℕ, _≤_}
 use lib.ListN.{length, take}
@@ -18,6 +20,7 @@ use Rattle.rules.specs.Service.{in-front, order-refusal}
 use Rattle.rules.specs.Claims.{passes, calm, accepts, left-by, without-peaks, Alike, Given}
 use Rattle.promises.specs.Statements.{Lent, Ends, Run-ends, Ends-alike, Swap-same}
 use Rattle.promises.specs.ServiceStatements.{Follow-call, Run-call, Same-start, Left-alike, Follows-alike, Run-alike, Follow-swaps}
+use Rattle.promises.specs.ExchangeStatements.{Same-outcome, Swap-any-source, Same-class, Answered-alike, Follow-swaps-any-source, Follow-same-class}
 use Rattle.laws.specs.SpliceOrder.{Near}
 use Rattle.promises.specs.compare.ReportBytes.{report-length}
 use Rattle.promises.specs.compare.PeaksAside.{equal-report, equal-none-able}
@@ -28,7 +31,7 @@ use Rattle.promises.specs.compare.SamePositions.{Same-positions, positio
 use Rattle.promises.specs.compare.WholeOrders.{Left-same-positions}
 use Rattle.promises.specs.compare.TwoRooms.{rooms-same-positions, positions-near}
 use Rattle.promises.specs.claims.OneJob.{lent-valid, lent-reached}
-use Rattle.promises.specs.claims.Calls.{follow-answer, follow-lent, follow-accepted, follow-inbox, follow-report, front-report, run-answer, run-lent}
+use Rattle.promises.specs.claims.Calls.{follow-answer, follow-lent, follow-kept, follow-accepted, follow-inbox, follow-report, front-report, run-answer, run-lent}
 
 -- ALIKE AS FAR AS THE SHEET'S OWN ROOM GOES
 record Alike-front (s : Sheet) (x y : Job) : Type 0 where
@@ -197,37 +200,49 @@ run-alike ends runs bs a f g p c same zero-f full = (
     full-there : none-able (sheet-in bs) (left-by (sheet-in bs) a (g .inbox)) ≡ true
     full-there = two-none-able here there same a full
 
+-- two orders with one outcome: calls that answer and leave the same
+module _ {bs a b : List ℕ} (pass : passes bs ≡ true) (f : Follow-call bs a) (g : Follow-call bs b) (same : Same-start bs (f .inbox) (g .inbox))
+    (outcome : Same-outcome (sheet-in bs) (f .inbox) a b) where
+  here : Lent bs (f .inbox)
+  here = follow-lent pass f
+
+  there : Lent bs (g .inbox)
+  there = follow-lent pass g
+
+  refused : follow (sheet-in bs) a (f .inbox) .refused-at ≡ follow (sheet-in bs) b (g .inbox) .refused-at
+  unfolding Same-outcome
+  refused = outcome .0 ∙ two-refused here there same b
+
+  number-same : f .number ≡ g .number
+  number-same =
+      follow-answer pass f .number-is ∙ ap (λ (o : Option ℕ). order-refusal o .number) refused ∙ sym (follow-answer pass g .number-is)
+
+  pub calls-same : Answered-alike f g
+  unfolding Same-outcome
+  calls-same =
+      record {
+        number = number-same;
+        place =
+            follow-answer pass f .place-is ∙ ap (λ (o : Option ℕ). order-refusal o .place) refused ∙ sym (follow-answer pass g .place-is);
+        left =
+            λ zero-f. shown-alike bs (follow-shows pass f zero-f) (follow-shows pass g (sym number-same ∙ zero-f))
+            (front-next (front-alike (outcome .1)) (two-alike here there same b));
+        kept = follow-kept f;
+        kept-too = λ h. follow-kept g (λ e. h (number-same ∙ e));
+      }
+
 pub follow-swaps : Swap-same → Follow-swaps
-unfolding Swap-same Follow-swaps
-follow-swaps swap bs before after p q f g pass c same accepted differ able-p able-q = (
-  number-same,
-  follow-answer pass f .place-is ∙ ap (λ (o : Option ℕ). order-refusal o .place) refused
-      ∙ sym (follow-answer pass g .place-is),
-  λ zero-f.
-      shown-alike bs (follow-shows pass f zero-f) (follow-shows pass g (sym number-same ∙ zero-f))
-      (front-next (front-alike (swapped .1)) (two-alike here there same other)),
-)
-  where
-    here : Lent bs (f .inbox)
-    here = follow-lent pass f
+unfolding Swap-same Follow-swaps Same-outcome
+follow-swaps swap bs before after p q f g pass c same accepted differ able-p able-q =
+    let answer = calls-same pass f g same (swap bs (f .inbox) before after p q (follow-given pass f c) accepted differ able-p able-q) in
+    (answer .number, answer .place, answer .left)
 
-    there : Lent bs (g .inbox)
-    there = follow-lent pass g
+pub follow-swaps-any-source : Swap-any-source → Follow-swaps-any-source
+unfolding Swap-any-source Follow-swaps-any-source
+follow-swaps-any-source swap bs before after p q f g pass sheet same accepted E =
+    calls-same pass f g same (swap bs (f .inbox) before after p q (follow-lent pass f) sheet accepted E)
 
-    one : List ℕ
-    one = before ++ (p ∷ q ∷ after)
-
-    other : List ℕ
-    other = before ++ (q ∷ p ∷ after)
-
-    swapped : (follow (sheet-in bs) one (f .inbox) .refused-at ≡ follow (sheet-in bs) other (f .inbox) .refused-at)
-        × Alike (sheet-in bs) (left-by (sheet-in bs) one (f .inbox)) (left-by (sheet-in bs) other (f .inbox))
-    swapped = swap bs (f .inbox) before after p q (follow-given pass f c) accepted differ able-p able-q
-
-    refused : follow (sheet-in bs) one (f .inbox) .refused-at ≡ follow (sheet-in bs) other (g .inbox) .refused-at
-    refused = swapped .0 ∙ two-refused here there same other
-
-    number-same : f .number ≡ g .number
-    number-same =
-        follow-answer pass f .number-is ∙ ap (λ (o : Option ℕ). order-refusal o .number) refused
-        ∙ sym (follow-answer pass g .number-is)
+pub follow-same-class : Same-class → Follow-same-class
+unfolding Same-class Follow-same-class
+follow-same-class classes bs a b f g pass sheet same in-class =
+    calls-same pass f g same (classes bs (f .inbox) a b (follow-lent pass f) sheet in-class)

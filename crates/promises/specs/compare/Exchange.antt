@@ -3,6 +3,7 @@
 -- standard send is buffered or not.
 -- After both orders the boards stand alike and the messages that one receive could take, or one probe tell, came in the same
 -- order, so the jobs are alike.
+--   went-on                the first of two steps that do not stop the job did not
 --   step-moved             where the boards stand after a step that goes on
 --   swap-able              the second step is able after the first
 --   swap-same-positions    the law
@@ -23,7 +24,7 @@ use Rattle.rules.specs.Job.{Job, entry-at, place-at}
 use Rattle.rules.specs.Step.{able, step, next-op, in-waiting-half, fits-with, fits-room, complete-if, waited, query-row, half-row}
 use Rattle.rules.specs.Claims.{is-any-source}
 use Rattle.laws.specs.Tests.{and-both}
-use Rattle.promises.specs.Statements.{Harmless, Tells-same, Keeps-same}
+use Rattle.promises.specs.ExchangeStatements.{Harmless, Tells-same, Keeps-same}
 use Rattle.invariant.specs.sheet.Valid.{Valid}
 use Rattle.invariant.specs.deliveries.Laws.{Delivery-laws}
 use Rattle.invariant.specs.sheet.Kinds.{send-not-only-half, standard-send, fit-source, completion-tells}
@@ -40,6 +41,15 @@ use Rattle.promises.specs.compare.AfterStep.{After, continues, stops-job
 use Rattle.promises.specs.compare.AfterStep.{position-next, position-moved, position-further, stop-stays}
 use Rattle.promises.specs.compare.NewlyKept.{is-kept-by, exchange-kept}
 use Rattle.promises.specs.compare.SamePositions.{Same-positions}
+
+-- a step after which the next one does not stop the job did not stop it
+pub went-on : {s : Sheet} (g : Valid s) {lent : List ℕ} {x : Job} (X : Reached s lent x) (r k : ℕ) → able s x r ≡ true →
+    step s k (step s r x) .stop ≡ none → step s r x .stop ≡ none
+went-on {s} g {lent} {x} X r k c e = go (step-after g X r c)
+  where
+    go : After s x (step s r x) r → step s r x .stop ≡ none
+    go (continues h m) = h
+    go (stops-job t h m n) = absurd (stop-stays s k (step s r x) t h e)
 
 -- A STEP of p, after which the job goes on
 module _ {s : Sheet} (g : Valid s) (A : Delivery-laws s) {lent : List ℕ} (room : inbox-total s ≤ length lent) {x : Job}
@@ -76,19 +86,11 @@ module _ {s : Sheet} (g : Valid s) (A : Delivery-laws s) {lent : List ℕ} (room
 module _ {s : Sheet} (g : Valid s) (A : Delivery-laws s) {lent : List ℕ} (room : inbox-total s ≤ length lent) {x : Job}
     (X : Reached s lent x)
     (p q : ℕ) (d : p ≢ q) (a : able s x p ≡ true) (b : able s x q ≡ true) (H : Harmless s x p q) where
-  -- a step after which the next one does not stop the job did not stop it
-  went-on : (r k : ℕ) → able s x r ≡ true → step s k (step s r x) .stop ≡ none → step s r x .stop ≡ none
-  went-on r k c e = go (step-after g X r c)
-    where
-      go : After s x (step s r x) r → step s r x .stop ≡ none
-      go (continues h m) = h
-      go (stops-job t h m n) = absurd (stop-stays s k (step s r x) t h e)
-
   going-p : step s p x .stop ≡ none
-  going-p = went-on p q a (H .goes-on)
+  going-p = went-on g X p q a (H .goes-on)
 
   going-q : step s q x .stop ≡ none
-  going-q = went-on q p b (H .goes-on-swapped)
+  going-q = went-on g X q p b (H .goes-on-swapped)
 
   pub able-q : able s (step s p x) q ≡ true
   able-q = swap-able g A room X p a going-p q (λ e. d (sym e)) b
