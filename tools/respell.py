@@ -26,7 +26,16 @@ KIND = re.compile(rf'(?m)^[ ]*(?:abbrev |unfoldable )*(?:pub )?(data|record) ({W
 BOUND = re.compile(rf'(?:\blet |λ |[({{])((?:{WORD}[ ])*{WORD}) ?[:.=]')
 # Names of the library and of what Rattle makes, that texts here bind or cite with the same letters.
 TODAY = set()
-APART = {"Alike-front": "AlikeFront", "Reached-behind": "ReachedBehind"}
+APART = {
+    "Alike-front": "AlikeFront",
+    "Reached-behind": "ReachedBehind",
+    # names that port.py left in two spellings
+    "Goes_on": "GoesOn",
+    "Op_at": "OpAt",
+    "Tells_same": "TellsSame",
+    "no_Race": "no_race",
+    "keeps-same": "keeps_same",
+}
 
 
 def texts(pattern):
@@ -85,7 +94,7 @@ def table():
     for name, kind in kinds.items():
         if "-" not in name or name.startswith("-") or name.endswith("-") or not re.match(r"[^\W\d]", name) or name in lib or name in TODAY:
             continue
-        if re.match(r"(Need|After|Goes|At|In)-", name):
+        if re.match(r"(Need|After|Goes|At)-", name) or name == "In-loop":
             continue
         if name in APART:
             out[name] = APART[name]
@@ -93,6 +102,12 @@ def table():
             out[name] = camel(name)
         else:
             out[name] = name.replace("-", "_")
+    # bound variables that only a clause's left side binds
+    for path, text in texts("crates/*/specs/**/*.antt"):
+        for name in re.findall(WORD, re.sub(r"--.*", "", text)):
+            if "-" in name and re.match(r"[^\W\d]", name) and name not in lib and name not in out:
+                out[name] = name.replace("-", "_")
+    out.update(APART)
     return out, kinds, lib
 
 

@@ -188,30 +188,30 @@ module _ {bs : List ℕ} {f : Seen} {o o_now : List ℕ} (a : RunSeen bs f o o_n
 module _ {bs one other : List ℕ} {f g : Seen} (a : FollowSeen bs one f) (b : FollowSeen bs other g) where
   two_orders : TwoOrders bs f g
   unfolding TwoOrders Ended CallsAlike FollowsAlike
-  two_orders h end-f end-g =
+  two_orders h end_f end_g =
       let F = follow_call a h.not_short in
       let G = follow_call b h.not_short_too in
-      follows_alike bs one other F G h.passing h.calm_sheet h.same_start end-f.0 end-g.0
-      (none_left h.passing F end-f.0 end-f.1) (none_left h.passing G end-g.0 end-g.1)
+      follows_alike bs one other F G h.passing h.calm_sheet h.same_start end_f.0 end_g.0
+      (none_left h.passing F end_f.0 end_f.1) (none_left h.passing G end_g.0 end_g.1)
 
   exchanged : Exchanged bs one other f g
   unfolding Exchanged CallsAlike FollowSwaps
-  exchanged before after p q one-is other-is h =
+  exchanged before after p q one_is other_is h =
       follow_swaps bs before after p q
-      (follow_call (subst (λ (o : List ℕ). FollowSeen bs o f) one-is a) h.not_short)
-      (follow_call (subst (λ (o : List ℕ). FollowSeen bs o g) other-is b) h.not_short_too)
+      (follow_call (subst (λ (o : List ℕ). FollowSeen bs o f) one_is a) h.not_short)
+      (follow_call (subst (λ (o : List ℕ). FollowSeen bs o g) other_is b) h.not_short_too)
       h.passing h.calm_sheet h.same_start
 
   arrival : ArrivalTold bs one other f g
   unfolding ArrivalTold FollowByArrival
-  arrival after other-is zero_f zero_g =
+  arrival after other_is zero_f zero_g =
       follow_by_arrival bs one after (follow_success a zero_f)
-      (follow_success (subst (λ (o : List ℕ). FollowSeen bs o g) other-is b) zero_g) zero_f zero_g
+      (follow_success (subst (λ (o : List ℕ). FollowSeen bs o g) other_is b) zero_g) zero_f zero_g
 
   one_class : OneClass bs one other f g
   unfolding OneClass CallsAlike FollowSameClass
-  one_class pass sheet not_short not_short_too same in-class =
-      let answer = follow_same_class bs one other (follow_call a not_short) (follow_call b not_short_too) pass sheet same in-class in
+  one_class pass sheet not_short not_short_too same in_class =
+      let answer = follow_same_class bs one other (follow_call a not_short) (follow_call b not_short_too) pass sheet same in_class in
       (answer.number, answer.place, answer.left)
 
   follow_demands : FollowDemands bs one other f g
@@ -226,10 +226,10 @@ module _ {bs one other : List ℕ} {f g : Seen} (a : FollowSeen bs one f) (b : F
 module _ {bs o : List ℕ} {f g : Seen} {w w_now : List ℕ} (a : FollowSeen bs o f) (b : RunSeen bs g w w_now) where
   run_as_followed : RunAsFollowed bs f g
   unfolding RunAsFollowed Ended CallsAlike RunAlike
-  run_as_followed h end-f =
+  run_as_followed h end_f =
       let F = follow_call a h.not_short in
-      run_alike bs o F (run_call b h.not_short_too) h.passing h.calm_sheet h.same_start end-f.0
-      (none_left h.passing F end-f.0 end-f.1)
+      run_alike bs o F (run_call b h.not_short_too) h.passing h.calm_sheet h.same_start end_f.0
+      (none_left h.passing F end_f.0 end_f.1)
 
   replayed : Replayed bs o w_now f g
   unfolding Replayed RunReplayed
@@ -246,8 +246,8 @@ module _ {bs o : List ℕ} {f g : Seen} {w w_now : List ℕ} (a : FollowSeen bs 
 -- THE TWO EDITIONS
 both_editions : {one two o : List ℕ} {f g : Seen} → FollowSeen one o f → FollowSeen two o g → BothEditions one two f g
 unfolding BothEditions FollowEditions
-both_editions {one} {two} {o} a b h pass-one pass-two not_short not_short_too same =
-    follow_editions one two o (follow_call a not_short) (follow_call b not_short_too) h pass-one pass-two same
+both_editions {one} {two} {o} a b h pass_one pass_two not_short not_short_too same =
+    follow_editions one two o (follow_call a not_short) (follow_call b not_short_too) h pass_one pass_two same
 
 pub two_follows : {bs cs one other : List ℕ} {f g : Seen} → FollowSeen bs one f → FollowSeen cs other g → TwoFollows bs cs one other f g
 two_follows {bs} {cs} {one} {other} {f} {g} a b =

@@ -10,7 +10,7 @@ use Rattle.rules.specs.Claims.{passes, calm, accepts, left_by}
 use Rattle.sheet.specs.declared.Answer.{Answer}
 use Rattle.promises.specs.Statements.{EarlierFirst}
 use Rattle.promises.specs.EditionStatements.{SameInBoth, WidenedLeft}
-use Rattle.promises.specs.ExchangeStatements.{ExchangeSheet, Exchangeable, In-class}
+use Rattle.promises.specs.ExchangeStatements.{ExchangeSheet, Exchangeable, InClass}
 use Rattle.promises.specs.ServiceStatements.{FollowCall, told_in, Reported, FollowedSteps, RanOrder, SameStart, SameLeft, LeftAlike}
 
 -- what a caller sees of a call of follow or run: the answer, and inbox and report as they were lent and as the call left them
@@ -121,7 +121,7 @@ Exchanged bs order exchanged f g =
 unfoldable pub OneClass : (bs one other : List ℕ) (f g : Seen) → Type 0
 OneClass bs one other f g =
     passes bs ≡ true → ExchangeSheet bs → f.answer.number ≢ 8 → g.answer.number ≢ 8 → SameStart bs f.inbox g.inbox →
-    In-class Exchangeable (sheet_in bs) f.inbox one other →
+    InClass Exchangeable (sheet_in bs) f.inbox one other →
     (f.answer.number ≡ g.answer.number) × (f.answer.place ≡ g.answer.place)
     × (f.answer.number ≡ 0 → CallsAlike bs f g)
 

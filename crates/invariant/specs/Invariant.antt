@@ -205,7 +205,7 @@ pub record Reached (s : Sheet) (i : List ℕ) (x : Job) : Type 0 where
   -- the waiting lists hold exactly what is pending: messages by arrival, each board's receives in script order (steps)
   pub messages_held : Holds (ArrivedBefore arrival) (PendingMessage s x) x.messages
   pub receives_held : Holds (PostedBefore s) (PendingReceive s x) x.receives
-  -- of either store, in use is the sum of the pending charges, and at most the peak (In-use, Peaks, calm sheets never stop)
+  -- of either store, in use is the sum of the pending charges, and at most the peak (InUse, Peaks, calm sheets never stop)
   pub in_use_sum : (w : Store) (r : ℕ) → r < P_of s → in_use_at w x r ≡ sum_below (N_of s) (charge_in w s x r)
   pub in_use_peak : (w : Store) (r : ℕ) → in_use_at w x r ≤ peak_at w x r
   -- no board has ever more in use than its store holds (the engine: they fit two bytes)

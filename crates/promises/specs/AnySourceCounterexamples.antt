@@ -24,8 +24,8 @@ use Rattle.laws.specs.Tests.{and_both, or_left, or_right, true_not_false}
 use Rattle.invariant.specs.sheet.Kinds.{fit_tag}
 use Rattle.promises.specs.Statements.{Told}
 use Rattle.promises.specs.ServiceStatements.{told_in}
-use Rattle.promises.specs.ExchangeStatements.{Tells_same, KeepsSame, Harmless, none_of, is_any_receive, is_any_probe, no_query, no_any_probe, initiates_send, send_to_one, has_any_receive}
-use Rattle.promises.specs.ExchangeStatements.{may_race, Goes_on, Exchangeable, SameOutcome, SwapAnySource, OneExchange, Exchanges, In-class, SameClass}
+use Rattle.promises.specs.ExchangeStatements.{TellsSame, KeepsSame, Harmless, none_of, is_any_receive, is_any_probe, no_query, no_any_probe, initiates_send, send_to_one, has_any_receive}
+use Rattle.promises.specs.ExchangeStatements.{may_race, GoesOn, Exchangeable, SameOutcome, SwapAnySource, OneExchange, Exchanges, InClass, SameClass}
 use Rattle.promises.specs.Counterexamples.{no_ready, two_buffered}
 use Rattle.promises.specs.SwapCounterexamples.{Exchange, bytes_of, sheet_of, second_of, job_before, report_after, swaps_apart, apart_of}
 use Rattle.promises.specs.SwapCounterexamples.{any_source_exchange, any_probe_exchange, query_exchange, ready_exchange, uncovered_exchange, room_exchange}
@@ -37,7 +37,7 @@ use Rattle.promises.specs.claims.Classes.{same_class, one_exchange}
 abbrev pub SheetPart : Sheet → Type 0
 SheetPart s = (no_query s ≡ true) × (no_any_probe s ≡ true) × (rooms_cover s ≡ true)
 
-pub any_source_where : SwapAnySource → SwapWhere (λ s x p q. SheetPart s × Goes_on s x p q × (may_race s x p q ≡ false))
+pub any_source_where : SwapAnySource → SwapWhere (λ s x p q. SheetPart s × GoesOn s x p q × (may_race s x p q ≡ false))
 unfolding SwapAnySource SwapWhere SameOutcome
 any_source_where claim bs i before after p q lent accepted differ able_one able_other h =
     (claim bs i before after p q lent
@@ -78,11 +78,11 @@ race_sheet : SheetPart (sheet_of any_source_exchange)
 unfolding definitions none_of is_any_probe no_query no_any_probe any_source_exchange
 race_sheet = (refl, refl, refl)
 
-race_goes_on : Goes_on (sheet_of any_source_exchange) (job_before any_source_exchange) 0 1
-unfolding definitions Goes_on any_source_exchange
+race_goes_on : GoesOn (sheet_of any_source_exchange) (job_before any_source_exchange) 0 1
+unfolding definitions GoesOn any_source_exchange
 race_goes_on = (refl, refl)
 
-pub race_matters : SwapWhere (λ s x p q. SheetPart s × Goes_on s x p q) → ⊥
+pub race_matters : SwapWhere (λ s x p q. SheetPart s × GoesOn s x p q) → ⊥
 unfolding any_source_exchange
 race_matters = harm_refutes _ any_source_exchange race_apart (race_sheet, race_goes_on)
 
@@ -92,13 +92,13 @@ unfolding definitions told_in query_exchange
 query_differs = (refl, refl)
 
 query_kept : (no_any_probe (sheet_of query_exchange) ≡ true) × (rooms_cover (sheet_of query_exchange) ≡ true)
-    × Goes_on (sheet_of query_exchange) (job_before query_exchange) 0 1
+    × GoesOn (sheet_of query_exchange) (job_before query_exchange) 0 1
     × (may_race (sheet_of query_exchange) (job_before query_exchange) 0 1 ≡ false)
 unfolding definitions none_of is_any_probe no_any_probe initiates_send send_to_one may_race query_exchange
 query_kept = (refl, refl, query_goes_on, refl)
 
 pub query_exchange_matters :
-    SwapWhere (λ s x p q. (no_any_probe s ≡ true) × (rooms_cover s ≡ true) × Goes_on s x p q × (may_race s x p q ≡ false)) → ⊥
+    SwapWhere (λ s x p q. (no_any_probe s ≡ true) × (rooms_cover s ≡ true) × GoesOn s x p q × (may_race s x p q ≡ false)) → ⊥
 unfolding query_exchange
 query_exchange_matters =
     harm_refutes _ query_exchange query_apart query_kept
@@ -110,13 +110,13 @@ unfolding definitions told_in any_probe_exchange
 probe_differs = (refl, refl)
 
 probe_kept : (no_query (sheet_of any_probe_exchange) ≡ true) × (rooms_cover (sheet_of any_probe_exchange) ≡ true)
-    × Goes_on (sheet_of any_probe_exchange) (job_before any_probe_exchange) 0 1
+    × GoesOn (sheet_of any_probe_exchange) (job_before any_probe_exchange) 0 1
     × (may_race (sheet_of any_probe_exchange) (job_before any_probe_exchange) 0 1 ≡ false)
 unfolding definitions none_of is_any_receive no_query initiates_send send_to_one has_any_receive may_race any_probe_exchange
 probe_kept = (refl, refl, any_probe_goes_on, refl)
 
 pub probe_exchange_matters :
-    SwapWhere (λ s x p q. (no_query s ≡ true) × (rooms_cover s ≡ true) × Goes_on s x p q × (may_race s x p q ≡ false)) → ⊥
+    SwapWhere (λ s x p q. (no_query s ≡ true) × (rooms_cover s ≡ true) × GoesOn s x p q × (may_race s x p q ≡ false)) → ⊥
 unfolding any_probe_exchange
 probe_exchange_matters =
     harm_refutes _ any_probe_exchange any_probe_apart probe_kept
@@ -174,13 +174,13 @@ unfolding definitions told_in room_exchange
 room_differs = (refl, refl)
 
 room_kept : (no_query (sheet_of room_exchange) ≡ true) × (no_any_probe (sheet_of room_exchange) ≡ true)
-    × Goes_on (sheet_of room_exchange) (job_before room_exchange) 0 1
+    × GoesOn (sheet_of room_exchange) (job_before room_exchange) 0 1
     × (may_race (sheet_of room_exchange) (job_before room_exchange) 0 1 ≡ false)
 unfolding definitions none_of is_any_probe no_query no_any_probe initiates_send send_to_one may_race room_exchange
 room_kept = (refl, refl, room_goes_on, refl)
 
 pub room_exchange_matters :
-    SwapWhere (λ s x p q. (no_query s ≡ true) × (no_any_probe s ≡ true) × Goes_on s x p q × (may_race s x p q ≡ false)) → ⊥
+    SwapWhere (λ s x p q. (no_query s ≡ true) × (no_any_probe s ≡ true) × GoesOn s x p q × (may_race s x p q ≡ false)) → ⊥
 unfolding room_exchange
 room_exchange_matters =
     harm_refutes _ room_exchange room_apart room_kept
@@ -193,7 +193,7 @@ abbrev pub two_bytes : List ℕ
 two_bytes = 0 ∷ 0 ∷ []
 
 -- The two orders of the race are of two classes.
-pub two_classes : In-class Exchangeable job_12 two_bytes (0 ∷ 1 ∷ 2 ∷ []) (1 ∷ 0 ∷ 2 ∷ []) → ⊥
+pub two_classes : InClass Exchangeable job_12 two_bytes (0 ∷ 1 ∷ 2 ∷ []) (1 ∷ 0 ∷ 2 ∷ []) → ⊥
 unfolding any_source_exchange SameClass SameOutcome
 two_classes h =
     let a = apart_of (λ s. true) any_source_exchange race_apart in
@@ -213,7 +213,7 @@ two_classes h =
 -- class.
 trade : (before after : List ℕ) (p q : ℕ) →
     let x = left_by job_12 before two_bytes in
-    accepts job_12 before two_bytes ≡ true → p ≢ q → able job_12 x p ≡ true → able job_12 x q ≡ true → Goes_on job_12 x p q →
+    accepts job_12 before two_bytes ≡ true → p ≢ q → able job_12 x p ≡ true → able job_12 x q ≡ true → GoesOn job_12 x p q →
     may_race job_12 x p q ≡ false →
     OneExchange Exchangeable job_12 two_bytes (before ++ (p ∷ q ∷ after)) (before ++ (q ∷ p ∷ after))
 trade before after p q accepted differ able_one able_other goes_on no_race =
@@ -227,15 +227,15 @@ trade before after p q accepted differ able_one able_other goes_on no_race =
     })
 
 send_and_receive : OneExchange Exchangeable job_12 two_bytes (0 ∷ 2 ∷ 0 ∷ 2 ∷ []) (2 ∷ 0 ∷ 0 ∷ 2 ∷ [])
-unfolding definitions none_of is_any_receive initiates_send send_to_one has_any_receive may_race Goes_on any_source_exchange
+unfolding definitions none_of is_any_receive initiates_send send_to_one has_any_receive may_race GoesOn any_source_exchange
 send_and_receive = trade [] (0 ∷ 2 ∷ []) 0 2 refl (λ e. omega (arith, e)) refl refl (refl, refl) refl
 
 waiting_halves : OneExchange Exchangeable job_12 two_bytes (2 ∷ 0 ∷ 0 ∷ 2 ∷ []) (2 ∷ 0 ∷ 2 ∷ 0 ∷ [])
-unfolding definitions none_of is_any_receive initiates_send send_to_one has_any_receive may_race Goes_on any_source_exchange
+unfolding definitions none_of is_any_receive initiates_send send_to_one has_any_receive may_race GoesOn any_source_exchange
 waiting_halves = trade (2 ∷ 0 ∷ []) [] 0 2 refl (λ e. omega (arith, e)) refl refl (refl, refl) refl
 
-pub one_class : In-class Exchangeable job_12 two_bytes (0 ∷ 2 ∷ 0 ∷ 2 ∷ []) (2 ∷ 0 ∷ 2 ∷ 0 ∷ [])
-unfolding In-class Exchanges
+pub one_class : InClass Exchangeable job_12 two_bytes (0 ∷ 2 ∷ 0 ∷ 2 ∷ []) (2 ∷ 0 ∷ 2 ∷ 0 ∷ [])
+unfolding InClass Exchanges
 one_class = (2, (2 ∷ 0 ∷ 0 ∷ 2 ∷ [], send_and_receive, (2 ∷ 0 ∷ 2 ∷ 0 ∷ [], waiting_halves, refl)))
 
 -- SWAP-GENERAL EXCLUDES LESS: two sends, with tags 1 and 2, to one board and communicator, where the any-source receive takes tag 1
@@ -271,7 +271,7 @@ none_takes_two r wild fit = true_not_false (and_both wild (go (fit_tag s 1 r fit
 pub general_excludes_less : (passes (bytes_of one_tag_exchange) ≡ true)
     × (may_race (sheet_of one_tag_exchange) (job_before one_tag_exchange) 0 1 ≡ true)
     × Harmless (sheet_of one_tag_exchange) (job_before one_tag_exchange) 0 1
-unfolding definitions none_of is_any_receive initiates_send send_to_one has_any_receive may_race Tells_same KeepsSame one_tag_exchange
+unfolding definitions none_of is_any_receive initiates_send send_to_one has_any_receive may_race TellsSame KeepsSame one_tag_exchange
 general_excludes_less = (
   refl,
   refl,

@@ -22,8 +22,8 @@ use Rattle.promises.specs.ServiceStatements.{FollowCall, SameStart, LeftAlike}
 -- ON ANY SHEET, two steps whose exchange is harmless
 
 -- A query that is p's next step tells the same before q's step and after it.
-unfoldable pub Tells_same : Sheet → Job → (p q : ℕ) → Type 0
-Tells_same s x p q =
+unfoldable pub TellsSame : Sheet → Job → (p q : ℕ) → Type 0
+TellsSame s x p q =
     tells_completion (op s (next_op s x p)) ≡ true →
     complete_if (step s q x) (waited s (next_op s x p)) ≡ complete_if x (waited s (next_op s x p))
 
@@ -45,8 +45,8 @@ pub record Harmless (s : Sheet) (x : Job) (p q : ℕ) : Type 0 where
       (r : ℕ) → in_waiting_half s x p ≡ false → in_waiting_half s x q ≡ false →
       is_send (op s (next_op s x p)) ≡ true → is_send (op s (next_op s x q)) ≡ true → is_any_source (op s r) ≡ true →
       fits_with s (next_op s x p) r ≡ true → fits_with s (next_op s x q) r ≡ true → ⊥
-  pub tells_same : Tells_same s x p q
-  pub tells_same_swapped : Tells_same s x q p
+  pub tells_same : TellsSame s x p q
+  pub tells_same_swapped : TellsSame s x q p
   pub keeps_same : KeepsSame s x p q
   pub keeps_same_swapped : KeepsSame s x q p
 
@@ -106,8 +106,8 @@ may_race s x p q =
     send_to_one s x p q && has_any_receive s a.peer a.comm
 
 -- the steps stop the job in neither order
-unfoldable pub Goes_on : Sheet → Job → (p q : ℕ) → Type 0
-Goes_on s x p q = ((step s q (step s p x)).stop ≡ none) × ((step s p (step s q x)).stop ≡ none)
+unfoldable pub GoesOn : Sheet → Job → (p q : ℕ) → Type 0
+GoesOn s x p q = ((step s q (step s p x)).stop ≡ none) × ((step s p (step s q x)).stop ≡ none)
 
 -- "two .. steps of different boards, both able, neither stopping the job in either order, .. unless they are sends to one board ..":
 -- the steps of p and q that may trade places after job x
@@ -115,7 +115,7 @@ pub record Exchangeable (s : Sheet) (x : Job) (p q : ℕ) : Type 0 where
   pub differ : p ≢ q
   pub able_one : able s x p ≡ true
   pub able_other : able s x q ≡ true
-  pub goes_on : Goes_on s x p q
+  pub goes_on : GoesOn s x p q
   pub no_race : may_race s x p q ≡ false
 
 -- Two orders have the same outcome: they are refused at the same index or accepted alike, and what the steps taken left is alike,
@@ -149,15 +149,15 @@ unfoldable pub Exchanges : (May : Sheet → Job → (p q : ℕ) → Type 0) → 
 Exchanges May zero s i a b = a ≡ b
 Exchanges May (suc n) s i a b = (c : List ℕ) × OneExchange May s i a c × Exchanges May n s i c b
 
-unfoldable pub In-class : (May : Sheet → Job → (p q : ℕ) → Type 0) → Sheet → (i a b : List ℕ) → Type 0
-In-class May s i a b = (n : ℕ) × Exchanges May n s i a b
+unfoldable pub InClass : (May : Sheet → Job → (p q : ℕ) → Type 0) → Sheet → (i a b : List ℕ) → Type 0
+InClass May s i a b = (n : ℕ) × Exchanges May n s i a b
 
 -- The two orders of an exchange are of one class; and classes are an equivalence: every order is of one class and no other, so that
 -- a search over all orders needs one order of each.
 unfoldable pub ExchangeClass : Type 0
 ExchangeClass =
     (s : Sheet) (i before after : List ℕ) (p q : ℕ) → accepts s before i ≡ true → Exchangeable s (left_by s before i) p q →
-    In-class Exchangeable s i (before ++ (p ∷ q ∷ after)) (before ++ (q ∷ p ∷ after))
+    InClass Exchangeable s i (before ++ (p ∷ q ∷ after)) (before ++ (q ∷ p ∷ after))
 
 pub record Equivalence (R : (a b : List ℕ) → Type 0) : Type 0 where
   pub same : (a : List ℕ) → R a a
@@ -165,12 +165,12 @@ pub record Equivalence (R : (a b : List ℕ) → Type 0) : Type 0 where
   pub on : (a b c : List ℕ) → R a b → R b c → R a c
 
 unfoldable pub Classes : Type 0
-Classes = (s : Sheet) (i : List ℕ) → Equivalence (In-class Exchangeable s i)
+Classes = (s : Sheet) (i : List ℕ) → Equivalence (InClass Exchangeable s i)
 
 -- Every two orders of a class have the same outcome.
 unfoldable pub SameClass : Type 0
 SameClass =
-    (bs i a b : List ℕ) → Lent bs i → ExchangeSheet bs → In-class Exchangeable (sheet_in bs) i a b → SameOutcome (sheet_in bs) i a b
+    (bs i a b : List ℕ) → Lent bs i → ExchangeSheet bs → InClass Exchangeable (sheet_in bs) i a b → SameOutcome (sheet_in bs) i a b
 
 -- And so, on any sheet, with the exchanges of SwapGeneral, whose classes are larger.
 abbrev pub HarmlessSteps : Sheet → Job → (p q : ℕ) → Type 0
@@ -178,7 +178,7 @@ HarmlessSteps s x p q = (p ≢ q) × (able s x p ≡ true) × (able s x q ≡ tr
 
 unfoldable pub SameClassGeneral : Type 0
 SameClassGeneral =
-    (bs i a b : List ℕ) → Lent bs i → In-class HarmlessSteps (sheet_in bs) i a b → SameOutcome (sheet_in bs) i a b
+    (bs i a b : List ℕ) → Lent bs i → InClass HarmlessSteps (sheet_in bs) i a b → SameOutcome (sheet_in bs) i a b
 
 -- OF THE SERVICES
 
@@ -204,4 +204,4 @@ unfoldable pub FollowSameClass : Type 0
 FollowSameClass =
     (bs a b : List ℕ) (f : FollowCall bs a) (g : FollowCall bs b) →
     passes bs ≡ true → ExchangeSheet bs → SameStart bs f.inbox g.inbox →
-    In-class Exchangeable (sheet_in bs) f.inbox a b → AnsweredAlike f g
+    InClass Exchangeable (sheet_in bs) f.inbox a b → AnsweredAlike f g

@@ -3,7 +3,7 @@
 -- a standard send is buffered before it exactly if it is after it, and where races for probes are allowed and races for receives
 -- are not, there is an exchange that leaves reports which differ in more than peaks.
 -- The exchanges are those of SwapCounterexamples, computed.
---   NoRace, BothTellSame, BothKeepSame   with Goes_on the conditions of Harmless
+--   NoRace, BothTellSame, BothKeepSame   with GoesOn the conditions of Harmless
 --   parts_harmless               together they are Harmless
 --   SwapWhere                   an exchange leaves jobs alike where a condition holds of it; with Harmless it is promised
 --   harm_refutes                 an exchange that ends apart, and of which the condition holds, refutes SwapWhere
@@ -18,12 +18,12 @@ use Rattle.rules.specs.Claims.{is_any_source, accepts, left_by, Alike}
 use Rattle.rules.specs.Definitions.{definitions}
 use Rattle.laws.specs.Tests.{true_not_false}
 use Rattle.promises.specs.Statements.{Lent}
-use Rattle.promises.specs.ExchangeStatements.{none_of, is_any_receive, Tells_same, KeepsSame, Harmless, SwapGeneral, Goes_on}
+use Rattle.promises.specs.ExchangeStatements.{none_of, is_any_receive, TellsSame, KeepsSame, Harmless, SwapGeneral, GoesOn}
 use Rattle.promises.specs.compare.ScriptTests.{none_at}
 use Rattle.promises.specs.SwapCounterexamples.{Exchange, bytes_of, sheet_of, job_before, swaps_apart, apart_of}
 use Rattle.promises.specs.SwapCounterexamples.{any_probe_exchange, query_exchange, room_exchange}
 
--- THE CONDITIONS OF HARMLESS, one by one, beside Goes_on
+-- THE CONDITIONS OF HARMLESS, one by one, beside GoesOn
 -- they do not enter two messages that one operation fits which a test counts
 unfoldable pub NoRace : (counts : Op → Bool) → Sheet → Job → (p q : ℕ) → Type 0
 NoRace counts s x p q =
@@ -33,15 +33,15 @@ NoRace counts s x p q =
 
 -- a query among them tells the same before the other step and after it
 unfoldable pub BothTellSame : Sheet → Job → (p q : ℕ) → Type 0
-BothTellSame s x p q = Tells_same s x p q × Tells_same s x q p
+BothTellSame s x p q = TellsSame s x p q × TellsSame s x q p
 
 -- a standard send among them is buffered before the other step exactly if it is after it
 unfoldable pub BothKeepSame : Sheet → Job → (p q : ℕ) → Type 0
 BothKeepSame s x p q = KeepsSame s x p q × KeepsSame s x q p
 
 pub parts_harmless : (s : Sheet) (x : Job) (p q : ℕ) →
-    Goes_on s x p q → NoRace is_any_source s x p q → BothTellSame s x p q → BothKeepSame s x p q → Harmless s x p q
-unfolding Goes_on NoRace BothTellSame BothKeepSame
+    GoesOn s x p q → NoRace is_any_source s x p q → BothTellSame s x p q → BothKeepSame s x p q → Harmless s x p q
+unfolding GoesOn NoRace BothTellSame BothKeepSame
 parts_harmless s x p q g r n k =
     record {
       goes_on = g.0;
@@ -91,8 +91,8 @@ unfolding definitions swaps_apart room_exchange
 room_apart = refl
 
 -- a query and the receive that completes its send: nothing stops, and the query sends nothing that could race
-pub query_goes_on : Goes_on (sheet_of query_exchange) (job_before query_exchange) 0 1
-unfolding Goes_on definitions query_exchange
+pub query_goes_on : GoesOn (sheet_of query_exchange) (job_before query_exchange) 0 1
+unfolding GoesOn definitions query_exchange
 query_goes_on = (refl, refl)
 
 query_no_race : NoRace is_any_source (sheet_of query_exchange) (job_before query_exchange) 0 1
@@ -104,12 +104,12 @@ unfolding BothKeepSame KeepsSame definitions query_exchange
 query_keeps_same = (λ h t. refl, λ h t. refl)
 
 -- two sends to a board that probes for any source: nothing stops, no receive is from any source, and neither is a query
-pub any_probe_goes_on : Goes_on (sheet_of any_probe_exchange) (job_before any_probe_exchange) 0 1
-unfolding Goes_on definitions any_probe_exchange
+pub any_probe_goes_on : GoesOn (sheet_of any_probe_exchange) (job_before any_probe_exchange) 0 1
+unfolding GoesOn definitions any_probe_exchange
 any_probe_goes_on = (refl, refl)
 
 any_probe_tells_same : BothTellSame (sheet_of any_probe_exchange) (job_before any_probe_exchange) 0 1
-unfolding BothTellSame Tells_same definitions any_probe_exchange
+unfolding BothTellSame TellsSame definitions any_probe_exchange
 any_probe_tells_same = (λ t. true_not_false t refl, λ t. true_not_false t refl)
 
 any_probe_keeps_same : BothKeepSame (sheet_of any_probe_exchange) (job_before any_probe_exchange) 0 1
@@ -117,8 +117,8 @@ unfolding BothKeepSame KeepsSame definitions any_probe_exchange
 any_probe_keeps_same = (λ h t. refl, λ h t. refl)
 
 -- a standard send and the receive that frees its room: nothing stops, the receive sends nothing, and neither is a query
-pub room_goes_on : Goes_on (sheet_of room_exchange) (job_before room_exchange) 0 1
-unfolding Goes_on definitions room_exchange
+pub room_goes_on : GoesOn (sheet_of room_exchange) (job_before room_exchange) 0 1
+unfolding GoesOn definitions room_exchange
 room_goes_on = (refl, refl)
 
 room_no_race : NoRace is_any_source (sheet_of room_exchange) (job_before room_exchange) 0 1
@@ -126,7 +126,7 @@ unfolding NoRace definitions room_exchange
 room_no_race r u v m n c f g = true_not_false n refl
 
 room_tells_same : BothTellSame (sheet_of room_exchange) (job_before room_exchange) 0 1
-unfolding BothTellSame Tells_same definitions room_exchange
+unfolding BothTellSame TellsSame definitions room_exchange
 room_tells_same = (λ t. true_not_false t refl, λ t. true_not_false t refl)
 
 any_probe_no_race : NoRace is_any_receive (sheet_of any_probe_exchange) (job_before any_probe_exchange) 0 1
@@ -135,7 +135,7 @@ any_probe_no_race r u v m n c f g =
     true_not_false c (none_at is_any_receive (sheet_of any_probe_exchange).ops r refl refl)
 
 -- THE LAWS: with the other conditions of Harmless alone a query's step may not be exchanged
-pub query_step_matters : SwapWhere (λ s x p q. Goes_on s x p q × NoRace is_any_source s x p q × BothKeepSame s x p q) → ⊥
+pub query_step_matters : SwapWhere (λ s x p q. GoesOn s x p q × NoRace is_any_source s x p q × BothKeepSame s x p q) → ⊥
 unfolding query_exchange
 query_step_matters =
     harm_refutes _ query_exchange query_apart
@@ -143,13 +143,13 @@ query_step_matters =
 
 -- nor two sends that race for an any-source probe, though they race for no receive
 pub probe_race_matters :
-    SwapWhere (λ s x p q. Goes_on s x p q × NoRace is_any_receive s x p q × BothTellSame s x p q × BothKeepSame s x p q) → ⊥
+    SwapWhere (λ s x p q. GoesOn s x p q × NoRace is_any_receive s x p q × BothTellSame s x p q × BothKeepSame s x p q) → ⊥
 unfolding any_probe_exchange
 probe_race_matters =
     harm_refutes _ any_probe_exchange any_probe_apart (any_probe_goes_on, any_probe_no_race, any_probe_tells_same, any_probe_keeps_same)
 
 -- nor a standard send whose room the other step frees (document 02, K6)
-pub room_step_matters : SwapWhere (λ s x p q. Goes_on s x p q × NoRace is_any_source s x p q × BothTellSame s x p q) → ⊥
+pub room_step_matters : SwapWhere (λ s x p q. GoesOn s x p q × NoRace is_any_source s x p q × BothTellSame s x p q) → ⊥
 unfolding room_exchange
 room_step_matters =
     harm_refutes _ room_exchange room_apart

@@ -271,8 +271,8 @@ pending_charges w (suc j) s t r =
 unfoldable pub Charged : Sheet → Told → Type 0
 Charged s t = (w : Store) (r : ℕ) → r < P_of s → t.in_use w r ≡ pending_charges w (N_of s) s t r
 
-unfoldable pub In-use : Type 0
-In-use = OfJobs Charged
+unfoldable pub InUse : Type 0
+InUse = OfJobs Charged
 
 -- A message that is buffered (state 2) is charged to the one account or to the other: its send is a buffered one, or a standard
 -- one of a board that has a room.

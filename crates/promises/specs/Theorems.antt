@@ -15,7 +15,7 @@
 -- Assumes nothing.
 use Rattle.promises.specs.Statements.{NoneFit, NoOvertaking, NoOvertakingReceives, ByArrival, Statuses, SendStatuses, Deliveries}
 use Rattle.promises.specs.ProbeStatements.{Probes, Queries, ToldAtItsStep, ProbeThenReceive, ToldThenReceived}
-use Rattle.promises.specs.Statements.{Verdicts, NoRequestLeft, StopReasons, StoppingSteps, Steps, Counts, In-use, KeptInOne, Peaks, BuffersHold, RunEnds, EndsAlike, SwapSame}
+use Rattle.promises.specs.Statements.{Verdicts, NoRequestLeft, StopReasons, StoppingSteps, Steps, Counts, InUse, KeptInOne, Peaks, BuffersHold, RunEnds, EndsAlike, SwapSame}
 use Rattle.promises.specs.ServiceStatements.{FollowReports, RunReports, RunReplayed, FollowByArrival, FollowsAlike, RunAlike, FollowSwaps}
 use Rattle.promises.specs.ExchangeStatements.{SwapGeneral, SwapAnySource, ExchangeClass, Classes, SameClass, SameClassGeneral, FollowSwapsAnySource, FollowSameClass}
 use Rattle.promises.specs.EditionStatements.{WiderRows, FollowEditions, RunEditions}
@@ -89,7 +89,7 @@ steps = OneJob.steps
 pub counts : Counts
 counts = OneJob.counts
 
-pub in_use : In-use
+pub in_use : InUse
 in_use = OneJob.in_use
 
 pub kept_in_one : KeptInOne

@@ -8,13 +8,13 @@ use Rattle.laws.specs.Tests.{cond_false}
 use Rattle.laws.specs.Decoded.{board_decoded}
 
 -- the bytes of operation o stand at `at`
-abbrev pub Op_at : List ℕ → (at : ℕ) → Op → Type 0
-Op_at bs at o =
+abbrev pub OpAt : List ℕ → (at : ℕ) → Op → Type 0
+OpAt bs at o =
     (get_or bs at 0 ≡ o.kind) × (get_or bs (at + 1) 0 ≡ o.flag) × (two bs (at + 2) ≡ o.peer) × (two bs (at + 4) ≡ o.comm)
     × (two bs (at + 6) ≡ o.zero_field) × (two bs (at + 8) ≡ o.tag) × (two bs (at + 10) ≡ o.offset)
     × (two bs (at + 12) ≡ o.long) × (two bs (at + 14) ≡ o.slot)
 
-pub op_fields : (bs : List ℕ) (at : ℕ) (o : Op) → op_in bs at ≡ o → Op_at bs at o
+pub op_fields : (bs : List ℕ) (at : ℕ) (o : Op) → op_in bs at ≡ o → OpAt bs at o
 op_fields bs at o e = (
   ap (λ (z : Op). z.kind) e,
   ap (λ (z : Op). z.flag) e,

@@ -5,7 +5,7 @@ ghost use Rattle.rules.specs.Sheet.{sheet_in, op, N_of, is_send, is_standard, is
 ghost use Rattle.rules.specs.Sheet.{tells_message, tells_completion, tells, selects};
 ghost use Rattle.rules.specs.Claims.{is_any_source};
 ghost use Rattle.laws.specs.Laid.{Laid};
-ghost use Rattle.sheet.specs.Fields.{Op_at};
+ghost use Rattle.sheet.specs.Fields.{OpAt};
 ghost use Rattle.words.specs.Read.{Word, Byte};
 
 use crate::header;
@@ -13,7 +13,7 @@ use crate::header;
 // Where operation i stands.
 fn at(s: &[u8], i: usize) -> usize
     requires { Laid s.now × (i < N_of (sheet_in s.now)) }
-    ensures { Op_at s.now result (op (sheet_in s.now) i) × (result + 15 < length s.now) }
+    ensures { OpAt s.now result (op (sheet_in s.now) i) × (result + 15 < length s.now) }
 {
     header::ops_offset(s) + limits::OP_SIZE * i
 }

@@ -6,7 +6,7 @@ ghost use Rattle.rules.specs.Sheet.{N_of, P_of};
 ghost use Rattle.rules.specs.Job.{entry, place_at, with_account};
 ghost use Rattle.rules.specs.Step.{splice, without, with_place, with_row, with_state, matched_rows, one_finished, now_waiting};
 ghost use Rattle.account.specs.Stores.{stands_for};
-ghost use Rattle.account.specs.Accounts.{figures_of as account-figures};
+ghost use Rattle.account.specs.Accounts.{figures_of as account_figures};
 ghost use Rattle.state.specs.Layout.{seat_at};
 ghost use Rattle.state.specs.Decoded.{place_row, place_of};
 ghost use Rattle.state.specs.Lists.{FirstAt};
@@ -70,7 +70,7 @@ pub fn take(c: &mut [u8], t: Control, q: Queue, k: usize) -> Control
 fn put_account(c: &mut [u8], r: usize, q: BoardPlace, w: Store, a: Account)
     requires { (r < most_boards) × (scratch_size ≤ length c.old) }
     ensures { c.new ≡ splice c.old (seat_at r)
-        (place_row (with_account (stands_for w) (account-figures a) (place_of q))) }
+        (place_row (with_account (stands_for w) (account_figures a) (place_of q))) }
 {
     let f = StoreFigures {
         in_use: a.in_use,

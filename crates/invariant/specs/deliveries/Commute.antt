@@ -85,11 +85,11 @@ pub delivered_swap : (s : Sheet) → Valid s → (m r k q : ℕ) (bs : List ℕ)
     (rank_of s r ≡ rank_of s q → share (op s r) (op s q) ≡ false) → inbox_total s ≤ length bs →
     delivered s m r (delivered s k q bs) ≡ delivered s k q (delivered s m r bs)
 unfolding delivered
-delivered_swap s g m r k q bs receives receives-too apart room =
+delivered_swap s g m r k q bs receives receives_too apart room =
     sym
     (splice_swap bs (area_start s r) (copied_bytes s m r) (area_start s q) (copied_bytes s k q)
-    (delivered_room s g m r receives bs room) (delivered_room s g k q receives-too bs room)
-    (λ i a b c d. areas_disjoint s g r q receives receives-too apart i a (omega (arith, copied_short s m r)) c
+    (delivered_room s g m r receives bs room) (delivered_room s g k q receives_too bs room)
+    (λ i a b c d. areas_disjoint s g r q receives receives_too apart i a (omega (arith, copied_short s m r)) c
     (omega (arith, copied_short s k q))))
 
 -- GROUND

@@ -69,7 +69,7 @@ module _ {s : Sheet} {x y : Job} {i : ℕ} {arrival now : ℕ → ℕ} (X : Stab
 pub enter_stable : {s : Sheet} {x y : Job} {i v : ℕ} {arrival now : ℕ → ℕ} → Stable s arrival x → Later arrival now x i → Enters x y i v →
     (is_send (op s i) ≡ true → (r : ℕ) → PendingReceive s x r → fits_with s i r ≡ true → ⊥) →
     (is_receive (op s i) ≡ true → (m : ℕ) → PendingMessage s x m → fits_with s m i ≡ true → ⊥) → Stable s now y
-enter_stable {s} {x} {y} {i} {v} {arrival} {now} X L E no_receive no-message =
+enter_stable {s} {x} {y} {i} {v} {arrival} {now} X L E no_receive no_message =
     grow_stable X L G
     (λ m p h.
     let same = E.other m (enters_differ_now E m h) in
@@ -91,7 +91,7 @@ enter_stable {s} {x} {y} {i} {v} {arrival} {now} X L E no_receive no-message =
         no_receive (subst (λ (z : ℕ). is_send (op s z) ≡ true) e p.sends) r (grows_receive G r d q)
         (subst (λ (z : ℕ). fits_with s z r ≡ true) e f)
     none m r p q f (no d) (yes e) =
-        no-message (subst (λ (z : ℕ). is_receive (op s z) ≡ true) e q.receives) m (grows_message G m d p)
+        no_message (subst (λ (z : ℕ). is_receive (op s z) ≡ true) e q.receives) m (grows_message G m d p)
         (subst (λ (z : ℕ). fits_with s m z ≡ true) e f)
     none m r p q f (no d) (no c) = X.none_fit m r (grows_message G m d p) (grows_receive G r c q) f
 

@@ -19,8 +19,8 @@ use Rattle.invariant.specs.Invariant.{unmatched_state, Keeps, Unmatched}
 
 module _ (s : Sheet) (i : ℕ) where
   -- a standard send of a board that has a room
-  abbrev In-room : Type 0
-  In-room = (is_standard (op s i) ≡ true) × (0 < (board s (rank_of s i)).room)
+  abbrev InRoom : Type 0
+  InRoom = (is_standard (op s i) ≡ true) × (0 < (board s (rank_of s i)).room)
 
   pub unmatched_send : (k : Bool) → is_send (op s i) ≡ true → unmatched_state k (op s i) ≡ cond k 2 1
   unfolding unmatched_state
@@ -39,7 +39,7 @@ module _ (s : Sheet) (i : ℕ) where
   receive_never : {k : Bool} → is_receive (op s i) ≡ true → Keeps s i k → k ≡ false
   receive_never {k} e K = not_so k (λ t. go (K.only t))
     where
-      go : (is_buffered (op s i) ≡ true) ⊎ In-room → ⊥
+      go : (is_buffered (op s i) ≡ true) ⊎ InRoom → ⊥
       go (inl b) = true_not_false b (receive_not_buffered (op s i) e)
       go (inr b) = true_not_false b.0 (receive_not_standard (op s i) e)
 
@@ -65,7 +65,7 @@ module _ (s : Sheet) (i : ℕ) where
   unfolding unmatched_state kept_in store_of
   unmatched_kept {v} U two = go (only_half (op s i)) U.kept refl (sym U.is ∙ two)
     where
-      by : (is_buffered (op s i) ≡ true) ⊎ In-room → kept_in (cond (is_buffered (op s i)) in_attached in_room) (op s i) ≡ true
+      by : (is_buffered (op s i) ≡ true) ⊎ InRoom → kept_in (cond (is_buffered (op s i)) in_attached in_room) (op s i) ≡ true
       by (inl b) = subst (λ (c : Bool). kept_in (cond c in_attached in_room) (op s i) ≡ true) (sym b) b
       by (inr b) =
           subst (λ (c : Bool). kept_in (cond c in_attached in_room) (op s i) ≡ true)

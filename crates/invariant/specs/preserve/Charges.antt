@@ -105,5 +105,5 @@ charging_matches w {s} {x} {y} {m} {r} {i} q n M h l answers =
         sum_below (N_of s) (charge_in w s x q) + charge_in w s y q m ≡ sum_below (N_of s) (charge_in w s y q) + charge_in w s x q m →
         charge_in w s y q m ≡ 0 → charge_in w s x q m ≡ cond b (charge_of w (op s m)) 0 →
         cond b (n - charge_of w (op s m)) n ≡ sum_below (N_of s) (charge_in w s y q)
-    go true sums none-now was = omega (arith, sums, none-now, was, answers)
-    go false sums none-now was = omega (arith, sums, none-now, was, answers)
+    go true sums none_now was = omega (arith, sums, none_now, was, answers)
+    go false sums none_now was = omega (arith, sums, none_now, was, answers)

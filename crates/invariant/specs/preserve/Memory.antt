@@ -154,7 +154,7 @@ module _ {s : Sheet} (g : Valid s) (A : DeliveryLaws s) {arrival : ℕ → ℕ} 
   -- the area of a receive that is not matched, and of a later one that is entered
   pending_apart : (r q : ℕ) → r < q → r < N_of s → is_receive (op s r) ≡ true → is_receive (op s q) ≡ true → state_at x r ≢ 3 →
       Entered x q → AreasApart s r q
-  pending_apart r q l inside receives-r receives-q free entered = go (ℕ_discrete (rank_of s r) (rank_of s q))
+  pending_apart r q l inside receives_r receives_q free entered = go (ℕ_discrete (rank_of s r) (rank_of s q))
     where
       go : Dec (rank_of s r ≡ rank_of s q) → AreasApart s r q
       go (no d) = inl d
@@ -164,10 +164,10 @@ module _ {s : Sheet} (g : Valid s) (A : DeliveryLaws s) {arrival : ℕ → ℕ} 
           let passed : (j : ℕ) → rank_of s j ≡ rank_of s r → j < q → j < next_op s x (rank_of s j) =
           λ j c k. omega (arith, only.1, reach_most (rank_of s q), ap (λ (z : ℕ). next_op s x z) (c ∙ e)) in
           inr
-          (A.held_apart r q l only.0 e receives-r receives-q
-          (receive_no_half_takes (op s r) receives-r
-          (is_true (no_half (op s r)) (λ b. unmatched_half r receives-r free there
-          (p.passed_complete r inside (passed r refl l) b (receive_not_tells (op s r) receives-r)))))
+          (A.held_apart r q l only.0 e receives_r receives_q
+          (receive_no_half_takes (op s r) receives_r
+          (is_true (no_half (op s r)) (λ b. unmatched_half r receives_r free there
+          (p.passed_complete r inside (passed r refl l) b (receive_not_tells (op s r) receives_r)))))
           (λ w a b c f o. waits w a b c f o there (passed w c b) only.0))
         where
           waits : (w : ℕ) → r < w → w < q → rank_of s w ≡ rank_of s r → frees_slot (op s w) ≡ true → waited s w ≡ some r →
@@ -175,7 +175,7 @@ module _ {s : Sheet} (g : Valid s) (A : DeliveryLaws s) {arrival : ℕ → ℕ} 
               w < next_op s x (rank_of s w) → q < N_of s → ⊥
           waits w a b c f o there passed k =
               let inside_w : w < N_of s = omega arith in
-              unmatched_waited r receives-r free there w f o
+              unmatched_waited r receives_r free there w f o
               (p.passed_complete w inside_w passed (frees_not_no_half s g w inside_w f) (frees_not_tells (op s w) f))
 
   -- A MATCH replays one delivery more

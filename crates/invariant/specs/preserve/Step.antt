@@ -173,12 +173,12 @@ module _ {s : Sheet} (g : Valid s) (A : DeliveryLaws s) {lent : List ℕ} (room 
           Holds (PostedBefore s) (PendingReceive s y) y.receives →
           ((w : Store) (q : ℕ) → q < P_of s → in_use_at w y q ≡ sum_below (N_of s) (charge_in w s y q)) →
           ((w : Store) (q : ℕ) → q < P_of s → in_use_at w y q ≤ size_of w (board s q)) → Extended R y i
-      sound_enters state given bare here no_receive no-message messages receives uses fitting =
+      sound_enters state given bare here no_receive no_message messages receives uses fitting =
           extended_ongoing T
           (record {
             old = arrival_old (enters_grows E);
             new = λ now_in out. later.new;
-            stable = enter_stable R.stable later E no_receive no-message;
+            stable = enter_stable R.stable later E no_receive no_message;
             arrived = arrived_step R.arrived (enters_grows E) R.placed T.moved.steps_more;
             shaped = shaped_enters R.shaped E state bare;
             same_state = λ j there d. state_same (E.other j (λ e. omega (arith, E.fresh, state_name x e)));

@@ -23,11 +23,11 @@ module _ (s : Sheet) (g : Valid s) (i : ℕ) (l : i < N_of s) (names_none : name
   pub rule_area : (j : ℕ) → j < i → holds s j i ≡ true → is_receive (op s j) ≡ true → is_receive (op s i) ≡ true →
       share (op s j) (op s i) ≡ false
   unfolding area_taken
-  rule_area j h held receives receives-here =
+  rule_area j h held receives receives_here =
       not_so (share (op s j) (op s i))
       (λ shared.
       true_not_false
-      (and_both receives-here (below_some i (λ k. holds s k i && (is_receive (op s k) && share (op s k) (op s i))) j h
+      (and_both receives_here (below_some i (λ k. holds s k i && (is_receive (op s k) && share (op s k) (op s i))) j h
       (and_both held (and_both receives shared))))
       (not-true (is_receive (op s i) && area_taken s i)
       (and_right (not (takes_slot (op s i) && slot_held s i (op s i).slot))

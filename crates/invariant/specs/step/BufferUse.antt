@@ -295,14 +295,14 @@ stepped_moved {x} {ps} {change} y U r last l are long stop steps = (M, λ w q. m
 pub set_enters : (x y : Job) (i v : ℕ) (new : Entry) → new.state ≡ v → state_at x i ≡ 0 → i < length x.entries → 1 ≤ v → v ≢ 3 →
     y.entries ≡ set x.entries i new → Enters x y i v × (entry_at y i ≡ new)
 unfolding entry_at
-set_enters x y i v new state fresh l some-v no_match are = (
+set_enters x y i v new state fresh l some_v no_match are = (
   record {
     fresh = fresh;
     state = ap (λ (e : Entry). e.state) row ∙ state;
     other =
         λ j d. ap (λ (e : List Entry). get_or e j (bare_entry 0)) are
         ∙ get_or-set_other x.entries i j new (bare_entry 0) d;
-    some_state = some-v;
+    some_state = some_v;
     no_match = no_match;
   },
   row,

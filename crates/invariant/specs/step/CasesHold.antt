@@ -82,8 +82,8 @@ module _ (s : Sheet) (g : Valid s) (lent : List ℕ) (x : Job) (R : Reached s le
   entered_bare : (y : Job) → (place_at x r).waiting ≡ false → (v : ℕ) → 1 ≤ v → v ≢ 3 → y.entries ≡ set x.entries here (bare_entry v) →
       EnteredBare y v
   unfolding bare_entry entry
-  entered_bare y w v some-v no_match are =
-      set_enters x y here v (bare_entry v) refl (next_fresh s x r R.placed n w) entries_inside some-v no_match are
+  entered_bare y w v some_v no_match are =
+      set_enters x y here v (bare_entry v) refl (next_fresh s x r R.placed n w) entries_inside some_v no_match are
 
   -- a waiting half ends
   outcome_half : (place_at x r).waiting ≡ true → Outcome s x (counted (ended s r here x)) r here
@@ -219,9 +219,9 @@ module _ (s : Sheet) (g : Valid s) (lent : List ℕ) (x : Job) (R : Reached s le
       kept_in v (op s here) ≡ true → first_receive s here x.receives ≡ none → fits_beside v s r here x ≡ true →
       Outcome s x (counted (kept v s r here x)) r here
   unfolding kept initiated charge pend_message with_messages with_place with_places with_steps with_state with_entries job place_at
-  outcome_kept v w e is in-v none_fits fits =
+  outcome_kept v w e is in_v none_fits fits =
       outcome_pends y true is w e none_fits (λ u a b. fits_there u a (this_or_other v u))
-      (stepped_moved y (used_charged s x R.in_use_peak r here v places_inside in-v) r (no_half (op s here)) places_inside
+      (stepped_moved y (used_charged s x R.in_use_peak r here v places_inside in_v) r (no_half (op s here)) places_inside
       refl (length-set x.entries here (bare_entry 2)) refl refl)
       (entered_bare y w 2 (omega arith) (omega arith) refl) refl refl refl
     where
@@ -230,7 +230,7 @@ module _ (s : Sheet) (g : Valid s) (lent : List ℕ) (x : Job) (R : Reached s le
 
       fits_there : (u : Store) → kept_in u (op s here) ≡ true → (u ≡ v) ⊎ Other v u → fits_beside u s r here x ≡ true
       fits_there u a (inl c) = subst (λ (z : Store). fits_beside z s r here x ≡ true) (sym c) fits
-      fits_there u a (inr o) = true_not_false a (o.not_kept (op s here) in-v)
+      fits_there u a (inr o) = true_not_false a (o.not_kept (op s here) in_v)
 
   -- a message and a receive are matched
   outcome_matches : (m q : ℕ) → (place_at x r).waiting ≡ false → is_send (op s m) ≡ true → is_receive (op s q) ≡ true →
@@ -238,7 +238,7 @@ module _ (s : Sheet) (g : Valid s) (lent : List ℕ) (x : Job) (R : Reached s le
       (m ≢ here → Entered x m) → (q ≢ here → Entered x q) → Finds s x here m q →
       Outcome s x (counted (initiated s r here (matched s m q x))) r here
   unfolding initiated with_place with_places with_steps job place_at entry_at
-  outcome_matches m q w sm rq fit lm lq free-m free-q there-m there-q found =
+  outcome_matches m q w sm rq fit lm lq free_m free_q there_m there_q found =
       subst (λ (z : Job). Outcome s x (counted (initiated s r here z)) r here) (sym (matched_is s m q x))
       (matches m q
       (record {
@@ -281,7 +281,7 @@ module _ (s : Sheet) (g : Valid s) (lent : List ℕ) (x : Job) (R : Reached s le
       p =
           stepped_moved y
           (used_released s x R.in_use_peak m (omega (arith, g.rank_small m lm, R.placed.places_long))
-          (λ two. unmatched_kept s m (R.shaped.unmatched m (omega (arith, two)) free-m) two))
+          (λ two. unmatched_kept s m (R.shaped.unmatched m (omega (arith, two)) free_m) two))
           r nb places_inside
           refl
           (length-set (set x.entries m A) q B ∙ length-set x.entries m A) refl refl
@@ -297,12 +297,12 @@ module _ (s : Sheet) (g : Valid s) (lent : List ℕ) (x : Job) (R : Reached s le
                 ∙ get_or-set_same x.entries m A z (omega (arith, long));
             receive_row = get_or-set_same (set x.entries m A) q B z (omega (arith, long, length-set x.entries m A));
             other = λ j a b. get_or-set_other (set x.entries m A) q j B z b ∙ get_or-set_other x.entries m j A z a;
-            message_free = free-m;
-            receive_free = free-q;
+            message_free = free_m;
+            receive_free = free_q;
             one = one found;
             fresh = next_fresh s x r R.placed n w;
-            message_there = there-m;
-            receive_there = there-q;
+            message_there = there_m;
+            receive_there = there_q;
           }
 
   -- what the searches find is pending, and fits

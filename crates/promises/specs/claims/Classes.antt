@@ -13,8 +13,8 @@ use Rattle.rules.specs.Job.{Job}
 use Rattle.rules.specs.Step.{next_op}
 use Rattle.rules.specs.Claims.{accepts, left_by, Alike}
 use Rattle.laws.specs.Tests.{and_left, and_right, and_both, true_not_false, not_so}
-use Rattle.promises.specs.ExchangeStatements.{HarmlessSteps, SwapGeneral, SwapAnySource, initiates_send, send_to_one, has_any_receive, may_race, Goes_on, Exchangeable, SameOutcome}
-use Rattle.promises.specs.ExchangeStatements.{OneExchange, Exchanges, In-class, ExchangeClass, Classes, SameClass, SameClassGeneral}
+use Rattle.promises.specs.ExchangeStatements.{HarmlessSteps, SwapGeneral, SwapAnySource, initiates_send, send_to_one, has_any_receive, may_race, GoesOn, Exchangeable, SameOutcome}
+use Rattle.promises.specs.ExchangeStatements.{OneExchange, Exchanges, InClass, ExchangeClass, Classes, SameClass, SameClassGeneral}
 use Rattle.promises.specs.claims.SwapGeneral.{swap_general}
 use Rattle.promises.specs.claims.SwapAnySource.{swap_any_source}
 
@@ -50,13 +50,13 @@ module _ (May : Sheet → Job → (p q : ℕ) → Type 0) (s : Sheet) (i : List 
 
 -- SAME OUTCOMES
 pub same_class_general : SameClassGeneral
-unfolding SameClassGeneral In-class SwapGeneral SameOutcome
+unfolding SameClassGeneral InClass SwapGeneral SameOutcome
 same_class_general bs i a b l h =
     chain_outcome HarmlessSteps (sheet_in bs) i (λ before after p q accepted E. swap_general bs i before after p q l accepted
     E.0 E.1 E.2 E.3) h.0 a b h.1
 
 pub same_class : SameClass
-unfolding SameClass In-class SwapAnySource
+unfolding SameClass InClass SwapAnySource
 same_class bs i a b l S h =
     chain_outcome Exchangeable (sheet_in bs) i (λ before after p q accepted E. swap_any_source bs i before after p q l S accepted E)
     h.0 a b h.1
@@ -77,7 +77,7 @@ one_exchange May s i before after p q accepted allowed =
     }
 
 pub exchange_class : ExchangeClass
-unfolding ExchangeClass In-class Exchanges
+unfolding ExchangeClass InClass Exchanges
 exchange_class s i before after p q accepted allowed =
     (1, (before ++ (q ∷ p ∷ after), one_exchange Exchangeable s i before after p q accepted allowed, refl))
 
@@ -103,7 +103,7 @@ race_back s x p q h = not_so (may_race s x q p) (λ r. true_not_false (turned r)
         (subst (λ (z : ℕ). has_any_receive s a.peer z ≡ true) comm (and_right (both && one) (has_any_receive s a.peer a.comm) r)))
 
 exchangeable_back : (s : Sheet) (x : Job) (p q : ℕ) → Exchangeable s x p q → Exchangeable s x q p
-unfolding Goes_on
+unfolding GoesOn
 exchangeable_back s x p q E =
     record {
       differ = λ e. E.differ (sym e);
@@ -127,22 +127,22 @@ exchanged_back s i a b h =
     }
 
 chain_on : (s : Sheet) (i : List ℕ) (n m : ℕ) (a b c : List ℕ) → Exchanges Exchangeable n s i a b → Exchanges Exchangeable m s i b c →
-    In-class Exchangeable s i a c
-unfolding Exchanges In-class
+    InClass Exchangeable s i a c
+unfolding Exchanges InClass
 chain_on s i zero m a b c e h = (m, subst (λ (z : List ℕ). Exchanges Exchangeable m s i z c) (sym e) h)
 chain_on s i (suc n) m a b c f h =
     let rest = chain_on s i n m f.0 b c f.2 h in
     (suc rest.0, (f.0, f.1, rest.1))
 
-chain_back : (s : Sheet) (i : List ℕ) (n : ℕ) (a b : List ℕ) → Exchanges Exchangeable n s i a b → In-class Exchangeable s i b a
-unfolding Exchanges In-class
+chain_back : (s : Sheet) (i : List ℕ) (n : ℕ) (a b : List ℕ) → Exchanges Exchangeable n s i a b → InClass Exchangeable s i b a
+unfolding Exchanges InClass
 chain_back s i zero a b e = (0, sym e)
 chain_back s i (suc n) a b f =
     let rest = chain_back s i n f.0 b f.2 in
     chain_on s i rest.0 1 b f.0 a rest.1 (a, exchanged_back s i a f.0 f.1, refl)
 
 pub classes : Classes
-unfolding Classes In-class Exchanges
+unfolding Classes InClass Exchanges
 classes s i =
     record {
       same = λ a. (0, refl);

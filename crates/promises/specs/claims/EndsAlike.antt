@@ -36,22 +36,22 @@ module _ {bs i : List ℕ} (h : Given bs i) where
   -- two orders after which no board is able
   full_alike : (a b : List ℕ) → none_able s (left_by s a i) ≡ true → none_able s (left_by s b i) ≡ true →
       Alike s (left_by s a i) (left_by s b i)
-  full_alike a b full-a full-b =
+  full_alike a b full_a full_b =
       let g = lent_valid lent in
       let A = delivery_laws s g in
       positions_alike g
-      (ends_same_positions g A h.calm_sheet a b i h.room (next_none s g (left_by s a i) full-a) (next_none s g (left_by s b i) full-b)
+      (ends_same_positions g A h.calm_sheet a b i h.room (next_none s g (left_by s a i) full_a) (next_none s g (left_by s b i) full_b)
       (left_reached g A h.room a) (left_reached g A h.room b))
 
 pub ends_alike : EndsAlike
 unfolding EndsAlike RunEnds
-ends_alike bs i a b h accepted-a accepted-b full-a full-b =
+ends_alike bs i a b h accepted_a accepted_b full_a full_b =
     let E = run_ends bs i (lent h) in
     let order = (run (sheet_in bs) i).order in
     let full_run : none_able (sheet_in bs) (left_by (sheet_in bs) order i) ≡ true =
     ap (λ (x : Job). none_able (sheet_in bs) x) E.same_job ∙ E.none_left in (
-      full_alike h a b full-a full-b,
-      subst (λ (x : Job). Alike (sheet_in bs) (left_by (sheet_in bs) a i) x) E.same_job (full_alike h a order full-a full_run),
+      full_alike h a b full_a full_b,
+      subst (λ (x : Job). Alike (sheet_in bs) (left_by (sheet_in bs) a i) x) E.same_job (full_alike h a order full_a full_run),
     )
 
 pub calls_follow_alike : FollowsAlike

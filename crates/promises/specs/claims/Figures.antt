@@ -1,6 +1,6 @@
 -- Figures along an order: what is in use is the sum of the charges pending, the peak is the most in use after any step so far,
 -- and steps are counted.
---   in_use_reached     the statement In-use, of one job that keeps the invariant
+--   in_use_reached     the statement InUse, of one job that keeps the invariant
 --   kept_reached       the statement KeptInOne
 --   step_peak          a step raises the peak to what is then in use
 --   follow_peak        so the peak that an order leaves is the most of them

@@ -10,7 +10,7 @@ use Rattle.rules.specs.Job.{job, started}
 use Rattle.rules.specs.Order.{follow}
 use Rattle.rules.specs.Report.{pending_messages, pending_receives, cut_messages, is_pending_message, is_pending_receive}
 use Rattle.rules.specs.Claims.{accepts, left_by}
-use Rattle.promises.specs.Statements.{Lent, told_by, Deliveries, Exact, Verdicts, FinishedLeavesNone, NoRequestLeft, Charged, In-use, Peaks, BufferedByMode, KeptInOne, WithinSize, BuffersHold, Counts, Steps}
+use Rattle.promises.specs.Statements.{Lent, told_by, Deliveries, Exact, Verdicts, FinishedLeavesNone, NoRequestLeft, Charged, InUse, Peaks, BufferedByMode, KeptInOne, WithinSize, BuffersHold, Counts, Steps}
 use Rattle.invariant.specs.sheet.Valid.{Valid}
 use Rattle.invariant.specs.sheet.FromBytes.{valid_from_bytes}
 use Rattle.invariant.specs.Invariant.{Reached}
@@ -40,8 +40,8 @@ unfolding NoRequestLeft FinishedLeavesNone Verdicts Exact told_by
 no_request_left bs i rs h e =
     none_left (lent_valid h) (lent_reached h rs) ((verdicts bs i rs h).finished.0 e).1
 
-pub in_use : In-use
-unfolding In-use Charged told_by
+pub in_use : InUse
+unfolding InUse Charged told_by
 in_use bs i rs h w r l = in_use_reached (lent_reached h rs) w r l
 
 pub kept_in_one : KeptInOne

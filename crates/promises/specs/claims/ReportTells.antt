@@ -212,11 +212,11 @@ module _ (second : Bool) {s : Sheet} (no_room : second ≡ false → (r : ℕ) �
   figure_told : (f : Place → ℕ) (at r : ℕ) → f first_place ≡ 0 →
       (r < P_of s → two told (board_row_at second r + at) ≡ f (place_at x r)) → board_figure second s told at r ≡ f (place_at x r)
   unfolding board_figure
-  figure_told f at r zero-first there = go (ltb r (P_of s)) refl
+  figure_told f at r zero_first there = go (ltb r (P_of s)) refl
     where
       go : (b : Bool) → ltb r (P_of s) ≡ b → cond b (two told (board_row_at second r + at)) 0 ≡ f (place_at x r)
       go true e = there (ltb-true r (P_of s) e)
-      go false e = sym (ap f (no_place r (ltb-false r (P_of s) e)) ∙ zero-first)
+      go false e = sym (ap f (no_place r (ltb-false r (P_of s) e)) ∙ zero_first)
 
   -- in the first edition a room's figures are 0
   room_none : second ≡ false → (r : ℕ) → (0 ≡ in_use_at in_room x r) × (0 ≡ peak_at in_room x r)

@@ -27,7 +27,7 @@ use Rattle.invariant.specs.step.LowestAble.{next_none}
 use Rattle.promises.specs.Statements.{Lent, Told, told_by, EarlierFirst, ByArrival}
 use Rattle.promises.specs.Statements.{NoneFit, NoOvertaking, NoOvertakingReceives, Statuses, SendStatuses}
 use Rattle.promises.specs.Statements.{Delivered, Deliveries, Exact, Verdicts, FinishedLeavesNone, NoRequestLeft, StopReasons, Steps}
-use Rattle.promises.specs.Statements.{Counted, Counts, In-use, Peaks, BuffersHold, Ends, RunEnds}
+use Rattle.promises.specs.Statements.{Counted, Counts, InUse, Peaks, BuffersHold, Ends, RunEnds}
 use Rattle.promises.specs.Statements.{NoPairLeft, SendsInOrder, ReceivesInOrder, MatchedReceives}
 use Rattle.promises.specs.Statements.{MatchedSends, WhyStopped, Charged, BufferedByMode, KeptInOne, WithinSize}
 use Rattle.promises.specs.ProbeStatements.{Probes, ProbesTold, Queries, QueriesTold, ToldThenReceived, ReceivesTold}
@@ -65,7 +65,7 @@ module _ {bs i : List ℕ} (h : Lent bs i) (rs : List ℕ) {inbox out : List ℕ
 
   pub reported : Reported (second_in bs) (sheet_in bs) i inbox out
   unfolding NoneFit NoOvertaking NoOvertakingReceives Statuses SendStatuses Probes Queries ToldThenReceived Deliveries
-      Verdicts NoRequestLeft StopReasons Counts In-use KeptInOne BuffersHold
+      Verdicts NoRequestLeft StopReasons Counts InUse KeptInOne BuffersHold
   reported =
       record {
         none_fit = of_report (NoPairLeft (sheet_in bs)) (none_fit bs i rs h);

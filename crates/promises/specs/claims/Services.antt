@@ -153,13 +153,13 @@ same_back bs i j h = sym h
 -- THE LAWS
 pub follows_alike : EndsAlike → FollowsAlike
 unfolding EndsAlike FollowsAlike
-follows_alike ends bs a b f g p c same zero_f zero_g full-a full-b =
+follows_alike ends bs a b f g p c same zero_f zero_g full_a full_b =
     shown_alike bs (follow_shows p f zero_f) (follow_shows p g zero_g)
     (front_next
     (front_alike
     (ends bs f.inbox a b (follow_given p f c) (follow_accepted p f zero_f)
-    (two_accepted there here (same_back bs f.inbox g.inbox same) b (follow_accepted p g zero_g)) full-a
-    (two_none_able there here (same_back bs f.inbox g.inbox same) b full-b)).0)
+    (two_accepted there here (same_back bs f.inbox g.inbox same) b (follow_accepted p g zero_g)) full_a
+    (two_none_able there here (same_back bs f.inbox g.inbox same) b full_b)).0)
     (two_alike here there same b))
   where
     here : Lent bs f.inbox
@@ -242,5 +242,5 @@ follow_swaps_any_source swap bs before after p q f g pass sheet same accepted E 
 
 pub follow_same_class : SameClass → FollowSameClass
 unfolding SameClass FollowSameClass
-follow_same_class classes bs a b f g pass sheet same in-class =
-    calls_same pass f g same (classes bs f.inbox a b (follow_lent pass f) sheet in-class)
+follow_same_class classes bs a b f g pass sheet same in_class =
+    calls_same pass f g same (classes bs f.inbox a b (follow_lent pass f) sheet in_class)

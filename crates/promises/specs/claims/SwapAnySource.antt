@@ -17,8 +17,8 @@ use Rattle.laws.specs.Calm.{rooms_all}
 use Rattle.laws.specs.Decoded.{first_room}
 use Rattle.laws.specs.Tests.{and_left, and_both, or_cases, or_false_left, true_not_false, decided, not_so}
 use Rattle.promises.specs.Statements.{Lent}
-use Rattle.promises.specs.ExchangeStatements.{Tells_same, KeepsSame, Harmless, none_of, is_any_receive, is_any_probe, no_query, no_any_probe, ExchangeSheet}
-use Rattle.promises.specs.ExchangeStatements.{initiates_send, send_to_one, has_any_receive, may_race, Goes_on, Exchangeable, SameOutcome, SwapGeneral, SwapAnySource}
+use Rattle.promises.specs.ExchangeStatements.{TellsSame, KeepsSame, Harmless, none_of, is_any_receive, is_any_probe, no_query, no_any_probe, ExchangeSheet}
+use Rattle.promises.specs.ExchangeStatements.{initiates_send, send_to_one, has_any_receive, may_race, GoesOn, Exchangeable, SameOutcome, SwapGeneral, SwapAnySource}
 use Rattle.invariant.specs.sheet.Valid.{Valid}
 use Rattle.invariant.specs.sheet.Extents.{receive_inside}
 use Rattle.invariant.specs.sheet.Kinds.{fit_board, fit_comm}
@@ -110,7 +110,7 @@ sheet_rooms bs S = go (decided (second_in bs))
 -- THE LAWS
 exchangeable_harmless : {bs i : List ℕ} (h : Lent bs i) (before : List ℕ) (p q : ℕ) → ExchangeSheet bs →
     Exchangeable (sheet_in bs) (left_by (sheet_in bs) before i) p q → Harmless (sheet_in bs) (left_by (sheet_in bs) before i) p q
-unfolding Tells_same Goes_on
+unfolding TellsSame GoesOn
 exchangeable_harmless {bs} {i} h before p q S E =
     record {
       goes_on = E.goes_on.0;

@@ -13,7 +13,7 @@ use Rattle.laws.specs.Calm.{calm_rooms}
 use Rattle.laws.specs.Tests.{and_left, and_right, true_not_false, not_so}
 use Rattle.promises.specs.Statements.{Lent, SwapSame}
 use Rattle.promises.specs.ExchangeStatements.{is_any_receive, is_any_probe, no_query, no_any_probe, ExchangeSheet, send_to_one, has_any_receive, may_race}
-use Rattle.promises.specs.ExchangeStatements.{Goes_on, Exchangeable, SameOutcome, SwapAnySource}
+use Rattle.promises.specs.ExchangeStatements.{GoesOn, Exchangeable, SameOutcome, SwapAnySource}
 use Rattle.invariant.specs.deliveries.Commute.{delivery_laws}
 use Rattle.promises.specs.compare.Exchange.{E, swap_able}
 use Rattle.promises.specs.compare.CalmSheets.{calm_going, calm_not_any_source, calm_no_query}
@@ -63,7 +63,7 @@ module _ {bs i : List ℕ} (h : Lent bs i) (before : List ℕ) (c : calm (sheet_
       calm_going g c (E g A h.room X j a going).reached k (swap_able g A h.room X j a going k (λ f. e (sym f)) b)
 
   calm_exchangeable : (p q : ℕ) → p ≢ q → able s x p ≡ true → able s x q ≡ true → Exchangeable s x p q
-  unfolding Goes_on
+  unfolding GoesOn
   calm_exchangeable p q d a b =
       record {
         differ = d;

@@ -76,15 +76,15 @@ module _ {s : Sheet} {i j : List ℕ} {x y x_now y_now : Job} {X : Reached s i x
       fits_with s m r ≡ true →
       Entered y_now k → Entered x_now m → (Entered x k → ⊥) → (Entered x m → ⊥) → k ≢ m → ⊥) →
       SameOrder s X_now.arrival x_now Y_now.arrival y_now
-  arrivals_order on back back-now order no_Race k m r sk sm rr fk fm there-m there-k l =
-      (back-now k there-k, go (dec_le 1 (state_at x k)) (dec_le 1 (state_at x m)))
+  arrivals_order on back back_now order no_race k m r sk sm rr fk fm there_m there_k l =
+      (back_now k there_k, go (dec_le 1 (state_at x k)) (dec_le 1 (state_at x m)))
     where
       go : Dec (Entered x k) → Dec (Entered x m) → X_now.arrival k < X_now.arrival m
       go (yes hk) (yes hm) =
           let was = order k m r sk sm rr fk fm hm (on k hk) (omega (arith, l, b.old k (on k hk), b.old m (on m hm))) in
           omega (arith, was.1, a.old k hk, a.old m hm)
-      go (yes hk) (no out) = a.new k m hk there-m out
-      go (no out) (yes hm) = absurd (omega (arith, l, b.new m k (on m hm) there-k (λ h. out (back k h))))
+      go (yes hk) (no out) = a.new k m hk there_m out
+      go (no out) (yes hm) = absurd (omega (arith, l, b.new m k (on m hm) there_k (λ h. out (back k h))))
       go (no out) (no gone) =
-          absurd (no_Race k m r sk sm rr fk fm there-k there-m out gone
+          absurd (no_race k m r sk sm rr fk fm there_k there_m out gone
           (λ e. omega (arith, l, ap (λ (z : ℕ). Y_now.arrival z) e)))

@@ -157,7 +157,7 @@ pub ends_same_positions : {s : Sheet} (g : Valid s) (A : DeliveryLaws s) (c : ca
     ((r : ℕ) → able s (left_by s a lent) r ≡ false) → ((r : ℕ) → able s (left_by s b lent) r ≡ false) →
     (X : Reached s lent (left_by s a lent)) (Y : Reached s lent (left_by s b lent)) → SamePositions X Y
 unfolding is_none
-ends_same_positions {s} g A c a b lent room end-a end-b X Y =
+ends_same_positions {s} g A c a b lent room end_a end_b X Y =
     record {
       stop = going_x ∙ sym going_y;
       steps =
@@ -187,7 +187,7 @@ ends_same_positions {s} g A c a b lent room end-a end-b X Y =
     places : (r : ℕ) → r < P_of s → position x r ≡ position y r
     places r l = omega (
       arith,
-      left_behind g A c lent room Y going_y end-b a r l,
-      left_behind g A c lent room X going_x end-a b r
+      left_behind g A c lent room Y going_y end_b a r l,
+      left_behind g A c lent room X going_x end_a b r
           l,
     )

@@ -20,7 +20,7 @@ use Rattle.rules.specs.Job.{Job, entry_at, place_at}
 use Rattle.rules.specs.Step.{able, step, next_op, in_waiting_half, fits_with, fits_room, complete_if, waited, query_row, half_row}
 use Rattle.rules.specs.Claims.{is_any_source}
 use Rattle.laws.specs.Tests.{and_both}
-use Rattle.promises.specs.ExchangeStatements.{Harmless, Tells_same, KeepsSame}
+use Rattle.promises.specs.ExchangeStatements.{Harmless, TellsSame, KeepsSame}
 use Rattle.invariant.specs.sheet.Valid.{Valid}
 use Rattle.invariant.specs.deliveries.Laws.{DeliveryLaws}
 use Rattle.invariant.specs.sheet.Kinds.{send_not_only_half, standard_send, fit_source, completion_tells}
@@ -181,7 +181,7 @@ module _ {s : Sheet} (g : Valid s) (A : DeliveryLaws s) {lent : List ℕ} (room 
 
       race : (op s w).peer ≡ any → ⊥
       race e =
-          H.no_Race w (in_no_half p k a ek sk out) (in_no_half q m b em sm gone) (ap (λ (z : ℕ). is_send (op s z)) (sym ek) ∙ sk)
+          H.no_race w (in_no_half p k a ek sk out) (in_no_half q m b em sm gone) (ap (λ (z : ℕ). is_send (op s z)) (sym ek) ∙ sk)
           (ap (λ (z : ℕ). is_send (op s z)) (sym em) ∙ sm) (and_both rr (eq-eqb (op s w).peer any e))
           (ap (λ (z : ℕ). fits_with s z w) (sym ek) ∙ fk) (ap (λ (z : ℕ). fits_with s z w) (sym em) ∙ fm)
 
@@ -219,7 +219,7 @@ module _ {s : Sheet} (g : Valid s) (A : DeliveryLaws s) {lent : List ℕ} (room 
   swap_queries : (on : (k : ℕ) → Entered (step s q (step s p x)) k → Entered (step s p (step s q x)) k) →
       (back : (k : ℕ) → Entered (step s p (step s q x)) k → Entered (step s q (step s p x)) k) → (k : ℕ) → tells_completion (op s k) ≡ true →
       entry_at (step s p (step s q x)) k ≡ entry_at (step s q (step s p x)) k
-  unfolding Tells_same
+  unfolding TellsSame
   swap_queries on back k t = go (dec_le 1 (state_at x k)) (dec_le 1 (state_at (step s q (step s p x)) k))
     where
       told : tells (op s k) ≡ true
@@ -230,12 +230,12 @@ module _ {s : Sheet} (g : Valid s) (A : DeliveryLaws s) {lent : List ℕ} (room 
       go (yes h) _ =
           EQP.telling.kept k told (EQ.on k h) ∙ EQ.telling.kept k told h
           ∙ sym (EPQ.telling.kept k told (EP.on k h) ∙ EP.telling.kept k told h)
-      go (no out) (no not-now) =
+      go (no out) (no not_now) =
           EQP.reached.shaped.row_new k (fresh (dec_le 1 (state_at (step s p (step s q x)) k)))
           ∙ sym (EPQ.reached.shaped.row_new k (omega arith))
         where
           fresh : Dec (Entered (step s p (step s q x)) k) → state_at (step s p (step s q x)) k ≡ 0
-          fresh (yes h) = absurd (not-now (back k h))
+          fresh (yes h) = absurd (not_now (back k h))
           fresh (no c) = omega arith
       go (no out) (yes inn) = new (entered_since k inn out)
         where
@@ -320,7 +320,7 @@ module _ {s : Sheet} (g : Valid s) (A : DeliveryLaws s) {lent : List ℕ} (room 
 
       same_p : (Entered x (next_op s x p) → ⊥) →
           is_kept s (rank_of s (next_op s x p)) (next_op s x p) x ≡ is_kept s (rank_of s (next_op s x p)) (next_op s x p) (step s q x)
-      same_p = same_kept p q (next_op s x p) a H.keeps-same refl
+      same_p = same_kept p q (next_op s x p) a H.keeps_same refl
 
       same_q : (Entered x (next_op s x q) → ⊥) →
           is_kept s (rank_of s (next_op s x q)) (next_op s x q) x ≡ is_kept s (rank_of s (next_op s x q)) (next_op s x q) (step s p x)

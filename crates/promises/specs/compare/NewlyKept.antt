@@ -29,7 +29,7 @@ is_kept_by s r k x y same = ap (λ (b : Bool). is_buffered (op s k) || b) (go (i
 pub kept_alike : {s : Sheet} {k a b : ℕ} {l m : List ℕ} {x y x' y' : Job} {X : Reached s l x} {Y : Reached s m y} → Extended X x' a →
     Extended Y y' b → k ≡ a → k ≡ b → (Entered x k → ⊥) → (Entered y k → ⊥) → Entered y' k →
     is_kept s (rank_of s k) k x ≡ is_kept s (rank_of s k) k y → state_at x' k ≡ 2 → 2 ≤ state_at y' k
-kept_alike {s} {k} {a} {b} {l} {m} {x} {y} {x'} {y'} F G e f out-x out-y there same two = go (ℕ_discrete (state_at y' k) 3)
+kept_alike {s} {k} {a} {b} {l} {m} {x} {y} {x'} {y'} F G e f out_x out_y there same two = go (ℕ_discrete (state_at y' k) 3)
   where
     -- the state of an operation that entered and is not matched
     state_of : {n : List ℕ} {z w : Job} {Z : Reached s n z} {c : ℕ} → Extended Z w c → k ≡ c → (Entered z k → ⊥) → Entered w k →
@@ -42,8 +42,8 @@ kept_alike {s} {k} {a} {b} {l} {m} {x} {y} {x'} {y'} F G e f out-x out-y there s
     go : Dec (state_at y' k ≡ 3) → 2 ≤ state_at y' k
     go (yes d) = omega (arith, d)
     go (no d) =
-        let was = state_of F e out-x (omega (arith, two)) (λ h. omega (arith, two, h)) in
-        let is = state_of G f out-y there d in
+        let was = state_of F e out_x (omega (arith, two)) (λ h. omega (arith, two, h)) in
+        let is = state_of G f out_y there d in
         omega (arith, two, was, is, ap (λ (c : Bool). unmatched_state c (op s k)) same)
 
 -- one step of operation a in both jobs: what is buffered in the one is buffered or matched in the other, after it as before
@@ -66,7 +66,7 @@ pub exchange_kept : {s : Sheet} {l : List ℕ} {x xa xb xab xba : Job} {X : Reac
     ((Entered x a → ⊥) → is_kept s (rank_of s a) a x ≡ is_kept s (rank_of s a) a xb) →
     ((Entered x b → ⊥) → is_kept s (rank_of s b) b x ≡ is_kept s (rank_of s b) b xa) →
     (k : ℕ) → state_at xab k ≡ 2 → 2 ≤ state_at xba k
-exchange_kept {s} {l} {x} {xa} {xb} {xab} {xba} {X} {a} {a'} {b} {b'} A AB B BA ea eb apart on same-a same-b k two = go (dec_le 1 (state_at x k))
+exchange_kept {s} {l} {x} {xa} {xb} {xab} {xba} {X} {a} {a'} {b} {b'} A AB B BA ea eb apart on same_a same_b k two = go (dec_le 1 (state_at x k))
   where
     inn : Entered xab k
     inn = omega (arith, two)
@@ -80,14 +80,14 @@ exchange_kept {s} {l} {x} {xa} {xb} {xab} {xba} {X} {a} {a'} {b} {b'} A AB B BA 
         let first_in : Entered xa k = AB.back k (λ f. apart (sym e ∙ f ∙ sym eb)) inn in
         kept_alike A BA e (e ∙ ea) out (λ h. out (B.back k (λ f. apart (sym e ∙ f)) h)) (on k inn)
         (subst (λ (z : ℕ). is_kept s (rank_of s z) z x ≡ is_kept s (rank_of s z) z xb) (sym e)
-        (same-a (subst (λ (z : ℕ). Entered x z → ⊥) e out)))
+        (same_a (subst (λ (z : ℕ). Entered x z → ⊥) e out)))
         (two_first first_in)
     new out (no d) (yes e) =
         let first_in : Entered xb k = BA.back k (λ f. d (f ∙ sym ea)) (on k inn) in
         BA.complete_on k
         (kept_alike AB B (e ∙ eb) e (λ h. out (A.back k d h)) out first_in
         (sym (subst (λ (z : ℕ). is_kept s (rank_of s z) z x ≡ is_kept s (rank_of s z) z xa) (sym e)
-        (same-b (subst (λ (z : ℕ). Entered x z → ⊥) e out))))
+        (same_b (subst (λ (z : ℕ). Entered x z → ⊥) e out))))
         two)
     new out (no d) (no c) = absurd (out (A.back k d (AB.back k (λ f. c (f ∙ sym eb)) inn)))
 

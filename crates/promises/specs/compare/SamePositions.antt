@@ -225,12 +225,12 @@ module _ {s : Sheet} (g : Valid s) {i j : List ℕ} {x y : Job} {X : Reached s i
         go (no out) (yes inn) =
             answered EY (entered_on k inn) (not_there out) ∙ ap (λ (b : Bool). query_row b) (sym (same_complete (waited s k)))
             ∙ sym (answered EX inn out)
-        go (no out) (no not-now) =
+        go (no out) (no not_now) =
             EY.reached.shaped.row_new k (omega (arith, fresh (dec_le 1 (state_at (step s r y) k))))
             ∙ sym (EX.reached.shaped.row_new k (omega arith))
           where
             fresh : Dec (Entered (step s r y) k) → state_at (step s r y) k ≡ 0
-            fresh (yes h) = absurd (not-now (entered_back k h))
+            fresh (yes h) = absurd (not_now (entered_back k h))
             fresh (no d) = omega arith
 
     -- the operation that the step enters is kept in both jobs or in neither

@@ -26,7 +26,7 @@ use Rattle.promises.specs.compare.WholeOrders.{LeftSamePositions, positions_foll
 -- nothing is entered at the start, so there is no order of arrival to differ in
 start_order : {s : Sheet} (g : Valid s) (i j : List ℕ) →
     SameOrder s (start_reached g i).arrival (started s i) (start_reached g j).arrival (started s j)
-start_order g i j k m q sk sm rr fk fm there-m = none_entered g i m there-m
+start_order g i j k m q sk sm rr fk fm there_m = none_entered g i m there_m
 
 pub start_same_positions : {s : Sheet} (g : Valid s) (i j : List ℕ) → SamePositions (start_reached g i) (start_reached g j)
 unfolding started job
@@ -45,7 +45,7 @@ start_same_positions {s} g i j =
 pub rooms_same_positions : {s : Sheet} → Valid s → DeliveryLaws s → {i j : List ℕ} → inbox_total s ≤ length i → inbox_total s ≤ length j →
     (rs : List ℕ) → LeftSamePositions s i j (follow s rs i) (follow s rs j)
 unfolding follow
-rooms_same_positions g A {i} {j} room-i room-j rs = positions_follow g A room-i room-j 0 rs (start_same_positions g i j)
+rooms_same_positions g A {i} {j} room_i room_j rs = positions_follow g A room_i room_j 0 rs (start_same_positions g i j)
 
 -- THE SAME FIRST BYTES
 replay_near : {n : ℕ} {bs cs : List ℕ} (s : Sheet) (x : Job) (k : ℕ) → Near n bs cs → Near n (replay s x k bs) (replay s x k cs)
