@@ -71,6 +71,7 @@ pub const SCRATCH_SIZE: usize = 65536;
 
 // The bytes of p board entries of an edition. What a size is and that it is small stand together, so that sums of sizes never
 // wrap.
+#[tactic(auto, unfolding(rules::specs::Limits::boards_size))]
 pub fn boards_size(second: bool, p: usize) -> usize
     requires { p < 65536 }
     ensures { (result ≡ boards_size second p) × (result < 1048576) }
@@ -83,6 +84,7 @@ pub fn boards_size(second: bool, p: usize) -> usize
 }
 
 // The bytes of p board rows.
+#[tactic(auto, unfolding(rules::specs::Limits::board_rows_size))]
 pub fn board_rows_size(second: bool, p: usize) -> usize
     requires { p < 65536 }
     ensures { (result ≡ board_rows_size second p) × (result < 1048576) }
