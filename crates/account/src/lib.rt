@@ -6,14 +6,14 @@ ghost use Rattle.std.specs.Prelude.{◌≡◌, max};
 ghost use Rattle.account.specs.Accounts.{account, has_room, taken, given_back};
 
 // Whose account it is: of the attached buffer, or of the standard room. What each stands for in rules: specs/Stores.
-#[derive(Drop)]
+#[derive(Clone, Copy)]
 pub enum Store {
     Attached,
     Room,
 }
 
 // The size of a board's store, and of its place the bytes in use there and the peak (document 01, "The report").
-#[derive(Drop)]
+#[derive(Clone, Copy)]
 pub struct Account {
     pub size: usize,
     pub in_use: usize,
@@ -21,7 +21,7 @@ pub struct Account {
 }
 
 // What a charge leaves, and whether it was taken.
-#[derive(Drop)]
+#[derive(Clone, Copy)]
 pub struct Outcome {
     pub account: Account,
     pub ok: bool,

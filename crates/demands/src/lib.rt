@@ -9,7 +9,7 @@ use jamturret::{
 use sheet::Answer;
 
 // What two calls answered.
-#[derive(Drop)]
+#[derive(Clone, Copy)]
 pub struct Answers {
     pub first: Answer,
     pub second: Answer,

@@ -14,7 +14,7 @@ pub const LINE_SIZE: usize = 3 * limits::MOST_REPORT;
 pub const TOLD_SIZE: usize = 11 * text::MOST_PLACES;
 
 // How many bytes of text stand at the start of each room.
-#[derive(Drop)]
+#[derive(Clone, Copy)]
 pub struct Sizes {
     pub line: usize,
     pub told: usize,

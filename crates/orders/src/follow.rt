@@ -10,7 +10,7 @@ use state::Control;
 use steps::{able, turn};
 
 // Where an order was refused, if it was, and the control block of the job that scratch then holds.
-#[derive(Drop)]
+#[derive(Clone, Copy)]
 pub struct Outcome {
     pub refused: bool,
     pub at: usize,

@@ -9,7 +9,7 @@ ghost use Rattle.premise.specs.Rules.{number, keeps};
 use sheet::{Answer, header, ops};
 
 // The rules: no receive or probe is from any source; no send is ready; nothing is queried (document 02, K9).
-#[derive(Drop)]
+#[derive(Clone, Copy)]
 pub enum Rule {
     Source,
     Mode,

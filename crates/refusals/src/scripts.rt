@@ -11,7 +11,7 @@ ghost use Rattle.refusals.specs.Rules.{number, keeps, Asked};
 use sheet::{Answer, header};
 
 // The rules: an operation's fields are good; so are its slot and its area; a slot that it takes is freed later in its script.
-#[derive(Drop)]
+#[derive(Clone, Copy)]
 pub enum Rule {
     Fields,
     Requests,

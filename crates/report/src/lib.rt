@@ -225,7 +225,7 @@ fn cut_at(c: &[u8], i: usize) -> usize
 }
 
 // Pending messages, pending receives and cut messages.
-#[derive(Drop)]
+#[derive(Clone, Copy)]
 struct Counts {
     messages: usize,
     receives: usize,

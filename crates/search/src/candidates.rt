@@ -15,7 +15,7 @@ use sheet::ops;
 use state::{Queue, ranks};
 
 // What an operation asks of those that wait: its own rank, whom it names, its communicator and its tag.
-#[derive(Drop)]
+#[derive(Clone, Copy)]
 pub struct Asked {
     pub rank: usize,
     pub peer: usize,

@@ -8,7 +8,7 @@ pub mod stores;
 
 // What a service answers: number 0 and place 0, or the number of a refusal and its place.
 #[repr(C)]
-#[derive(Drop)]
+#[derive(Clone, Copy)]
 pub struct Answer {
     pub number: u32,
     pub place: u64,

@@ -25,7 +25,7 @@ const WAITS: usize = RANKS + limits::MOST_OPS;
 
 // The control block: the numbers of a job that are kept beside scratch. Lengths of the two waiting lists, steps taken, and why
 // and where the job stopped (verdict 0 while nothing stopped it).
-#[derive(Drop)]
+#[derive(Clone, Copy)]
 pub struct Control {
     pub messages: usize,
     pub receives: usize,
@@ -36,14 +36,14 @@ pub struct Control {
 }
 
 // One of the two waiting lists: pending messages in order of arrival, posted receives in order of posting.
-#[derive(Drop)]
+#[derive(Clone, Copy)]
 pub enum Queue {
     Messages,
     Receives,
 }
 
 // The figures of a store's account: bytes in use, and the most in use after any step.
-#[derive(Drop)]
+#[derive(Clone, Copy)]
 pub struct StoreFigures {
     pub in_use: usize,
     pub peak: usize,
@@ -51,7 +51,7 @@ pub struct StoreFigures {
 
 // The place of a board, by value: operations finished, whether the next one is in its waiting half, and the figures of its attached
 // buffer and of its standard room.
-#[derive(Drop)]
+#[derive(Clone, Copy)]
 pub struct BoardPlace {
     pub finished: usize,
     pub waiting: bool,

@@ -10,7 +10,7 @@ use limits::{ANY, MOST_OPS};
 
 // A message that waits: its source, communicator and tag, and the send that it is of.
 #[repr(C)]
-#[derive(Drop)]
+#[derive(Clone, Copy)]
 pub struct Envelope {
     pub source: usize,
     pub communicator: usize,
@@ -19,7 +19,7 @@ pub struct Envelope {
 }
 
 // The place of the envelope in the list, counted from 0; or that none fits.
-#[derive(Drop)]
+#[derive(Clone, Copy)]
 pub enum Found {
     Nothing,
     At(usize),
