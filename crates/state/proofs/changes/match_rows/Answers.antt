@@ -1,0 +1,10 @@
+-- `state::changes::match_rows` meets its contract: the message's row, then the receive's. Assumes nothing.
+use Rattle.state.specs.Changes.{rows_match}
+use Rattle.state.proofs.changes.match_rows.Goals as goal
+
+pub returns : goal.returns
+returns c =
+    λ t s x d q.
+    let a = c.args in
+    rows_match s a.c.now t x d a.m a.r a.cut a.source a.tag a.long c.put_sent.new.c
+    c.put_received.new.c q c.put_sent.ensures c.put_received.ensures
