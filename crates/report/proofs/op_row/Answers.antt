@@ -12,9 +12,9 @@ pub returns : goal.returns
 unfolding low_two
 returns c =
     let two = c.put_two in
-    let known = c.shared_slice_known-1 in
+    let known = c.type_inv in
     let a = c.args in
     let figures = take 10 (drop (row_at a.i) a.c.now) in
     let long : length figures ≡ 10 = part_length a.c.now (row_at a.i) 10 (omega arith) in
     splice_then a.out.now c.copy.new.s two.new.s a.at 10 figures (low_two 0) c.copy.ensures long two.ensures (omega arith)
-    ∙ ap (λ (vs : List ℕ). splice a.out.now a.at vs) (row_copied a.c.now (λ k. omega (arith, known.given k)) a.i (omega arith))
+    ∙ ap (λ (vs : List ℕ). splice a.out.now a.at vs) (row_copied a.c.now (λ k. omega (arith, known.c k)) a.i (omega arith))
