@@ -2,6 +2,8 @@
 // standard room (document 02, K6): its size, the bytes in use and the most that were in use. The rules stand in two functions
 // over accounts by value. `charge` and `release` take the account by `&mut` and change it where it stands. `charging` and
 // `releasing` lend an account of their own, for callers that have plain numbers, as the engine has.
+#![tactic(auto)]
+
 ghost use Rattle.std.specs.Prelude.{◌≡◌, max};
 ghost use Rattle.account.specs.Accounts.{account, has_room, taken, given_back};
 

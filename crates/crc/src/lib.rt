@@ -1,4 +1,6 @@
 // CRC-16 by a constant table of all 256 remainders (document 01, "The sheet, byte by byte").
+#![tactic(auto)]
+
 ghost use Rattle.std.specs.Prelude.{◌≡◌, ◌<◌, length, get_or};
 ghost use Rattle.rules.specs.Crc.{crc_from, crc};
 ghost use Rattle.crc.specs.Remainders.{Remainders};

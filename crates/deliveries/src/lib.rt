@@ -1,6 +1,8 @@
 // Deliveries (document 01, "How a board steps"). The engine steps without the inboxes; at the end the messages of all matched
 // receives are copied in script order. Each copy is lent its own stretch of the inbox, from the start of the receive's area
 // to its end, and nothing else.
+#![tactic(auto)]
+
 ghost use Rattle.std.specs.Prelude.{◌≡◌, ◌<◌, ◌≤◌, length};
 ghost use Rattle.rules.specs.Sheet.{sheet_in, rank_of, inbox_total, P_of, N_of};
 ghost use Rattle.rules.specs.Job.{Job};

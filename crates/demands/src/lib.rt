@@ -1,6 +1,8 @@
 // The demands of the services themselves (document 01, "What is pinned down"): small functions that call the services and
 // ensure the demands' conclusions, with no `requires`. Their proofs know of a service only what its contract says, so a
 // contract that is weakened fails here.
+#![tactic(auto)]
+
 ghost use Rattle.demands.specs.Demands.{seen, CrcCarried, CheckAndFollow, RunKeeps, TwoFollows, FollowAndRun, OneForAll};
 
 use jamturret::{

@@ -1,4 +1,6 @@
 // Refusal 6: the fields of operations (document 01, "The sheet, byte by byte").
+#![tactic(auto)]
+
 ghost use Rattle.std.specs.Prelude.{◌≡◌, ◌<◌, cond};
 ghost use Rattle.rules.specs.Sheet.{sheet_in, op, P_of, N_of, is_receive};
 ghost use Rattle.rules.specs.Refusal.{envelope_good, extent_good, wait_good, probe_good, fields_good, op_good};

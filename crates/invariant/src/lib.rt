@@ -1,1 +1,3 @@
+#![tactic(auto)]
+
 // What every job that an order leads to keeps, proved over `rules`, in specs/. This crate has no code.

@@ -2,14 +2,13 @@
 -- Assumes nothing.
 --   Refused                        the answer is a refusal of the sheet or of a room; refused_first, refused_second: of a chain
 --   kept, scratch_kept             what such a refusal leaves
-use Rattle.std.specs.Prelude.{◌≡◌, List, ℕ, ◌≤◌, eqb}
+use Rattle.std.specs.Prelude.{◌≡◌, List, ℕ, ◌≤◌}
 use Rattle.std.proofs.Common.{sym, ◌∙◌, subst, arith}
-use borrow.Author.Tests.{eq-eqb, ne_eqb}
+use borrow.Author.Tests.{ne_eqb}
 use Rattle.rules.specs.Refusal.{Refusal, or_else}
 use Rattle.rules.specs.Service.{Answers, kept_or, scratch_left}
 use Rattle.laws.specs.Answers.{answers_number}
 use Rattle.laws.specs.Broken.{or_else_passed, or_else_stopped}
-use Rattle.laws.specs.Tests.{cond_true, cond_false}
 
 -- refusals 1 to 8
 pub record Refused (f : Refusal) (n p : ℕ) : Type 0 where

@@ -1,5 +1,7 @@
 // The public services, exported to C and Rust. A slice passes as a pointer and a length. Each service states its whole outcome
 // for every input, with no `requires`.
+#![tactic(auto)]
+
 ghost use Rattle.std.specs.Prelude.{◌≡◌};
 ghost use Rattle.rules.specs.Crc.{crc};
 ghost use Rattle.rules.specs.Service.{CheckSays, FollowSays, RunSays};

@@ -1,7 +1,7 @@
 -- Laws of `some_below`: a test holds of one of the numbers below a bound exactly when there is such a number.
 -- Assumes nothing.
-use Rattle.std.specs.Prelude.{◌≡◌, refl, Bool, true, false, ◌||◌, ◌⊎◌, ℕ, zero, suc, ◌+◌, ◌<◌, ◌≤◌}
-use Rattle.std.proofs.Common.{ap, ap₂, ◌∙◌, subst, sym, inl, inr, ⊎_elim, add-one, arith}
+use Rattle.std.specs.Prelude.{◌≡◌, refl, Bool, true, false, ◌||◌, ℕ, zero, suc, ◌+◌, ◌<◌}
+use Rattle.std.proofs.Common.{ap₂, subst, ⊎_elim, add-one, arith}
 use Rattle.std.proofs.Math.Decide.{ℕ_discrete}
 use Rattle.rules.specs.Refusal.{some_below}
 use Rattle.laws.specs.Tests.{or_left, or_right, or_cases, same_test, not_so, true_not_false}

@@ -3,7 +3,7 @@
 use Rattle.std.specs.Prelude.{◌≡◌, Bool, false, cond, List, length, get_or, drop}
 use Rattle.std.proofs.Math.Path.{refl}
 use Rattle.std.proofs.Common.{sym, ◌∙◌, ap, arith, length-drop}
-use Prim.Native.Nat.{ℕ, zero, suc, ◌+◌, ◌*◌, ◌<◌, ◌-◌, min}
+use Prim.Native.Nat.{ℕ, zero, suc, ◌+◌, ◌*◌, ◌<◌, min}
 use Rattle.std.proofs.Math.ListN.{length-take}
 use Rattle.rules.specs.Limits.{boards_at, board_size, boards_size, op_size, ops_at, payload_at, sheet_size}
 use Rattle.rules.specs.Sheet.{Board, op, board, two, P_of, N_of, op_in, ops_in, board_in, boards_in, sheet_in, second_in, P_in, C_in, N_in, L_in, no_op, no_board}

@@ -3,10 +3,10 @@
 -- Assumes nothing.
 use Rattle.std.specs.Prelude.{◌≡◌, Bool, true, false, cond, List, [], ◌∷◌, ltb, length, get_or}
 use Rattle.std.proofs.Math.Path.{refl, ap, subst}
-use Rattle.std.proofs.Common.{sym, ◌∙◌, add-zero, zero-add, add-suc, suc-add, lt-ltb, le-ltb, ltb-true}
+use Rattle.std.proofs.Common.{sym, suc-add, lt-ltb, le-ltb, ltb-true}
 use Prim.Native.Nat.{ℕ, zero, suc, ◌+◌, ◌<◌, ◌≤◌, ◌-◌}
 use native.Mathlib.Omega.{arith}
-use Rattle.std.proofs.Math.Decide.{dec_lt, ℕ_discrete}
+use Rattle.std.proofs.Math.Decide.{dec_lt}
 use Rattle.rules.specs.Sheet.{Sheet, Board, board, P_of, rank_from, rank_of, sum_before, counts_before, inbox_start, no_board}
 use Rattle.laws.specs.Tests.{cond_true, cond_false}
 

@@ -5,7 +5,7 @@
 use Rattle.std.specs.Prelude.{◌≡◌, Bool, true, false, not, ℕ, ◌+◌, ◌-◌, ◌<◌, ◌≤◌}
 use Rattle.std.proofs.Common.{sym, ◌∙◌, ap, arith, add-one}
 use Rattle.rules.specs.Sheet.{Sheet, board, P_of, N_of, counts_before, rank_of}
-use Rattle.rules.specs.Refusal.{Refusal, refusal, or_else, first_broken}
+use Rattle.rules.specs.Refusal.{Refusal, or_else, first_broken}
 use Rattle.rules.specs.Service.{Answers}
 use Rattle.laws.specs.Answers.{told_is, told_same, answers_number, Sought, sought_all, sought_more, sought_bad}
 use Rattle.laws.specs.Broken.{or_else_passed, or_else_stopped, broken_none, broken_part}

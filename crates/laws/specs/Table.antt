@@ -1,5 +1,5 @@
 -- A rule of a constant table, tested once over all of its entries and carried to each index. Assumes nothing.
-use Rattle.std.specs.Prelude.{◌≡◌, Bool, true, false, ◌&&◌, List, [], ◌∷◌, ℕ, zero, suc, ◌+◌, ◌<◌, length, get_or}
+use Rattle.std.specs.Prelude.{◌≡◌, Bool, true, ◌&&◌, List, [], ◌∷◌, ℕ, zero, suc, ◌+◌, ◌<◌, length, get_or}
 use Rattle.std.proofs.Common.{subst, arith, zero-add}
 use Rattle.laws.specs.Tests.{and_left, and_right}
 

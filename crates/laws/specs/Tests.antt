@@ -1,6 +1,6 @@
 -- Laws of Boolean tests: the parts of a conjunction or a disjunction, and two tests that hold together. Assumes nothing.
 use Rattle.std.specs.Prelude.{◌≡◌, refl, Bool, true, false, ◌&&◌, ◌||◌, not, cond, ◌⊎◌, ℕ}
-use Rattle.std.proofs.Common.{sym, ◌∙◌, inl, inr, arith}
+use Rattle.std.proofs.Common.{sym, inl, inr, arith}
 
 -- a test that is true and false proves anything
 pub true_not_false : {A : Type 0} {b : Bool} → b ≡ true → b ≡ false → A

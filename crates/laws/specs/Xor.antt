@@ -1,9 +1,9 @@
 -- Laws of the exclusive or of rules (`xor bits a b`): its order and grouping do not matter, 0 changes nothing, it stays within
 -- its bits, and it is the machine's. Assumes nothing.
-use Rattle.std.specs.Prelude.{◌≡◌, ℕ, zero, suc, ◌+◌, ◌*◌, ◌/◌, ◌%◌, ◌^◌, ◌<◌, ◌≤◌}
+use Rattle.std.specs.Prelude.{◌≡◌, ℕ, zero, suc, ◌+◌, ◌*◌, ◌/◌, ◌%◌, ◌^◌, ◌<◌}
 use Rattle.std.proofs.Math.Path.{refl}
-use Rattle.std.proofs.Common.{sym, ◌∙◌, ap, ap₂, subst, arith}
-use Rattle.std.specs.Int.Bits.{bit_xor, differ, xor_step, xor_zero_l}
+use Rattle.std.proofs.Common.{sym, ◌∙◌, ap, ap₂, arith}
+use Rattle.std.specs.Int.Bits.{bit_xor, differ, xor_step}
 use Rattle.rules.specs.Crc.{xor}
 
 -- the lowest bit, and the others

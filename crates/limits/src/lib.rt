@@ -1,5 +1,7 @@
 // The numbers of documents 01 and 02, each under the name that rules/specs/Limits gives it. Code cites the names; a change of one
 // is made there and here.
+#![tactic(auto)]
+
 ghost use Rattle.std.specs.Prelude.{◌≡◌, ◌<◌};
 ghost use Rattle.rules.specs.Limits.{boards_size, board_rows_size, ops_at, payload_at, sheet_size, report_size, order_room};
 

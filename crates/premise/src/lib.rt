@@ -1,5 +1,7 @@
 // The premise of demand 3: whether the order of steps can matter for a sheet (document 01, "What is pinned down"). Refusals 1 to 7,
 // then numbers 20 to 24, lowest first, each over the whole sheet.
+#![tactic(auto)]
+
 ghost use Rattle.rules.specs.Sheet.{sheet_in};
 ghost use Rattle.rules.specs.Service.{Answers};
 ghost use Rattle.rules.specs.Premise.{calm_refusal, PremiseSays};

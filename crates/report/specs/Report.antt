@@ -18,7 +18,7 @@ use Rattle.std.proofs.Math.Decide.{ℕ_discrete}
 use Rattle.std.proofs.Math.ListN.{length, length-append}
 use borrow.Author.Tests.{le-leb, lt-leb, eq-eqb, ne_eqb}
 use Rattle.rules.specs.Limits.{absent, report_header_size, board_row_size, op_row_size, report_size}
-use Rattle.rules.specs.Sheet.{Sheet, op, board, P_of, N_of, sheet_in}
+use Rattle.rules.specs.Sheet.{Sheet, board, P_of, N_of, sheet_in}
 use Rattle.rules.specs.Job.{Job, Entry, Place, Stop, place_at}
 use Rattle.rules.specs.Step.{splice, able, is_finished}
 use Rattle.rules.specs.Order.{none_able}

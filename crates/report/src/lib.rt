@@ -1,5 +1,7 @@
 // The report (document 01, "The report"), made from what scratch and the control block hold of a job: a header, a row a board, a
 // row an operation. Each function writes one stretch; the room behind the report keeps its bytes.
+#![tactic(auto)]
+
 ghost use Rattle.std.specs.Prelude.{◌≡◌, true, ◌+◌, ◌*◌, ◌<◌, ◌≤◌, length};
 ghost use Rattle.rules.specs.Limits.{most_ops, most_boards, scratch_size, report_header_size, board_row_size, op_row_size, report_size};
 ghost use Rattle.rules.specs.Sheet.{second_in, sheet_in, P_of, N_of};

@@ -1,5 +1,7 @@
 // Refusal 7: request slots and areas (document 01, "Slots" and "Areas"), board by board with a table of all slots, so that the
 // time is linear in the number of operations.
+#![tactic(auto)]
+
 ghost use Rattle.std.specs.Prelude.{◌≡◌, ◌<◌};
 ghost use Rattle.rules.specs.Limits.{slot_limit};
 ghost use Rattle.rules.specs.Sheet.{sheet_in, op, P_of, N_of};

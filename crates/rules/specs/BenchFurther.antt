@@ -2,8 +2,8 @@
 -- receives, charges, waits, orders that stop early, cut messages. Worked out by hand; BenchNumbered says how to read them.
 -- Assumes nothing.
 use Rattle.std.specs.Prelude.{List, [], ◌∷◌, ℕ}
-use Rattle.rules.specs.BenchJob.{standard, buffered, synchronous, any, Line, send, isend, receive, ireceive, wait, Script, script, Draft, draft}
-use Rattle.rules.specs.BenchJob.{Drive, runs, follows, Verdict, still_able, finished, deadlock, overflow, Match, ◌meets◌, Row, row}
+use Rattle.rules.specs.BenchJob.{standard, buffered, synchronous, any, send, isend, receive, ireceive, wait, script, Draft, draft}
+use Rattle.rules.specs.BenchJob.{runs, follows, still_able, finished, deadlock, overflow, ◌meets◌, row}
 use Rattle.rules.specs.BenchJob.{◌becomes◌, pending, cut, Told, told, BenchJob, bench, bench_whole}
 use Rattle.rules.specs.BenchNumbered.{case_1_sheet, nonblocking_sheet}
 

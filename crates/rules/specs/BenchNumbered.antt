@@ -12,8 +12,8 @@
 --   row operations-finished in_use peak state, of a board
 -- Assumes nothing.
 use Rattle.std.specs.Prelude.{List, [], ◌∷◌}
-use Rattle.rules.specs.BenchJob.{standard, buffered, synchronous, ready, any, Line, send, isend, receive, ireceive, wait, Script, script, Draft}
-use Rattle.rules.specs.BenchJob.{draft, Drive, runs, follows, Verdict, finished, deadlock, overflow, not_ready, Match, ◌meets◌, Row, row}
+use Rattle.rules.specs.BenchJob.{standard, buffered, synchronous, ready, any, send, isend, receive, ireceive, wait, script, Draft}
+use Rattle.rules.specs.BenchJob.{draft, runs, follows, finished, deadlock, overflow, not_ready, ◌meets◌, row}
 use Rattle.rules.specs.BenchJob.{◌becomes◌, pending, cut, told, BenchJob, bench, bench_whole}
 
 -- the sheet of job 1

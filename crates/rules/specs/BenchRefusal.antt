@@ -3,7 +3,7 @@
 use Rattle.std.specs.Prelude.{Bool, ◌&&◌, List, [], ◌∷◌, ℕ, ◌+◌, ◌*◌, eqb, set, replicate}
 use Rattle.rules.specs.Refusal.{Refusal, sheet_refusal}
 use Rattle.rules.specs.Service.{follow_refusal, run_refusal}
-use Rattle.rules.specs.BenchJob.{Line, Script, script, Draft, draft, as_words, draft_bytes}
+use Rattle.rules.specs.BenchJob.{Line, script, Draft, draft, as_words, draft_bytes}
 
 -- SHEETS: a draft with one byte changed. The CRC that the draft gives is the changed sheet's
 unfoldable pub altered : (at byte : ℕ) → Draft → List ℕ

@@ -8,10 +8,10 @@
 -- from byte 32+16i on: kind, flag at 1, peer at 2, communicator at 4, zero at 6, tag at 8, offset at 10, length at 12, slot at 14.
 -- Assumes nothing.
 use Rattle.std.specs.Prelude.{List, [], ◌∷◌, ◌++◌, take}
-use Rattle.rules.specs.BenchJob.{standard, buffered, synchronous, any, Line, send, isend, receive, ireceive, wait}
-use Rattle.rules.specs.BenchJob.{Script, script, Draft, draft, draft_bytes}
+use Rattle.rules.specs.BenchJob.{standard, buffered, synchronous, any, send, isend, receive, ireceive, wait}
+use Rattle.rules.specs.BenchJob.{script, draft, draft_bytes}
 use Rattle.rules.specs.BenchNumbered.{case_1_sheet, ready_sheet}
-use Rattle.rules.specs.BenchRefusal.{altered, header_only, plain, of_rank_1, of_each, Answer, ◌at◌, BenchCall}
+use Rattle.rules.specs.BenchRefusal.{altered, header_only, plain, of_rank_1, of_each, ◌at◌, BenchCall}
 use Rattle.rules.specs.BenchRefusal.{scratch_asked, asks_check, asks_follow, asks_run}
 
 unfoldable pub bench_calls : List BenchCall

@@ -1,6 +1,6 @@
 -- Following an order of ranks, and the desk's own run (document 01, "The desk and its three services"): at each step the
 -- lowest rank that is able. Assumes nothing: these are definitions.
-use Rattle.std.specs.Prelude.{Bool, true, false, not, cond, List, [], ◌∷◌, ◌++◌, ℕ, zero, suc}
+use Rattle.std.specs.Prelude.{Bool, cond, List, [], ◌∷◌, ◌++◌, ℕ, zero, suc}
 use Rattle.std.proofs.Math.Option.{Option, none, some}
 use Rattle.rules.specs.Limits.{order_room}
 use Rattle.rules.specs.Sheet.{Sheet, P_of, N_of}

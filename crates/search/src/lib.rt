@@ -1,4 +1,6 @@
 // The search of a waiting list for the earliest that fits (document 01, "How a board steps"; 004).
+#![tactic(auto)]
+
 ghost use Rattle.std.specs.Prelude.{◌<◌};
 ghost use Rattle.rules.specs.Sheet.{sheet_in, N_of, two};
 ghost use Rattle.state.specs.Layout.{word_at};

@@ -1,6 +1,8 @@
 // The searches of `waiting`, and the engine's in a job, as functions for C, for the benchmark of the searches and for tests from
 // outside (host/). Not part of the library. A search is answered with the place of the earliest message that fits, or with the number
 // of those that wait where none does.
+#![tactic(auto)]
+
 ghost use Rattle.std.specs.Prelude.{◌≡◌, length};
 ghost use Rattle.waiting.specs.Envelopes.{earliest_fit};
 ghost use Rattle.searches.specs.Places.{place_or, place_in_slices};

@@ -1,5 +1,7 @@
 // Scratch at the start of a job: the two tables that are written once, then bare rows and zero places (document 01, "What is
 // pinned down": nothing entered, no buffer in use). The tables come first: rows and places lie below them and leave them.
+#![tactic(auto)]
+
 ghost use Rattle.std.specs.Prelude.{◌≡◌, ◌+◌, ◌<◌, ◌≤◌, length};
 ghost use Rattle.rules.specs.Limits.{most_boards, scratch_size};
 ghost use Rattle.rules.specs.Sheet.{sheet_in, op, P_of, N_of, counts_before};

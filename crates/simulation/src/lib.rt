@@ -1,1 +1,3 @@
+#![tactic(auto)]
+
 // How scratch stands for a job, in specs/. This crate has no code.

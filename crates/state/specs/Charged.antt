@@ -1,6 +1,6 @@
 -- A store charged and released by its account: what `account` makes of the figures that were read is what rules makes of the store,
 -- and fits its bytes. Stated over a store, so that the attached buffer and the room are one case. Assumes nothing.
-use Rattle.std.specs.Prelude.{◌≡◌, true, ℕ, ◌+◌, ◌-◌, ◌<◌, leb}
+use Rattle.std.specs.Prelude.{◌≡◌, true, ℕ, ◌+◌, ◌<◌, leb}
 use Rattle.std.proofs.Common.{sym, ◌∙◌, arith}
 use Rattle.std.proofs.Math.Path.{ap}
 use borrow.Author.Tests.{leb-true}

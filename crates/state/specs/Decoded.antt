@@ -1,6 +1,6 @@
 -- What the bytes of scratch decode to: rows, places and waiting lists, each a table over its index. Assumes nothing: these are
 -- definitions.
-use Rattle.std.specs.Prelude.{◌≡◌, cond, List, [], ◌∷◌, ◌++◌, ℕ, ◌+◌, ◌<◌, eqb, get_or}
+use Rattle.std.specs.Prelude.{◌≡◌, cond, List, ◌∷◌, ◌++◌, ℕ, ◌+◌, ◌<◌, eqb, get_or}
 use Rattle.rules.specs.Sheet.{two}
 use Rattle.rules.specs.Job.{Entry, Figures, Place, Store, in_attached, in_room, figures, place}
 use Rattle.rules.specs.Report.{low_two, entry_in}

@@ -1,5 +1,7 @@
 // A job kept in a lent scratch buffer. The layout is that of specs/Layout; everything above this crate speaks of the job that
 // scratch decodes to (specs/Decodes) and not of bytes.
+#![tactic(auto)]
+
 pub mod changes;
 pub mod controls;
 pub mod lists;

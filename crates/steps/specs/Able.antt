@@ -1,18 +1,18 @@
 -- Whether a board is able, test by test (document 01, "How a board steps"), of every job that stands in scratch.
 -- Assumes nothing.
-use Rattle.std.specs.Prelude.{◌≡◌, refl, Bool, true, ◌&&◌, ◌||◌, not, cond, List, ltb, eqb, length}
-use Rattle.std.proofs.Common.{sym, ◌∙◌, ap₂, subst}
+use Rattle.std.specs.Prelude.{◌≡◌, refl, Bool, true, ◌||◌, not, List}
+use Rattle.std.proofs.Common.{◌∙◌}
 use Rattle.std.proofs.Math.Path.{ap}
-use Rattle.std.proofs.Math.Bool.{false, and-false}
-use Rattle.std.proofs.Math.Option.{Option, none, some}
-use Prim.Native.Nat.{ℕ, zero, suc, ◌+◌, ◌*◌, ◌<◌, ◌≤◌}
+use Rattle.std.proofs.Math.Bool.{false}
+use Rattle.std.proofs.Math.Option.{some}
+use Prim.Native.Nat.{ℕ, zero, suc, ◌+◌, ◌<◌, ◌≤◌}
 use native.Mathlib.Omega.{arith}
 use Rattle.std.proofs.Math.Dec.{leb}
-use borrow.Author.Tests.{lt-ltb, le-ltb, le-leb, lt-leb, leb-false, eq-eqb, ne_eqb}
-use Rattle.rules.specs.Sheet.{Sheet, sheet_in, op, board, P_of, N_of, rank_of, two, only_half, takes_slot, names_slot, frees_slot}
+use borrow.Author.Tests.{lt-ltb, le-ltb, le-leb, lt-leb, leb-false}
+use Rattle.rules.specs.Sheet.{Sheet, sheet_in, op, board, P_of, N_of, two, only_half, names_slot, frees_slot}
 use Rattle.rules.specs.Sheet.{tells_message, tells_completion, tells}
-use Rattle.rules.specs.Job.{Job, Entry, Place, Stop, entry_at, place_at}
-use Rattle.rules.specs.Step.{able, next_op, is_finished, complete, complete_if, waited, waited_below, half_complete, half_ends, in_waiting_half, is_none}
+use Rattle.rules.specs.Job.{Job, Entry, Place, entry_at, place_at}
+use Rattle.rules.specs.Step.{able, next_op, is_finished, complete, complete_if, waited, half_complete, half_ends, in_waiting_half, is_none}
 use Rattle.rules.specs.Report.{entry_in}
 use Rattle.laws.specs.Tests.{or_false_left, or_false_right}
 use Rattle.invariant.specs.sheet.Waits.{waited_before}
@@ -21,8 +21,8 @@ use Rattle.state.specs.declared.Control.{Control}
 use Rattle.state.specs.Layout.{row_at, seat_at, word_at, waits_at}
 use Rattle.state.specs.Decoded.{place_in}
 use Rattle.state.specs.Controls.{stop_of}
-use Rattle.state.specs.Decodes.{Decodes, entry_is, place_is}
-use Rattle.simulation.specs.Represents.{Represents, Represented}
+use Rattle.state.specs.Decodes.{entry_is, place_is}
+use Rattle.simulation.specs.Represents.{Represents}
 
 -- what comes next is an initiating step, or a waiting half that can end
 unfoldable pub can_go_on : Sheet → Job → (r i : ℕ) → Bool

@@ -4,23 +4,20 @@
 --   begins_pairs             and the one that its search found is one of the sheet
 --   initiating-..            rules' initiating step, by what was found
 -- Assumes nothing.
-use Rattle.std.specs.Prelude.{◌≡◌, refl, Bool, cond, List, ℕ, suc, ◌+◌, ◌<◌, ◌≤◌, length, get_or}
-use Rattle.std.proofs.Common.{sym, ◌∙◌, ap, subst, arith}
+use Rattle.std.specs.Prelude.{◌≡◌, refl, Bool, List, ℕ, ◌<◌, length, get_or}
+use Rattle.std.proofs.Common.{sym, subst, arith}
 use Rattle.std.proofs.Math.Bool.{true, false}
 use Rattle.std.proofs.Math.Option.{Option, none, some}
 use Rattle.rules.specs.Limits.{most_ops}
-use Rattle.rules.specs.Sheet.{Sheet, sheet_in, op, P_of, N_of, two, inbox_total, is_receive}
+use Rattle.rules.specs.Sheet.{Sheet, op, N_of, is_receive}
 use Rattle.rules.specs.Job.{Job}
 use Rattle.rules.specs.Step.{able, next_op, in_waiting_half, first_by, first_message, first_receive, matched, pend_receive, initiated, unmatched, sent, received, initiating}
 use Rattle.invariant.specs.sheet.Valid.{Valid}
 use Rattle.invariant.specs.Invariant.{Reached, state_at}
-use Rattle.invariant.specs.Facts.{able_parts, next_inside, next_new, message_op, receive_op, message_once, receive_once, messages_room, receives_room, new_message, new_receive}
-use Rattle.state.specs.declared.Control.{Control}
+use Rattle.invariant.specs.Facts.{able_parts, next_inside, next_new, message_once, receive_once, messages_room, receives_room, new_message, new_receive}
 use Rattle.state.specs.declared.Queue.{Queue}
 use Rattle.state.specs.declared.Queue.TheVariants.{Messages, Receives}
-use Rattle.state.specs.Layout.{word_at}
-use Rattle.state.specs.Queues.{base_of, count_of, list_of}
-use Rattle.state.specs.Decodes.{Decodes, list_are, few_listed, list_is, list_length}
+use Rattle.state.specs.Queues.{list_of}
 use Rattle.search.specs.Search.{pair_fits}
 use Rattle.search.specs.Held.{listed_op}
 use Rattle.steps.specs.Pairing.{Unentered, Pairs, searched, matched_with, message_of, receive_of}

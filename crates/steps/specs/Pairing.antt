@@ -6,7 +6,7 @@
 --   matched_paired                                     a match, once both rows say so and the one found has left its list
 -- Assumes nothing.
 use Rattle.std.specs.Prelude.{◌≡◌, refl, Bool, true, false, List, length, get_or}
-use Rattle.std.proofs.Common.{sym, ◌∙◌, ap}
+use Rattle.std.proofs.Common.{sym, ap}
 use Rattle.std.proofs.Math.Path.{subst}
 use Prim.Native.Nat.{ℕ, suc, ◌<◌}
 use Rattle.rules.specs.Limits.{most_ops}

@@ -1,5 +1,7 @@
 // Operations that tell (document 02, K9): what a probe finds among the pending messages, and what the row of an operation that is
 // only a waiting half says after its step. Nothing but that row changes.
+#![tactic(auto)]
+
 ghost use Rattle.std.specs.Prelude.{◌≡◌, true, not, cond, ◌<◌, leb};
 ghost use Rattle.rules.specs.Sheet.{sheet_in, op, tells_completion, tells};
 ghost use Rattle.rules.specs.Job.{Job};

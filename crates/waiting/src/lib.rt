@@ -2,6 +2,8 @@
 // of arrival, searched for the earliest that fits what a receive asks for. Of a message a search reads no more than decides.
 // `search` goes through plain slices, `earliest` through a lent list of envelopes; `earliest_of` lends a list of its own, for
 // callers that have envelopes in an array.
+#![tactic(auto)]
+
 ghost use Rattle.std.specs.Prelude.{◌≡◌, ◌<◌, min, length, get_or, take};
 ghost use Rattle.rules.specs.Limits.{most_ops};
 ghost use Rattle.waiting.specs.Envelopes.{envelope, is_asked, envelope_fits, fits_receive, earliest_fit, listed};

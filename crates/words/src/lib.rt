@@ -1,5 +1,7 @@
 // Two-byte little-endian numbers in slices of bytes, and stores: each store is one `splice` of rules, so that a contract says
 // what became of every byte.
+#![tactic(auto)]
+
 ghost use Rattle.std.specs.Prelude.{◌≡◌, [], ◌∷◌, ◌++◌, ◌+◌, ◌<◌, ◌≤◌, length, get_or, take, drop, replicate};
 ghost use Rattle.rules.specs.Sheet.{two};
 ghost use Rattle.rules.specs.Step.{splice};

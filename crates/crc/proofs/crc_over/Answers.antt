@@ -1,6 +1,6 @@
 -- `crc::crc_over` meets its contract. The loop's invariant: the CRC so far, carried on over what is left, is the whole
 -- CRC. The measure is what is left of the length. Assumes nothing.
-use Rattle.std.proofs.Common.{List, [], ap, arith, bit_xor, drop, drop_of_length-le, refl, sym, ℕ, ◌-◌, ◌/◌, ◌<◌, ◌∙◌, ◌≡◌, rules}
+use Rattle.std.proofs.Common.{List, [], ap, arith, bit_xor, drop, drop_of_length-le, refl, sym, ℕ, ◌/◌, ◌<◌, ◌∙◌, ◌≡◌, rules}
 use lib.Bits.{xor_lt}
 use Rattle.rules.specs.Crc.{crc_from}
 use Rattle.laws.specs.CrcStep.{crc_turn}

@@ -1,6 +1,6 @@
 -- `deliveries::deliver` meets its contract. The loop's invariant: the scripts of the boards before r are delivered,
 -- and start is where the inbox of board r starts. The measure is how many boards are left. Assumes nothing.
-use Rattle.std.proofs.Common.{ap, arith, ℕ, ◌-◌, ◌∙◌, ◌≡◌}
+use Rattle.std.proofs.Common.{ap, arith, ℕ, ◌∙◌, ◌≡◌}
 use Rattle.rules.specs.Sheet.{sheet_in, counts_before, P_of}
 use Rattle.deliveries.specs.Deliveries.{filling_none, filling_start, filling_more, memory_is}
 use Rattle.deliveries.proofs.deliver.Goals as goal

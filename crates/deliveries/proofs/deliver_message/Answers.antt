@@ -9,7 +9,6 @@ use Rattle.deliveries.proofs.deliver_message.Goals as goal
 use Rattle.deliveries.proofs.deliver_message.Goals.{After-offset-2, Start}
 
 -- the area's two ends are read
-
 module _ (c : After-offset-2) where
   abbrev count : ℕ
   count = c.copied-count.result

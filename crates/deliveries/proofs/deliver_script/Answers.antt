@@ -1,6 +1,6 @@
 -- `deliveries::deliver_script` meets its contract. The loop's invariant: the operations of the script before i are
 -- delivered. The measure is how many are left. Assumes nothing.
-use Rattle.std.proofs.Common.{ap, arith, sym, ℕ, ◌+◌, ◌-◌, ◌<◌, ◌∙◌}
+use Rattle.std.proofs.Common.{ap, arith, sym, ℕ, ◌+◌, ◌<◌, ◌∙◌}
 use Rattle.rules.specs.Sheet.{sheet_in, board, inbox_start}
 use Rattle.deliveries.specs.Deliveries.{scripting_none, scripting_more, replaying_at}
 use Rattle.deliveries.proofs.deliver_script.Goals as goal

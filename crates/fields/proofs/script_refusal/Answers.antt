@@ -1,6 +1,6 @@
 -- `fields::script_refusal` meets its contract. The loop's invariant: the search inside the script has come to operation i.
 -- The measure is how many operations of the script are left. Assumes nothing.
-use Rattle.std.proofs.Common.{ap, arith, not, ◌-◌, ◌≡◌}
+use Rattle.std.proofs.Common.{ap, arith, not, ◌≡◌}
 use Rattle.rules.specs.Sheet.{sheet_in}
 use Rattle.rules.specs.Refusal.{op_good, room_for}
 use Rattle.laws.specs.Decoded.{comms_decoded}
@@ -25,7 +25,6 @@ fields_are_good-requires c = (
 )
 
 -- what the test of the fields says is the definition's
-
 module _ (c : After-fields_are_good) where
   tested : c.fields_are_good.result ≡ op_good (sheet_in c.args.s.now) c.loop-i.i
   unfolding op_good room_for

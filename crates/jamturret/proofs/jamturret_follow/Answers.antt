@@ -8,7 +8,6 @@ use Rattle.jamturret.proofs.jamturret_follow.Goals as goal
 use Rattle.jamturret.proofs.jamturret_follow.Goals.{After-refusal-refused, Start}
 
 -- the rooms are enough, with the order's own room
-
 module _ (c : After-refusal-refused) where
   enough : c.refusal-refused.result.number ≡ 0 →
       Ready c.args.sheet.now (length c.args.inbox.now) (length c.args.report.now)

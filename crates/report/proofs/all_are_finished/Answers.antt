@@ -1,6 +1,6 @@
 -- `report::all_are_finished` meets its contract. The loop's invariant: every board before r is finished. The measure is
 -- how many are left. Assumes nothing.
-use Rattle.std.proofs.Common.{arith, ◌-◌}
+use Rattle.std.proofs.Common.{arith}
 use Rattle.rules.specs.Sheet.{sheet_in}
 use Rattle.report.specs.Report.{finishing_none, finishing_more, finishing_not, finishing_all, finished_yes, finished_no}
 use Rattle.report.proofs.all_are_finished.Goals as goal

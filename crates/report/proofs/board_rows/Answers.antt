@@ -1,6 +1,6 @@
 -- `report::board_rows` meets its contract. The loop's invariant: the rows of the boards before r are written, of every
 -- job that stands in scratch. The measure is how many are left. Assumes nothing.
-use Rattle.std.proofs.Common.{ap, arith, refl, ℕ, ◌-◌, ◌∙◌, ◌≡◌}
+use Rattle.std.proofs.Common.{ap, arith, refl, ℕ, ◌∙◌, ◌≡◌}
 use Rattle.rules.specs.Limits.{report_header_size, board_rows_size}
 use Rattle.rules.specs.Sheet.{sheet_in, P_of}
 use Rattle.rules.specs.Step.{splice}

@@ -1,6 +1,6 @@
 -- `report::count_rows` meets its contract. The loop's invariant: the operations before i are counted, three times over.
 -- The measure is how many are left. Assumes nothing.
-use Rattle.std.proofs.Common.{arith, ◌-◌}
+use Rattle.std.proofs.Common.{arith}
 use Rattle.rules.specs.Sheet.{sheet_in, N_of}
 use Rattle.report.specs.ReportCounts.{message_row, receive_row, cut_row, counted_none, counted_more, counted_all}
 use Rattle.report.proofs.count_rows.Goals as goal

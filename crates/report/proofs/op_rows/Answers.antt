@@ -1,6 +1,6 @@
 -- `report::op_rows` meets its contract. The loop's invariant: the first i rows are written. The measure is how many are
 -- left. Assumes nothing.
-use Rattle.std.proofs.Common.{ap, arith, ℕ, ◌*◌, ◌-◌, ◌∙◌, ◌≡◌}
+use Rattle.std.proofs.Common.{ap, arith, ℕ, ◌*◌, ◌∙◌, ◌≡◌}
 use Rattle.rules.specs.Limits.{op_row_size}
 use Rattle.rules.specs.Step.{splice}
 use Rattle.report.specs.ReportRows.{row_in, row_in_length, joined, joined_length, rowing_none, rowing_more}

@@ -10,7 +10,6 @@ use Rattle.report.specs.ReportRows.{row_in, joined, board_row_at}
 use Rattle.report.proofs.write.Goals as goal
 
 -- the edition that was read is the sheet's
-
 pub board_rows-requires : goal.board_rows-requires
 board_rows-requires c =
     let p = P_of (sheet_in c.args.s.now) in

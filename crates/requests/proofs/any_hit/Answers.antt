@@ -1,6 +1,6 @@
 -- `requests::any_hit` meets its contract. The loop's invariant: found says whether one of the rows passed was hit. The
 -- measure is how many rows are left. Assumes nothing.
-use Rattle.std.proofs.Common.{Bool, ap, arith, refl, sym, ℕ, ◌-◌, ◌||◌, ◌∙◌}
+use Rattle.std.proofs.Common.{Bool, ap, arith, refl, sym, ℕ, ◌||◌, ◌∙◌}
 use Rattle.rules.specs.Refusal.{some_below}
 use Rattle.laws.specs.Below.{below_more}
 use Rattle.requests.specs.Slots.{hit}

@@ -8,7 +8,6 @@ use Rattle.requests.proofs.note.Goals as goal
 use Rattle.requests.proofs.note.Goals.{After-is_receive, After-takes_slot, Start}
 
 -- the operation and the table before it
-
 module _ (z : Start) where
   abbrev o : Op
   o = op (sheet_in z.args.s.now) z.args.i
@@ -26,7 +25,6 @@ returns-then-frees_slot c =
     (ap (λ (n : ℕ). set (starts (goal.at.returns-then-frees_slot c).Start) n absent) k ∙ left.0, ap (λ (n : ℕ). set (ends (goal.at.returns-then-frees_slot c).Start) n 0) k ∙ left.1)
 
 -- it frees no slot
-
 module _ (c : After-takes_slot) where
   kept : frees_slot (o (goal.at.After-takes_slot c).Start) ≡ false
   kept = sym c.frees_slot.ensures ∙ c.if-frees_slot.false
@@ -37,7 +35,6 @@ returns-then-not-takes_slot c =
     after_same (o z) (starts z) (ends z) (kept (goal.at.returns-then-not-takes_slot c).After-takes_slot) (rule_broken c.takes_slot.ensures (ap not c.if-not-takes_slot.true))
 
 -- whether it has an area
-
 area : (c : After-is_receive)
     → has_area (o ((goal.at.After-is_receive c).Start)) ≡ (c.is_receive.result && ltb 0 c.long-size.result)
 unfolding has_area

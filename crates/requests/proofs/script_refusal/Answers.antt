@@ -1,7 +1,7 @@
 -- `requests::script_refusal` meets its contract. The loop's invariant: the search inside the script has come to
 -- operation i, and the table of slots is right there. The measure is how many operations of the script are left.
 -- Assumes nothing.
-use Rattle.std.proofs.Common.{List, ap, arith, not, subst₂, sym, ℕ, ◌+◌, ◌-◌, ◌<◌, ◌∙◌, ◌≡◌}
+use Rattle.std.proofs.Common.{List, ap, arith, not, subst₂, sym, ℕ, ◌+◌, ◌<◌, ◌∙◌, ◌≡◌}
 use Rattle.rules.specs.Sheet.{Sheet, sheet_in, op, N_of, rank_of}
 use Rattle.rules.specs.Refusal.{request_good}
 use Rattle.laws.specs.Broken.{rule_kept}
@@ -19,7 +19,6 @@ loop-i-init c =
     )
 
 -- what is known of operation i inside the loop
-
 module _ (c : In-loop-i) where
   abbrev s : Sheet
   s = sheet_in c.args.s.now

@@ -8,7 +8,6 @@ use Rattle.requests.proofs.table_is_good.Goals as goal
 use Rattle.requests.proofs.table_is_good.Goals.{After-is_receive, After-takes_slot, Start}
 
 -- the operation and the table
-
 module _ (z : Start) where
   abbrev o : Op
   o = op (sheet_in z.args.s.now) z.args.i
@@ -26,7 +25,6 @@ returns-then-names_slot c =
     ∙ good_named (o (goal.at.returns-then-names_slot c).Start) (starts (goal.at.returns-then-names_slot c).Start) (ends (goal.at.returns-then-names_slot c).Start) (sym c.names_slot.ensures ∙ c.if-names_slot.true)
 
 -- it names no slot, and whether it asks for one that is taken
-
 module _ (c : After-takes_slot) where
   unnamed : names_slot (o (goal.at.After-takes_slot c).Start) ≡ false
   unnamed = sym c.names_slot.ensures ∙ c.if-names_slot.false
@@ -43,7 +41,6 @@ returns-then-takes_slot-taken c =
     good_not_free (o ((goal.at.returns-then-takes_slot-taken c).Start)) (starts ((goal.at.returns-then-takes_slot-taken c).Start)) (ends ((goal.at.returns-then-takes_slot-taken c).Start)) (unnamed (goal.at.returns-then-takes_slot-taken c).After-takes_slot) (asks (goal.at.returns-then-takes_slot-taken c).After-takes_slot ∙ c.if-takes_slot-taken.true)
 
 -- whether it has an area
-
 area : (c : After-is_receive)
     → has_area (o ((goal.at.After-is_receive c).Start)) ≡ (c.is_receive.result && ltb 0 c.long-capacity.result)
 unfolding has_area

@@ -1,6 +1,6 @@
 -- `search::find` meets its contract. The loop's invariant: none of the k passed fits. The measure is how many are left.
 -- Assumes nothing.
-use Rattle.std.proofs.Common.{ap, arith, below_more, false, subst, sym, ℕ, ◌-◌, ◌<◌, ◌∙◌, ◌≡◌}
+use Rattle.std.proofs.Common.{ap, arith, below_more, false, subst, sym, ℕ, ◌<◌, ◌∙◌, ◌≡◌}
 use Rattle.rules.specs.Sheet.{sheet_in, N_of, two}
 use Rattle.state.specs.Layout.{word_at}
 use Rattle.state.specs.Queues.{base_of}
@@ -13,7 +13,6 @@ use Rattle.search.proofs.find.Goals.{After-candidate_fits, After-word_of, Start}
 -- the test at index j of the list
 
 -- WHAT WAS READ at index k
-
 module _ (c : After-word_of) where
   abbrev k : ℕ
   k = c.loop-k.k
@@ -32,7 +31,6 @@ candidate_fits-requires c =
     (p.0, subst (λ (n : ℕ). n < N_of (sheet_in c.args.s.now)) (sym (read c)) member)
 
 -- what the test answered, of the k-th of the list
-
 tested : (c : After-candidate_fits) →
     test c.args.s.now c.args.c.now c.args.list c.args.i (k (goal.at.After-candidate_fits c).After-word_of) ≡ c.candidate_fits.result
 tested c =

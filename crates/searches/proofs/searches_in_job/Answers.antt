@@ -10,7 +10,6 @@ use Rattle.searches.proofs.searches_in_job.Goals as goal
 use Rattle.searches.proofs.searches_in_job.Goals.{After-check-checked, After-ops-ops, Start}
 
 -- WHAT CHECK HAS SAID
-
 module _ (c : After-check-checked) where
   abbrev bytes : List ℕ
   bytes = c.args.sheet.now
@@ -42,7 +41,6 @@ ops-ops-requires c =
     omega (arith, l.whole, l.some_board)
 
 -- what has been read and tested before the number of operations
-
 module _ (c : After-ops-ops) where
   abbrev e : c.check-checked.result.number ≡ 0
   e = c.if-checked-ne0.false

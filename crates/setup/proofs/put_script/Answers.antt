@@ -1,6 +1,6 @@
 -- `setup::put_script` meets its contract. The loop's invariant: the tables and the latest of each slot are right before
 -- operation i. The measure is how many operations of the script are left. Assumes nothing.
-use Rattle.std.proofs.Common.{arith, refl, ◌-◌}
+use Rattle.std.proofs.Common.{arith, refl}
 use Rattle.rules.specs.Sheet.{sheet_in}
 use Rattle.setup.specs.SetupTables.{Slotted}
 use Rattle.setup.specs.SetupWalk.{going_none, going_more, going_all, going_slotted}
@@ -16,7 +16,6 @@ loop-i-init c =
     )
 
 -- operation i, which the walk has come to
-
 slotted : (c : In-loop-i) → Slotted c.args.s.now c.loop-i.i
 slotted c =
     going_slotted c.requires.0 c.requires.1 c.requires.2 c.loop-i.invariant.1 c.loop-i-test.true

@@ -1,6 +1,6 @@
 -- `setup::put_tables` meets its contract. The loop's invariant: the tables are right below board r's script. The measure
 -- is how many boards are left. Assumes nothing.
-use Rattle.std.proofs.Common.{ap, arith, refl, subst, sym, ℕ, ◌-◌, ◌∙◌, ◌≡◌}
+use Rattle.std.proofs.Common.{ap, arith, refl, subst, sym, ℕ, ◌∙◌, ◌≡◌}
 use Rattle.rules.specs.Sheet.{sheet_in, P_of, counts_before}
 use Rattle.laws.specs.Ranks.{counts_none}
 use Rattle.setup.specs.SetupTables.{Filled, filled_none}

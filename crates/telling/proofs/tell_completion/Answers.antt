@@ -10,7 +10,6 @@ use Rattle.telling.specs.Telling.{holder_is, holder_inside, held_state, row_answ
 use Rattle.telling.proofs.tell_completion.Goals as goal
 
 -- an answer is 0 or 1
-
 one_most : (b : Bool) → cond b 1 0 < 2
 one_most true = omega arith
 one_most false = omega arith

@@ -17,7 +17,6 @@ word_of-m-requires c =
     omega (arith, p.2, p.0.decodes.few_messages, c.base.ensures.1.high, p.0.decodes.roomy)
 
 -- the message that was read is the one that was found
-
 module _ (c : After-word_of-m) where
   abbrev s : Sheet
   s = sheet_in c.args.s.now

@@ -1,7 +1,6 @@
 -- `waiting::fits_in` meets its contract: another source, another tag, and with both as asked the communicators decide.
 -- Assumes nothing.
-use Rattle.std.proofs.Common.{◌≡◌, sym, true, ℕ, length, get_or}
-use Rattle.waiting.specs.declared.Envelope.{Envelope}
+use Rattle.std.proofs.Common.{◌≡◌, sym, true, get_or}
 use Rattle.waiting.specs.Envelopes.{envelope, is_asked, any_is_asked, same_is_asked, other_is_not, other_source, other_tag, same_but_context}
 use Rattle.waiting.proofs.fits_in.Goals as goal
 use Rattle.waiting.proofs.fits_in.Goals.{then-source-ne-ANY+else-list-k, else-source-ne-ANY, then-tag-ne-ANY+else-list-k-2, else-tag-ne-ANY}
@@ -26,12 +25,12 @@ returns c =
     let e = get_or a.list.now a.k (envelope 0 0 0 0) in
     let source : is_asked a.source e.source ≡ true =
     elim c.if-source-ne-ANY.branch [
-      then-source-ne-ANY+else-list-k w ↦ sym (same_is_asked a.source e.source w.if-source-ne-ANY.true w.if-list-k.false)
-    | else-source-ne-ANY w ↦ sym (any_is_asked a.source e.source w.if-source-ne-ANY.false)
+      | then-source-ne-ANY+else-list-k w ↦ sym (same_is_asked a.source e.source w.if-source-ne-ANY.true w.if-list-k.false)
+      | else-source-ne-ANY w ↦ sym (any_is_asked a.source e.source w.if-source-ne-ANY.false)
     ] in
     let tag : is_asked a.tag e.tag ≡ true =
     elim c.if-tag-ne-ANY.branch [
-      then-tag-ne-ANY+else-list-k-2 w ↦ sym (same_is_asked a.tag e.tag w.if-tag-ne-ANY.true w.if-list-k-2.false)
-    | else-tag-ne-ANY w ↦ sym (any_is_asked a.tag e.tag w.if-tag-ne-ANY.false)
+      | then-tag-ne-ANY+else-list-k-2 w ↦ sym (same_is_asked a.tag e.tag w.if-tag-ne-ANY.true w.if-list-k-2.false)
+      | else-tag-ne-ANY w ↦ sym (any_is_asked a.tag e.tag w.if-tag-ne-ANY.false)
     ] in
     same_but_context e.source e.communicator e.tag a.source a.communicator a.tag source tag

@@ -1,6 +1,6 @@
 -- `words::copy` meets its contract. The loop's invariant: the first i bytes are put. The measure is how many are left.
 -- Assumes nothing.
-use Rattle.std.proofs.Common.{arith, drop, sym, take, ◌-◌}
+use Rattle.std.proofs.Common.{arith, drop, sym, take}
 use Rattle.words.specs.Putting.{putting_none, putting_more, putting_all, part_length, part_at}
 use Rattle.words.proofs.copy.Goals as goal
 

@@ -1,6 +1,6 @@
 -- `words::fill` meets its contract. The loop's invariant: the first i bytes are put. The measure is how many are left.
 -- Assumes nothing.
-use Rattle.std.proofs.Common.{arith, replicate, sym, ◌-◌}
+use Rattle.std.proofs.Common.{arith, replicate, sym}
 use lib.ListN.{length-replicate, get_or-replicate}
 use Rattle.words.specs.Putting.{putting_none, putting_more, putting_all}
 use Rattle.words.proofs.fill.Goals as goal

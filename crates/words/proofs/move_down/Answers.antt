@@ -1,6 +1,6 @@
 -- `words::move_down` meets its contract. The loop's invariant: the first i bytes are put, so that those ahead still stand. The
 -- measure is how many are left. Assumes nothing.
-use Rattle.std.proofs.Common.{arith, drop, sym, take, ◌+◌, ◌-◌, ◌∙◌}
+use Rattle.std.proofs.Common.{arith, drop, sym, take, ◌+◌, ◌∙◌}
 use Rattle.words.specs.Putting.{putting_none, putting_more, putting_ahead, putting_all, part_length, part_at}
 use Rattle.words.proofs.move_down.Goals as goal
 

@@ -10,7 +10,6 @@ use Rattle.jamturret.proofs.jobs.follow.Goals as goal
 use Rattle.jamturret.proofs.jobs.follow.Goals.{After-follow-outcome, Start}
 
 -- the order was followed from the inboxes that are lent
-
 module _ (c : After-follow-outcome) where
   answered : Answered c.args.sheet.now c.args.order.now c.follow-outcome.new.c c.follow-outcome.result c.args.inbox.now
   answered = c.follow-outcome.ensures c.args.inbox.now c.requires.roomy.inbox

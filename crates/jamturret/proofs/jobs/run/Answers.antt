@@ -6,7 +6,6 @@ use Rattle.jamturret.proofs.jobs.run.Goals as goal
 use Rattle.jamturret.proofs.jobs.run.Goals.{After-run-t, Start}
 
 -- the run started from the inboxes that are lent
-
 module _ (c : After-run-t) where
   ended : Ended c.args.sheet.now c.args.order.now c.run-t.new.c c.run-t.new.out c.run-t.result c.args.inbox.now
   ended = c.run-t.ensures c.args.inbox.now c.requires.roomy.inbox

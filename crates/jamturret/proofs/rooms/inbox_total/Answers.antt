@@ -1,6 +1,6 @@
 -- `jamturret::rooms::inbox_total` meets its contract. The loop's invariant: total is the inboxes of the boards before r. The
 -- measure is how many boards are left. Assumes nothing.
-use Rattle.std.proofs.Common.{add-one, ap, arith, subst, sym, ℕ, ◌+◌, ◌-◌, ◌∙◌, ◌≡◌}
+use Rattle.std.proofs.Common.{add-one, ap, arith, subst, sym, ℕ, ◌+◌, ◌∙◌, ◌≡◌}
 use Rattle.rules.specs.Sheet.{sheet_in, inbox_start, inbox_total}
 use Rattle.laws.specs.Ranks.{inbox_start_none, inbox_start_more}
 use Rattle.jamturret.proofs.rooms.inbox_total.Goals as goal

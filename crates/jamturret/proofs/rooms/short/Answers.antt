@@ -8,7 +8,6 @@ use Rattle.jamturret.proofs.rooms.short.Goals as goal
 use Rattle.jamturret.proofs.rooms.short.Goals.{Start}
 
 -- the entry of the function
-
 module _ (z : Start) where
   abbrev refused : Refusal
   refused =

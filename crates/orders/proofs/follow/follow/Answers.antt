@@ -1,6 +1,6 @@
 -- `orders::follow::follow` meets its contract. The loop's invariant: whatever inboxes are lent, the order is followed up to
 -- index k. The measure is what is left of the order. Assumes nothing.
-use Rattle.std.proofs.Common.{arith, ◌-◌, rules}
+use Rattle.std.proofs.Common.{arith, rules}
 use Rattle.orders.specs.Follows.{reaches_none, reaches_represented, reaches_refused, reaches_able, reaches_more, reaches_end}
 use Rattle.orders.proofs.follow.follow.Goals as goal
 

@@ -1,6 +1,6 @@
 -- `orders::lowest::lowest` meets its contract. The loop's invariant: no rank below r is able. The measure is how many ranks are
 -- left. Assumes nothing.
-use Rattle.std.proofs.Common.{arith, ◌-◌}
+use Rattle.std.proofs.Common.{arith}
 use Rattle.orders.specs.Lowest.{sought_none, sought_found, sought_more, sought_all}
 use Rattle.orders.proofs.lowest.lowest.Goals as goal
 

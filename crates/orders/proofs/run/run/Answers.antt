@@ -1,6 +1,6 @@
 -- `orders::run::run` meets its contract. The loop's invariant: whatever inboxes are lent, the run has taken k steps, whose order
 -- stands in front of the room, and r is the lowest rank that is able. The measure is the room left for steps. Assumes nothing.
-use Rattle.std.proofs.Common.{List, arith, length-set, refl, set, subst, ℕ, ◌%◌, ◌+◌, ◌-◌, ◌<◌, ◌∙◌, ◌≡◌, rules}
+use Rattle.std.proofs.Common.{List, arith, length-set, refl, set, subst, ℕ, ◌%◌, ◌+◌, ◌<◌, ◌∙◌, ◌≡◌, rules}
 use Rattle.rules.specs.Limits.{order_room}
 use Rattle.rules.specs.Sheet.{sheet_in, P_of, N_of}
 use Rattle.orders.specs.Jobs.{some_lent, represented}
@@ -15,7 +15,6 @@ loop-r-init c =
     (search rules, refl, running_none a.s.now a.out.now start.new.c start.result start.ensures, c.lowest-r.ensures)
 
 -- INSIDE THE LOOP the rank is one of the sheet's, and the order has room
-
 module _ (c : In-loop-r) where
   below : c.loop-r.r < P_of (sheet_in c.args.s.now)
   below = omega arith
@@ -24,7 +23,6 @@ module _ (c : In-loop-r) where
   room = running_room c.loop-r.invariant.2 c.loop-r.invariant.3 below
 
 -- one step more, its rank written down
-
 module _ (c : After-take-t) where
   abbrev start : Start
   start = (goal.at.After-take-t c).Start

@@ -1,6 +1,6 @@
 -- `premise::cover::charges` meets its contract. The loop's invariant: sum is the charges of the script before operation i. The
 -- measure is how many operations of the script are left. Assumes nothing.
-use Rattle.std.proofs.Common.{arith, ◌-◌}
+use Rattle.std.proofs.Common.{arith}
 use Rattle.premise.specs.Charges.{summed_none, summed_more, summed_all}
 use Rattle.premise.proofs.cover.charges.Goals as goal
 

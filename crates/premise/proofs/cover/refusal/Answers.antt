@@ -1,6 +1,6 @@
 -- `premise::cover::refusal` meets its contract. The loop's invariant: every board before r keeps the store's rule. The measure is how
 -- many boards are left. Assumes nothing.
-use Rattle.std.proofs.Common.{ap, arith, not, ◌-◌}
+use Rattle.std.proofs.Common.{ap, arith, not}
 use Rattle.rules.specs.Sheet.{sheet_in, P_of}
 use Rattle.laws.specs.Answers.{sought_none, sought_more, sought_bad, sought_all}
 use Rattle.premise.proofs.cover.refusal.Goals as goal

@@ -1,9 +1,8 @@
 -- `premise::ops::refusal` meets its contract. The loop's invariant: no operation before i breaks the rule. The measure is how many
 -- operations are left. Assumes nothing.
-use Rattle.std.proofs.Common.{ap, arith, not, ◌-◌}
+use Rattle.std.proofs.Common.{ap, arith, not}
 use Rattle.rules.specs.Sheet.{sheet_in, N_of}
 use Rattle.laws.specs.Answers.{sought_none, sought_more, sought_bad, sought_all}
-use Rattle.premise.specs.Rules.{number, keeps}
 use Rattle.premise.proofs.ops.refusal.Goals as goal
 
 pub loop-i-init : goal.loop-i-init

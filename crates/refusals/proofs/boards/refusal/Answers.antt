@@ -1,6 +1,6 @@
 -- `refusals::boards::refusal` meets its contract. The loop's invariant: the walk has come to board r with its two sums, and has
 -- refused nothing. The measure is how many boards are left. Assumes nothing.
-use Rattle.std.proofs.Common.{ap, arith, eqb, leb, not, ℕ, ◌&&◌, ◌+◌, ◌-◌, ◌≡◌}
+use Rattle.std.proofs.Common.{ap, arith, eqb, leb, not, ℕ, ◌&&◌, ◌+◌, ◌≡◌}
 use Rattle.rules.specs.Limits.{most_attached, most_inbox, most_room}
 use Rattle.rules.specs.Sheet.{Sheet, sheet_in}
 use Rattle.rules.specs.Refusal.{board_good}
@@ -13,7 +13,6 @@ pub loop-r-init : goal.loop-r-init
 loop-r-init c = walked_none (sheet_in c.args.s.now)
 
 -- the entry that was read: its test is the definition's
-
 module _ (c : After-room) where
   abbrev s : Sheet
   s = sheet_in c.args.s.now

@@ -1,8 +1,8 @@
 -- `refusals::scripts::refusal` meets its contract. The loop's invariant: nothing is refused before the script of board r. The
 -- measure is how many boards are left. Assumes nothing.
-use Rattle.std.proofs.Common.{arith, ◌-◌}
+use Rattle.std.proofs.Common.{arith}
 use Rattle.laws.specs.Scripts.{passed_none, passed_more, passed_bad, passed_all}
-use Rattle.refusals.specs.Rules.{number, refuses}
+use Rattle.refusals.specs.Rules.{refuses}
 use Rattle.refusals.proofs.scripts.refusal.Goals as goal
 
 pub loop-r-init : goal.loop-r-init

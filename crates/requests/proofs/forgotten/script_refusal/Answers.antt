@@ -15,7 +15,6 @@ loop-i-init c =
     (omega (arith, c.first-first.ensures.is, c.count.ensures.is))
 
 -- what is known of the operation before i inside the loop
-
 module _ (c : In-loop-i) where
   abbrev s : Sheet
   s = sheet_in c.args.s.now
@@ -42,7 +41,6 @@ pub takes_slot-requires : goal.takes_slot-requires
 takes_slot-requires c = (c.requires.0, inside (goal.at.takes_slot-requires c).In-loop-i)
 
 -- the slot that was read
-
 module _ (c : After-slot-slot) where
   slot_is : c.slot-slot.result ≡ (op (s (goal.at.After-slot-slot c).In-loop-i) (j (goal.at.After-slot-slot c).In-loop-i)).slot
   slot_is = c.slot-slot.ensures.is
@@ -62,7 +60,6 @@ loop-i-preserved-then-frees_slot c =
     (walked_freed c.loop-i.invariant (more (goal.at.loop-i-preserved-then-frees_slot c).In-loop-i) (slotted_there (goal.at.loop-i-preserved-then-frees_slot c).In-loop-i) (sym c.frees_slot.ensures ∙ c.if-frees_slot.true))
 
 -- an operation that frees no slot: whether it is forgotten, as the code asks
-
 module _ (c : After-takes_slot) where
   kept : frees_slot (op (s (goal.at.After-takes_slot c).In-loop-i) (j (goal.at.After-takes_slot c).In-loop-i)) ≡ false
   kept = sym c.frees_slot.ensures ∙ c.if-frees_slot.false

@@ -1,5 +1,4 @@
 -- The invariant and the measure of `requests::forgotten::script_refusal`.
-use Rattle.std.proofs.Common.{◌-◌}
 use Rattle.rules.specs.Sheet.{sheet_in}
 use Rattle.requests.specs.Forgotten.{Walked}
 use Rattle.requests.proofs.forgotten.script_refusal.Given as goal

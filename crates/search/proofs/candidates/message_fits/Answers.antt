@@ -10,7 +10,6 @@ abbrev beside : Start → Sides
 beside z = message_beside (sheet_in z.args.s.now) z.args.a z.args.m
 
 -- whether the message's sender is the source asked for
-
 sender : (c : After-source_asked) → let x = beside (goal.at.After-source_asked c).Start in is_asked x.source x.sender ≡ c.source_asked.result
 sender c =
     sym (c.source_asked.ensures ∙ ap (λ (r : ℕ). is_asked c.args.a.peer r) (c.requires.0.tables.rank_is c.args.m c.requires.1))

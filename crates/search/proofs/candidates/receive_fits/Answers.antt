@@ -10,7 +10,6 @@ abbrev beside : Start → Sides
 beside z = receive_beside (sheet_in z.args.s.now) z.args.a z.args.q
 
 -- the receive's board, and what it asks of tag and source
-
 board : (c : After-rank_at) → c.rank_at.result ≡ (beside (goal.at.After-rank_at c).Start).board
 board c = c.rank_at.ensures.is ∙ c.requires.0.tables.rank_is c.args.q c.requires.1
 

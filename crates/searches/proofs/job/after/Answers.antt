@@ -14,7 +14,6 @@ use Rattle.searches.proofs.job.after.Goals as goal
 use Rattle.searches.proofs.job.after.Goals.{After-follow-outcome, Start}
 
 -- THE JOB that the order led to, as scratch holds it
-
 module _ (c : After-follow-outcome) where
   abbrev bytes : List ℕ
   bytes = c.args.s.now

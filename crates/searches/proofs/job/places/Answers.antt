@@ -1,6 +1,6 @@
 -- `searches::job::places` meets its contract. The loop's invariant: what was added, with what is left to add, is the whole sum, and
 -- each summand is at most the most operations. The measure is how many are left. Assumes nothing.
-use Rattle.std.proofs.Common.{arith, ◌+◌, ◌-◌, ◌≤◌}
+use Rattle.std.proofs.Common.{arith, ◌+◌, ◌≤◌}
 use Rattle.rules.specs.Limits.{most_ops}
 use Rattle.rules.specs.Sheet.{sheet_in}
 use Rattle.state.specs.declared.Queue.TheVariants.{Messages}
@@ -17,7 +17,6 @@ pub find-total-requires : goal.find-total-requires
 find-total-requires c = let p = c.requires in (p.0, p.1, omega (arith, p.2, c.loop-j-test.true))
 
 -- a summand is at most the most operations
-
 module _ (c : After-find-total) where
   small : c.find-total.result ≤ most_ops
   small = omega (arith, c.find-total.ensures.within, c.requires.1.short)

@@ -1,6 +1,6 @@
 -- `state::start::put_rows` meets its contract. The loop's invariant: the first i rows are bare. The measure is how many are left.
 -- Assumes nothing.
-use Rattle.std.proofs.Common.{ap, arith, ℕ, ◌-◌, ◌∙◌, ◌≡◌}
+use Rattle.std.proofs.Common.{ap, arith, ℕ, ◌∙◌, ◌≡◌}
 use Rattle.rules.specs.Step.{splice}
 use Rattle.state.specs.Start.{bare_none, bare_more, bare_rows}
 use Rattle.state.proofs.start.put_rows.Goals as goal

@@ -29,7 +29,6 @@ returns-then-count-done c =
     (omega (arith, done, c.count.ensures.is, c.if-count-done.true))
 
 -- past the tests, board r is there and unfinished, and operation i is its next, in every job that is represented
-
 module _ (c : After-first) where
   abbrev s : Sheet
   s = sheet_in c.args.s.now

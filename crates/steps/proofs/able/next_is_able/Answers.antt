@@ -9,7 +9,6 @@ use Rattle.steps.specs.Able.{RepresentedNext, waiting_is, next_below, wait_targe
 use Rattle.steps.proofs.able.next_is_able.Goals as goal
 
 -- operation i is one of the sheet
-
 inside : {bs c : List ℕ} {t : Control} {r i : ℕ} (q : RepresentedNext bs c t r i) → i < N_of (sheet_in bs)
 inside {bs} {c} {t} {r} {i} q = next_below bs q.lent c t q.job q.represents r i q.next
 

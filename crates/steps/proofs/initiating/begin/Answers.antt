@@ -31,7 +31,6 @@ find-k-requires c =
     )
 
 -- WHAT THE SEARCH FOUND, in every job that is held
-
 module _ (c : After-find-k) where
   abbrev s : Sheet
   s = sheet_in c.args.s.now

@@ -18,7 +18,6 @@ word_of-j-requires c =
     omega (arith, few_listed (sheet_in a.s.now) a.c.now a.t p.job p.decodes a.list, c.base.ensures.1.high, p.decodes.roomy)
 
 -- the operation that was read is the k-th of the list, in every job that is held
-
 module _ (c : After-word_of-j) where
   place : c.word_of-j.result ≡ two c.args.c.now (word_at (base_of c.args.list) c.args.k)
   place = c.word_of-j.ensures.is ∙ ap (λ (b : ℕ). two c.args.c.now (word_at b c.args.k)) c.base.ensures.0
@@ -48,7 +47,6 @@ take-u-requires c =
     )
 
 -- the match, once the one found has left its list
-
 module _ (c : After-take-u) where
   abbrev j : ℕ
   j = c.word_of-j.result

@@ -9,7 +9,6 @@ use Rattle.steps.proofs.sends.keep_or_pend.Goals as goal
 use Rattle.steps.proofs.sends.keep_or_pend.Goals.{Else-not-has_room}
 
 -- behind the first test
-
 roomed : (c : Else-not-has_room) → has_room (sheet_in c.args.s.now) c.args.r c.args.i ≡ true
 roomed c = sym c.has_room.ensures ∙ c.if-not-has_room.false
 

@@ -27,7 +27,6 @@ waiting_of-requires c =
     omega (arith, (able_can_finish p.valid p.fine).there, p.decodes.few_boards, p.decodes.roomy)
 
 -- WHAT WAS READ, in every job that is held and in which board r is able
-
 module _ (c : After-waiting_of) where
   abbrev s : Sheet
   s = sheet_in c.args.s.now
