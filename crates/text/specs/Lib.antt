@@ -3,9 +3,11 @@
 --   Vectors   lines that were written by hand
 --   Lines     a line that is written item by item
 --   Lengths   how long a text is
---   Decimals  the digits of a number that the library io lays out
+--   Digits    digits in a base
+--   Decimals  the digits of a number that `number::decimal` lays out
 pub mod Text
 pub mod Vectors
 pub mod Lines
 pub mod Lengths
+pub mod Digits
 pub mod Decimals
