@@ -3,7 +3,8 @@ use Rattle.std.proofs.Common.{List, ℕ, ◌+◌, ◌*◌, ◌<◌, ◌≤◌, r
 use Rattle.std.proofs.Math.Seq.{length-take-le}
 use Rattle.text.specs.Text.{number}
 use Rattle.text.specs.Lines.{Lined, lined_none, lined_more, lined_end}
-use Rattle.text.specs.Lengths.{number_most, spaced_most, most_places}
+use Rattle.text.specs.Lengths.{most_places}
+use Rattle.text.proofs.Lengths.{number_most, spaced_most}
 use Rattle.text.proofs.numbers_line.Goals as goal
 
 -- what is written leaves room for the next number, and that number lies in it

@@ -3,7 +3,7 @@ use Rattle.std.proofs.Common.{◌≡◌, sym, ◌∙◌, ap, List, [], ◌∷◌
 use Rattle.std.proofs.Math.Seq.{length-take-le}
 use Rattle.rules.specs.Step.{splice}
 use Rattle.text.specs.Text.{number, decimal}
-use Rattle.text.specs.Decimals.{fewest_most, decimal_is}
+use Rattle.text.proofs.Decimals.{fewest_most, decimal_is}
 use Rattle.text.proofs.put_number.Goals as goal
 
 pub put_digits-requires : goal.put_digits-requires
