@@ -16,15 +16,31 @@ fn figures(rt: &impl Print, a: Account) -> io::Result<()> {
 }
 
 // An account that is charged n bytes.
-fn charge_line(rt: &impl Print, size: usize, in_use: usize, peak: usize, n: usize) -> io::Result<()> {
+fn charge_line(
+    rt: &impl Print,
+    size: usize,
+    in_use: usize,
+    peak: usize,
+    n: usize,
+) -> io::Result<()> {
     let r = account::charging(size, in_use, peak, n);
     let ok = r.ok;
     figures(rt, r.account)?;
-    if ok { rt.println(" 1") } else { rt.println(" 0") }
+    if ok {
+        rt.println(" 1")
+    } else {
+        rt.println(" 0")
+    }
 }
 
 // An account from which a charge of n bytes goes.
-fn release_line(rt: &impl Print, size: usize, in_use: usize, peak: usize, n: usize) -> io::Result<()> {
+fn release_line(
+    rt: &impl Print,
+    size: usize,
+    in_use: usize,
+    peak: usize,
+    n: usize,
+) -> io::Result<()> {
     figures(rt, account::releasing(size, in_use, peak, n))?;
     rt.println("")
 }
@@ -41,7 +57,10 @@ fn search_line(rt: &impl Print, source: usize, communicator: usize, tag: usize) 
     let sources = [0, 1, 1, 0];
     let communicators = [0, 1, 0, 0];
     let tags = [5, 5, 6, 6];
-    found_line(rt, waiting::search(&sources, &communicators, &tags, source, communicator, tag))
+    found_line(
+        rt,
+        waiting::search(&sources, &communicators, &tags, source, communicator, tag),
+    )
 }
 
 fn envelope(source: usize, communicator: usize, tag: usize, operation: usize) -> Envelope {
@@ -55,7 +74,13 @@ fn envelope(source: usize, communicator: usize, tag: usize, operation: usize) ->
 
 // The same four in an array, and after them messages from 1 in communicator 2 with tag 9, but for the one at place 1,000, which
 // is from 3 in communicator 2 with tag 9; the first `count` are searched.
-fn array_line(rt: &impl Print, count: usize, source: usize, communicator: usize, tag: usize) -> io::Result<()> {
+fn array_line(
+    rt: &impl Print,
+    count: usize,
+    source: usize,
+    communicator: usize,
+    tag: usize,
+) -> io::Result<()> {
     let rest = envelope(1, 2, 9, 4);
     let mut list = [rest; limits::MOST_OPS];
     list[0] = envelope(0, 0, 5, 0);
@@ -63,7 +88,10 @@ fn array_line(rt: &impl Print, count: usize, source: usize, communicator: usize,
     list[2] = envelope(1, 0, 6, 2);
     list[3] = envelope(0, 0, 6, 3);
     list[1000] = envelope(3, 2, 9, 1000);
-    found_line(rt, waiting::earliest_of(list, count, source, communicator, tag))
+    found_line(
+        rt,
+        waiting::earliest_of(list, count, source, communicator, tag),
+    )
 }
 
 fn accounts(rt: &impl Print) -> io::Result<()> {

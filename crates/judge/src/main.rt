@@ -35,5 +35,7 @@ fn judge(rt: &HostRuntime, sheet: &[u8]) {
         let _ = rt.stderr().write_all(&told[..told_size]);
         return;
     }
-    let _ = rt.stderr().write_all(b"standard output could not be written\n");
+    let _ = rt
+        .stderr()
+        .write_all(b"standard output could not be written\n");
 }
