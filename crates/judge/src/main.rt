@@ -7,6 +7,8 @@ mod input;
 mod lines;
 mod rooms;
 
+use std::io::ErrorKind;
+
 // The longest sheet, and one byte more: no further is read. An input of at least so many bytes has its header among them, so 1 is
 // out, 2 reads only the header, and where 2 is out the header asks for at most the longest sheet, so 3 is given for these bytes
 // and for the whole input alike (specs/Longer.antt has the proof).
@@ -31,11 +33,13 @@ fn judge(rt: &HostRuntime, sheet: &[u8]) {
     let sizes = lines::lay_out(sheet, &mut line, &mut told);
     let size = sizes.line;
     let told_size = sizes.told;
-    if rt.stdout().write_all(&line[..size]).is_ok() {
-        let _ = rt.stderr().write_all(&told[..told_size]);
-        return;
-    }
-    let _ = rt
-        .stderr()
-        .write_all(b"standard output could not be written\n");
+    let printed = rt.stdout().write_all(&line[..size]);
+    let err = rt.stderr();
+    let _ = match printed {
+        Ok(()) => err.write_all(&told[..told_size]),
+        Err(e) if e.kind() == ErrorKind::BrokenPipe => {
+            err.write_all(b"standard output could not be written: nobody reads it\n")
+        }
+        Err(_) => err.write_all(b"standard output could not be written\n"),
+    };
 }
