@@ -38,14 +38,19 @@ fn read_full(file: &mut File, room: &mut [u8]) -> usize
     at
 }
 
-// The file's name and why it cannot be opened, in the system's words, without the number that std puts behind them.
+// The file's name and why it cannot be opened.
 fn fail(rt: &HostRuntime, path: &str, e: io::Error) -> io::Result<()> {
     let said = format!(in rt.alloc(); "{e}")?;
-    let words = match said.split_once(" (os error ") {
-        Some((words, _)) => words,
-        None => said.as_str(),
-    };
+    let words = system_words(said.as_str());
     eprintln!(rt; "{path}: {words}")
+}
+
+// The system's words, without the number that std puts behind them.
+fn system_words(said: &str) -> &str {
+    match said.split_once(" (os error ") {
+        Some((words, _)) => words,
+        None => said,
+    }
 }
 
 fn run(rt: &HostRuntime, sheet: &[u8]) -> io::Result<()> {
