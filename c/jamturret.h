@@ -10,7 +10,7 @@
  *   jamturret_words.h    refusals, verdicts and states in words
  *
  * The library is target/staticlib/libjamturret.a, made by
- * `rt staticlib jamturret` at the repository root:
+ * `c/build` at the repository root:
  *   cc -Ic program.c target/staticlib/libjamturret.a
  *
  * WHAT A CALL NEEDS

@@ -1,8 +1,8 @@
 # The program that `judge` runs: whether it fits its sources, and how it is proved and built. Sourced by `judge`.
 # target/judge.built says what the program was built from: a digest of its sources, and the stamp that rt gave it. rt removes its
-# stamp before it builds and puts it back only behind a proof, a link and a run, so a build that was broken off is no good program.
-program=$root/target/bin/judge
-stamp=$root/target/stamp/judge
+# stamp before it builds and puts it back only behind a proof and a link, so a build that was broken off is no good program.
+program=$root/crates/judge/out/judge
+stamp=$program.stamp
 built=$root/target/judge.built
 
 # The crates of the program, found from its line in crates.txt: an edit of any other does not concern it.
@@ -45,22 +45,25 @@ is_current() {
         return
     fi
     { read -r was_digest && read -r was_stamp; } <"$built" || return 1
-    read -r now_stamp <"$stamp"
-    [ "$was_stamp" = "$now_stamp" ] || return 1
+    [ "$was_stamp" = "$(cat "$stamp")" ] || return 1
     changed_since "$built" || return 0
     [ "$(digest)" = "$was_digest" ] || return 1
     touch "$built" 2>/dev/null
     return 0
 }
 
-# Shows how far rt has come: a line for each crate. Every line that rt writes goes to a log.
+# Shows how far rt has come: a line for each crate that it proves. Every line that rt writes goes to a log; of a crate the last two
+# are 'crate NAME: ..' and its verdict. A library that was proved before has none.
 show_progress() { # LOG: its descriptor is 8
     while read -r line <&8; do
         case $line in
-        'rt: '*' proved ('*)
+        'crate '*': '*)
+            rest=${line#crate }
+            crate_said=${rest%%:*}
+            ;;
+        'logic=proved '*)
             done_crates=$((done_crates + 1))
-            rest=${line#rt: }
-            say "proved ${rest%% *} ($done_crates of $all_crates)"
+            say "proved $crate_said ($done_crates of $all_crates)"
             ;;
         esac
     done
@@ -79,7 +82,8 @@ run_rt() {
     : >"$log"
     exec 8<"$log"
     [ -x "$program" ] || rm -f "$stamp"
-    (cd "$root" && exec setsid rt check judge) >"$log" 2>&1 </dev/null &
+    # rt runs what it has built, on an empty sheet
+    (cd "$root/crates/judge" && exec setsid rt run) >"$log" 2>&1 </dev/null &
     prover=$!
     trap break_off INT TERM HUP
     while kill -0 "$prover" 2>/dev/null; do
@@ -108,7 +112,7 @@ build() {
         exec 9>&-
         return
     fi
-    all_crates=$(crates_of_program | wc -l) done_crates=0
+    all_crates=$(crates_of_program | wc -l) done_crates=0 crate_said=
     say "proving and building the program, $all_crates crates: about four minutes the first time, less where only some have changed"
     from=$(digest)
     if ! run_rt; then
@@ -116,7 +120,8 @@ build() {
         [ "$(rt version)" = "$kit" ] || say "the kit here is $(rt version), and the one wanted is $kit"
         could_not 'the program could not be built'
     fi
-    { printf '%s\n' "$from" && cat "$stamp"; } >"$built.new" && mv "$built.new" "$built"
+    # rt's stamp ends with no newline
+    printf '%s\n%s\n' "$from" "$(cat "$stamp")" >"$built.new" && mv "$built.new" "$built"
     exec 9>&-
 }
 

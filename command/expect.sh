@@ -23,7 +23,7 @@ lines() { [ -z "$1" ] || printf '%s\n' "$1"; }
 
 # A sample sheet that is accepted, and the words for it.
 says() { # STATUS WORDS SHEET
-    expect "$1" "$(target/bin/judge <"sheets/$3.sheet" 2>/dev/null)" "judge: $2" ./judge "sheets/$3.sheet"
+    expect "$1" "$(crates/judge/out/judge <"sheets/$3.sheet" 2>/dev/null)" "judge: $2" ./judge "sheets/$3.sheet"
 }
 
 # One that is refused.

@@ -1,6 +1,6 @@
 //! Tells the linker where libsearches.a stands: the searches of the crate
 //! `waiting`, exported for our tests and their benchmark by
-//! `rt staticlib searches` at the repository root. JAMTURRET_LIB_DIR names
+//! `c/build searches` at the repository root. JAMTURRET_LIB_DIR names
 //! another folder, as it does for the library (../rust/build.rs).
 
 use std::env;
@@ -15,7 +15,7 @@ fn main() {
     println!("cargo:rerun-if-changed={}", library.display());
     if !library.exists() {
         println!(
-            "cargo:warning={} is missing: run `rt staticlib searches` at the repository root",
+            "cargo:warning={} is missing: run `c/build searches` at the repository root",
             library.display()
         );
     }

@@ -1,6 +1,6 @@
 //! Tells the linker where libjamturret.a stands.
 //!
-//! The library is made by `rt staticlib jamturret` at the repository root and
+//! The library is made by `c/build` at the repository root and
 //! stands in target/staticlib there. The environment variable
 //! JAMTURRET_LIB_DIR names another folder (a relative one is taken from this
 //! crate's folder), for instance one with a stand-in library that is broken on
@@ -18,7 +18,7 @@ fn main() {
     println!("cargo:rerun-if-changed={}", library.display());
     if !library.exists() {
         println!(
-            "cargo:warning={} is missing: run `rt staticlib jamturret` at the repository root, or set JAMTURRET_LIB_DIR",
+            "cargo:warning={} is missing: run `c/build` at the repository root, or set JAMTURRET_LIB_DIR",
             library.display()
         );
     }

@@ -14,7 +14,7 @@ const SEED: u64 = 13;
 const CASES: u64 = 1500;
 
 fn built() -> PathBuf {
-    PathBuf::from(env!("CARGO_MANIFEST_DIR")).join("../target/bin/judge")
+    PathBuf::from(env!("CARGO_MANIFEST_DIR")).join("../crates/judge/out/judge")
 }
 
 /// The program, with nothing on standard input unless said.
@@ -44,7 +44,7 @@ fn printed_by(mut program: Command, input: &[u8]) -> (String, String) {
         .stdout(Stdio::piped())
         .stderr(Stdio::piped())
         .spawn()
-        .expect("the program is built by rt check judge");
+        .expect("the program is built by rt ci, or by judge");
     let mut stdin = child.stdin.take().expect("a pipe");
     // The program stops reading behind the longest sheet.
     let _ = stdin.write_all(input);

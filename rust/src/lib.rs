@@ -14,7 +14,7 @@
 //! # Depend on it
 //!
 //! The library is made first, at the root of the repository, by
-//! `rt staticlib jamturret`; it is for x86-64. Then, with the path to this
+//! `c/build`; it is for x86-64. Then, with the path to this
 //! folder:
 //!
 //! ```toml

@@ -4,94 +4,122 @@ ghost use Rattle.std.specs.Prelude.{◌<◌, ◌≤◌, length};
 
 use crate::lent;
 use jamturret::{jamturret_check, jamturret_follow, jamturret_premise, jamturret_run};
+use std::fs::File;
+use std::io;
+use std::io::Read;
 
-// Check, premise and run, then follow with the order that run wrote down.
-pub fn job(path: &[u8]) {
-    let fd = os::open_read(path);
-    if fd < 0 {
-        os::fail(path);
-        return;
-    }
+// Check, premise and run, then follow with the order that run wrote down. A file that cannot be opened is told on standard error.
+pub fn job(rt: &HostRuntime, path: &str) -> io::Result<()> {
     let mut input = lent::input();
-    let n = io::read_full(fd, &mut input);
-    libc::close(fd);
-    io::write_all(1, path);
+    let n = match File::open(rt, path) {
+        Ok(mut file) => read_full(&mut file, &mut input),
+        Err(e) => return fail(rt, path, e),
+    };
+    rt.print(path)?;
     let checked = jamturret_check(&input[..n]);
-    answer(b": check ", checked.number as u64, checked.place);
+    answer(rt, ": check ", checked.number as u64, checked.place)?;
     let asked = jamturret_premise(&input[..n]);
-    answer(b"  premise ", asked.number as u64, asked.place);
-    run(&input[..n]);
+    answer(rt, "  premise ", asked.number as u64, asked.place)?;
+    run(rt, &input[..n])
 }
 
-fn run(sheet: &[u8]) {
+// Reads until the room is full, the file ends or a read fails; answers how many bytes stand at the start of the room.
+fn read_full(file: &mut File, room: &mut [u8]) -> usize
+    ensures { result ≤ length room.new }
+{
+    let mut at = 0;
+    while at < room.len() {
+        match file.read(&mut room[at..]) {
+            Ok(0) => return at,
+            Ok(more) => at += more,
+            Err(_) => return at,
+        }
+    }
+    at
+}
+
+// The file's name and why it cannot be opened.
+fn fail(rt: &HostRuntime, path: &str, e: io::Error) -> io::Result<()> {
+    let said = format!(in rt.alloc(); "{e}")?;
+    let words = system_words(said.as_str());
+    eprintln!(rt; "{path}: {words}")
+}
+
+// The system's words, without the number that std puts behind them.
+fn system_words(said: &str) -> &str {
+    match said.split_once(" (os error ") {
+        Some((words, _)) => words,
+        None => said,
+    }
+}
+
+fn run(rt: &HostRuntime, sheet: &[u8]) -> io::Result<()> {
     let mut inbox = lent::inbox();
     let mut report = lent::report();
     let mut order = lent::order();
     let mut scratch = lent::scratch();
     let ran = jamturret_run(sheet, &mut inbox, &mut report, &mut order, &mut scratch);
-    answer(b"  run ", ran.number as u64, ran.place);
-    crc(b"  order ", &order);
-    rooms(&inbox, &report, &scratch);
+    answer(rt, "  run ", ran.number as u64, ran.place)?;
+    crc(rt, "  order ", &order)?;
+    rooms(rt, &inbox, &report, &scratch)?;
     if ran.number == 0 {
-        controls(&report);
+        controls(rt, &report)?;
         let steps = words::two_at(&report, 4);
-        again(sheet, &order, steps);
+        again(rt, sheet, &order, steps)?;
     }
+    Ok(())
 }
 
 // Run's order followed, and then with the byte behind it, which is no rank: refusal 9 there.
-fn again(sheet: &[u8], order: &[u8], steps: usize) {
+fn again(rt: &HostRuntime, sheet: &[u8], order: &[u8], steps: usize) -> io::Result<()> {
     if steps < order.len() {
-        follow(b"  follow ", sheet, &order[..steps]);
+        follow(rt, "  follow ", sheet, &order[..steps])?;
         let more = steps + 1;
-        follow(b"  one more ", sheet, &order[..more]);
+        follow(rt, "  one more ", sheet, &order[..more])?;
     }
+    Ok(())
 }
 
-fn follow(name: &[u8], sheet: &[u8], order: &[u8]) {
+fn follow(rt: &HostRuntime, name: &str, sheet: &[u8], order: &[u8]) -> io::Result<()> {
     let mut inbox = lent::inbox();
     let mut report = lent::report();
     let mut scratch = lent::scratch();
     let followed = jamturret_follow(sheet, order, &mut inbox, &mut report, &mut scratch);
-    answer(name, followed.number as u64, followed.place);
-    rooms(&inbox, &report, &scratch);
+    answer(rt, name, followed.number as u64, followed.place)?;
+    rooms(rt, &inbox, &report, &scratch)
 }
 
 // Number and place.
-fn answer(name: &[u8], number: u64, place: u64) {
-    field(name, number);
-    field(b" ", place);
-    io::write_all(1, b"\n");
+fn answer(rt: &HostRuntime, name: &str, number: u64, place: u64) -> io::Result<()> {
+    println!(rt; "{name}{number} {place}")
 }
 
 // The report's header but P and N.
-fn controls(report: &[u8])
+fn controls(rt: &HostRuntime, report: &[u8]) -> io::Result<()>
     requires { 16 ≤ length report.now }
 {
-    field(b"  verdict ", words::byte_at(report, 0) as u64);
-    field(b" stop ", words::byte_at(report, 1) as u64);
-    field(b" ", words::two_at(report, 2) as u64);
-    field(b" steps ", words::two_at(report, 4) as u64);
-    field(b" pending ", words::two_at(report, 10) as u64);
-    field(b" ", words::two_at(report, 12) as u64);
-    field(b" cut ", words::two_at(report, 14) as u64);
-    io::write_all(1, b"\n");
+    field(rt, "  verdict ", words::byte_at(report, 0) as u64)?;
+    field(rt, " stop ", words::byte_at(report, 1) as u64)?;
+    field(rt, " ", words::two_at(report, 2) as u64)?;
+    field(rt, " steps ", words::two_at(report, 4) as u64)?;
+    field(rt, " pending ", words::two_at(report, 10) as u64)?;
+    field(rt, " ", words::two_at(report, 12) as u64)?;
+    field(rt, " cut ", words::two_at(report, 14) as u64)?;
+    rt.println("")
 }
 
-fn field(name: &[u8], value: u64) {
-    io::write_all(1, name);
-    io::print_decimal(1, value);
+fn field(rt: &HostRuntime, name: &str, value: u64) -> io::Result<()> {
+    print!(rt; "{name}{value}")
 }
 
 // CRCs of whole rooms, what lies behind inboxes and report among it.
-fn rooms(inbox: &[u8], report: &[u8], scratch: &[u8]) {
-    crc(b"  inbox ", inbox);
-    crc(b"  report ", report);
-    crc(b"  scratch ", scratch);
+fn rooms(rt: &HostRuntime, inbox: &[u8], report: &[u8], scratch: &[u8]) -> io::Result<()> {
+    crc(rt, "  inbox ", inbox)?;
+    crc(rt, "  report ", report)?;
+    crc(rt, "  scratch ", scratch)
 }
 
-fn crc(name: &[u8], room: &[u8]) {
-    io::write_all(1, name);
-    io::print_hex(1, crc::crc_of_bytes(room) as u64, 4);
-    io::write_all(1, b"\n");
+fn crc(rt: &HostRuntime, name: &str, room: &[u8]) -> io::Result<()> {
+    let crc = crc::crc_of_bytes(room);
+    println!(rt; "{name}{crc:04x}")
 }

@@ -1,6 +1,6 @@
 -- Which line is printed, by the number of check's refusal: the one for a sheet that it accepts, or number and place.
 -- Assumes nothing.
-use Rattle.std.specs.Prelude.{◌≡◌, Bool, List, ℕ, eqb}
+use Rattle.std.specs.Prelude.{◌≡◌, Bool, List, ℕ}
 use Rattle.std.proofs.Math.Path.{ap}
 use Rattle.std.proofs.Math.Bool.{cond}
 use Rattle.std.proofs.Common.{eq-eqb, ne_eqb}

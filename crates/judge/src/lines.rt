@@ -1,6 +1,6 @@
 // What the judge prints and what it tells, laid out in lent rooms.
 ghost use Rattle.std.specs.Prelude.{◌≡◌, ◌++◌, ◌∷◌, [], ◌<◌, length};
-ghost use Rattle.judge.specs.Printed.{most_report, line_size, told_size, refusal_line, report_line, header_numbers, facts_line, printed, told as Printed·told};
+ghost use Rattle.judge.specs.Printed.{most_report, line_size, told_size, refusal_line, report_line, header_numbers, facts_line, printed, told as told_line};
 ghost use Rattle.judge.specs.Calls.{Ran, Reported, Lines};
 
 use crate::rooms;
@@ -23,7 +23,7 @@ pub struct Sizes {
 // Runs a sheet and lays out what is printed and what is told of it.
 pub fn lay_out(sheet: &[u8], line: &mut [u8], told: &mut [u8]) -> Sizes
     requires { (line_size ≡ length line.old) × (told_size ≡ length told.old) }
-    ensures { Lines (printed sheet.now) (Printed·told sheet.now) result.line line.new result.told told.new }
+    ensures { Lines (printed sheet.now) (told_line sheet.now) result.line line.new result.told told.new }
 {
     let mut report = rooms::report();
     let answer = run_from_zeros(sheet, &mut report);

@@ -1,9 +1,8 @@
--- How long a text is: three places a byte in hex, and at most 21 a number, its character behind it included.
--- Assumes nothing.
-use Rattle.std.specs.Prelude.{◌≡◌, refl, Bool, true, false, cond, List, [], ◌∷◌, ◌++◌, ℕ, zero, suc, ◌+◌, ◌*◌, ◌/◌, ◌%◌, ◌≤◌, ltb, length}
-use Rattle.std.proofs.Common.{arith, length-append}
-use Rattle.text.specs.Text.{digit_of, pair, decimal_in, decimal, most_digits, number, line, hex_line, numbers_line}
-use Rattle.text.specs.Lines.{spaced}
+-- How long a text is: three places a byte in hex, and the longest text of a number. That a number's text is no longer is in
+-- proofs/Lengths. Assumes nothing.
+use Rattle.std.specs.Prelude.{◌≡◌, refl, List, [], ◌∷◌, ℕ, ◌+◌, ◌*◌, length}
+use Rattle.std.proofs.Common.{arith}
+use Rattle.text.specs.Text.{pair, most_digits, line, hex_line}
 
 pub pair_length : (b e : ℕ) → length (pair b e) ≡ 3
 unfolding pair
@@ -15,31 +14,6 @@ hex_line_length [] = refl
 hex_line_length (b ∷ []) = refl
 hex_line_length (b ∷ c ∷ bs) = let e = hex_line_length (c ∷ bs) in omega (arith, e)
 
-digits_most : (k n : ℕ) → length (decimal_in k n) ≤ k
-unfolding decimal_in
-digits_most zero n = omega arith
-digits_most (suc k) n = go (ltb n 10) (digits_most k (n / 10))
-  where
-    go : (t : Bool) → length (decimal_in k (n / 10)) ≤ k → length (cond t (digit_of n ∷ []) (decimal_in k (n / 10) ++ (digit_of (n % 10) ∷ []))) ≤ suc k
-    go true h = omega arith
-    go false h = omega (arith, h, length-append (decimal_in k (n / 10)) (digit_of (n % 10) ∷ []))
-
 -- the longest text of a number: its digits and the character behind them
 abbrev pub most_places : ℕ
 most_places = most_digits + 1
-
-pub number_most : (n e : ℕ) → length (number n e) ≤ most_places
-unfolding number decimal
-number_most n e = omega (arith, digits_most most_digits n, length-append (decimal n) (e ∷ []))
-
-pub spaced_most : (ns : List ℕ) → length (spaced number ns) ≤ most_places * length ns
-unfolding spaced
-spaced_most [] = omega arith
-spaced_most (n ∷ ns) = omega (arith, spaced_most ns, number_most n 32, length-append (number n 32) (spaced number ns))
-
-pub numbers_line_most : (ns : List ℕ) → length (numbers_line ns) ≤ most_places * length ns
-unfolding line
-numbers_line_most [] = omega arith
-numbers_line_most (n ∷ []) = number_most n 10
-numbers_line_most (n ∷ m ∷ ns) =
-    omega (arith, numbers_line_most (m ∷ ns), number_most n 32, length-append (number n 32) (numbers_line (m ∷ ns)))

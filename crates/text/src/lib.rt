@@ -1,8 +1,12 @@
 // Bytes and numbers as lines of text (document 01, "The desk and its three services").
+#![tactic(auto)]
+
 ghost use Rattle.std.specs.Prelude.{◌≡◌, [], ◌∷◌, ◌++◌, ◌+◌, ◌*◌, ◌<◌, ◌≤◌, length, take};
 ghost use Rattle.rules.specs.Step.{splice};
-ghost use Rattle.text.specs.Text.{digit_of, pair as Text·pair, number as Text·number, hex_line as Text·hex-line, numbers_line as Text·numbers-line};
+ghost use Rattle.text.specs.Text.{digit_of, pair as pair_text, number as number_text, hex_line as hex_line_text, numbers_line as numbers_line_text};
 ghost use Rattle.text.specs.Lengths.{most_places};
+
+mod number;
 
 // The longest text of a number: 20 digits, enough for every number of 64 bits, and the character behind them.
 pub const MOST_PLACES: usize = 21;
@@ -11,7 +15,7 @@ pub const MOST_PLACES: usize = 21;
 // byte at least.
 pub fn hex_line(bytes: &[u8], line: &mut [u8])
     requires { (0 < length bytes.now) × (3 * length bytes.now ≤ length line.old) }
-    ensures { line.new ≡ splice line.old 0 (Text·hex-line bytes.now) }
+    ensures { line.new ≡ splice line.old 0 (hex_line_text bytes.now) }
 {
     let last = bytes.len() - 1;
     let mut i = 0;
@@ -25,7 +29,7 @@ pub fn hex_line(bytes: &[u8], line: &mut [u8])
 // A byte's two digits and the character behind them, put at a place.
 fn put_pair(line: &mut [u8], at: usize, b: u8, behind: u8)
     requires { at + 3 ≤ length line.old }
-    ensures { line.new ≡ splice line.old at (Text·pair b behind) }
+    ensures { line.new ≡ splice line.old at (pair_text b behind) }
 {
     line[at] = digit(b / 16);
     line[at + 1] = digit(b % 16);
@@ -33,6 +37,7 @@ fn put_pair(line: &mut [u8], at: usize, b: u8, behind: u8)
 }
 
 // A hex digit in upper case.
+#[tactic(auto, unfolding(crate::specs::Text::digit_of))]
 fn digit(d: u8) -> u8
     requires { d < 16 }
     ensures { result ≡ digit_of d }
@@ -44,8 +49,8 @@ fn digit(d: u8) -> u8
 // There is a number at least.
 pub fn numbers_line(numbers: &[u64], line: &mut [u8]) -> usize
     requires { (0 < length numbers.now) × (most_places * length numbers.now ≤ length line.old) }
-    ensures { (line.new ≡ splice line.old 0 (Text·numbers-line numbers.now))
-        × (result ≡ length (Text·numbers-line numbers.now)) }
+    ensures { (line.new ≡ splice line.old 0 (numbers_line_text numbers.now))
+        × (result ≡ length (numbers_line_text numbers.now)) }
 {
     let last = numbers.len() - 1;
     let mut i = 0;
@@ -60,11 +65,11 @@ pub fn numbers_line(numbers: &[u64], line: &mut [u8]) -> usize
 // A number in decimal and the character behind it, put at a place; answers the place behind them.
 fn put_number(line: &mut [u8], at: usize, n: u64, behind: u8) -> usize
     requires { at + most_places ≤ length line.old }
-    ensures { (line.new ≡ splice line.old at (Text·number n behind))
-        × (result ≡ at + length (Text·number n behind)) }
+    ensures { (line.new ≡ splice line.old at (number_text n behind))
+        × (result ≡ at + length (number_text n behind)) }
 {
     let mut digits = [0u8; 20];
-    let count = io::decimal(n, &mut digits);
+    let count = number::decimal(n, &mut digits);
     put_digits(line, at, &digits, count, behind)
 }
 

@@ -1,9 +1,9 @@
--- The digits that io::decimal lays out are the number in decimal: it tells the fewest that hold the number, and their text.
+-- The digits that number::decimal lays out are the number in decimal: it tells the fewest that hold the number, and their text.
 -- Assumes nothing.
-use Rattle.std.specs.Prelude.{◌≡◌, Bool, cond, List, [], ◌∷◌, ◌++◌, ℕ, zero, suc, ◌+◌, ◌-◌, ◌/◌, ◌%◌, ◌^◌, ◌<◌, ◌≤◌, ltb}
+use Rattle.std.specs.Prelude.{◌≡◌, Bool, cond, List, [], ◌∷◌, ◌++◌, ℕ, zero, suc, ◌+◌, ◌-◌, ◌/◌, ◌%◌, ◌^◌, ◌<◌, ◌≤◌}
 use Rattle.std.proofs.Common.{sym, ◌∙◌, ap, ap₂, subst, arith, pow-suc, pow-add, lt-ltb, le-ltb}
 use Rattle.std.proofs.Math.Decide.{dec_le}
-use Rattle.io.specs.Digits.{hex_digit_ascii, last_digits, IsDigitCount}
+use Rattle.text.specs.Digits.{hex_digit_ascii, last_digits, IsDigitCount}
 use Rattle.text.specs.Text.{digit_of, decimal_in, decimal, most_digits}
 
 -- a decimal digit is the same in both

@@ -1,0 +1,49 @@
+// A number's digits, laid out in a room.
+ghost use Rattle.std.specs.Prelude.{◌≡◌, ◌<◌, ◌≤◌, length, take};
+ghost use Rattle.text.specs.Digits.{last_digits, IsDigitCount, hex_digit_ascii};
+
+// Puts n's decimal digits at the start of `out`, and answers how many there are.
+pub fn decimal(n: u64, out: &mut [u8; 20]) -> usize
+    ensures in_bounds { result ≤ length out.new }
+    ensures len { IsDigitCount 10 1 n result }
+    ensures digits { take result out.new ≡ last_digits 10 result n }
+{
+    let k = digit_count(n);
+    write_digits(n, k, out);
+    k
+}
+
+// How many decimal digits n takes.
+fn digit_count(n: u64) -> usize
+    ensures { IsDigitCount 10 1 n result }
+{
+    let mut k = 1;
+    let mut rest = n / 10;
+    while rest > 0 {
+        rest /= 10;
+        k += 1;
+    }
+    k
+}
+
+// Puts the last k decimal digits of n at the start of `out`.
+fn write_digits(n: u64, k: usize, out: &mut [u8])
+    requires { k ≤ length out.old }
+    ensures { take k out.new ≡ last_digits 10 k n }
+{
+    let mut i = k;
+    let mut rest = n;
+    while i > 0 {
+        i -= 1;
+        out[i] = character(rest % 10);
+        rest /= 10;
+    }
+}
+
+// The character of a decimal digit.
+fn character(d: u64) -> u8
+    requires { d < 10 }
+    ensures { result ≡ hex_digit_ascii d }
+{
+    b'0' + d as u8
+}
