@@ -102,7 +102,7 @@ def tree(folder):
     run("git", "commit", "-qm", "respell.py")
 
 # a token: a word, a bracket or a sign
-TOKEN = re.compile(r"[\w'\u25cc]+|\s+|[^\w\s]")
+TOKEN = re.compile(r"[\w'\u25cc]+|\s+|&&|\|\||\+\+|::|[<>=]=|[-=]>|[^\w\s]")
 
 
 def tokens(text):
@@ -150,10 +150,12 @@ def regions(was, edited):
                         end, text = next_a, text + trail
                 elif "\n" not in was[end:next_a] and was[end:next_a] != trail:
                     end, text = next_a, text + trail
-            elif "\n" not in was[end:next_a]:
-                end = next_a
+            elif "\n" not in was[front:next_a]:
+                start, end, text = front, next_a, edited[back:next_b]
             elif "\n" not in was[front:start]:
                 start = front
+            else:
+                end = next_a
             found.append((start, end, re.sub(r"\s*\n\s*", " ", text)))
     # places of one line become one
     joined = []
@@ -166,7 +168,16 @@ def regions(was, edited):
     return joined
 
 
-def widen(was, today, start, end, left, right):
+def open_ends(text):
+    """How many brackets the text closes that it does not open."""
+    low = depth = 0
+    for c in text:
+        depth += (c in "([{") - (c in ")]}")
+        low = min(low, depth)
+    return -low
+
+
+def widen(was, today, start, end, left, right, closes):
     """The shortest stretch about start..end, in its line, that stands once in today's text, as wide as left and right tokens where it can be."""
     line_start, line_end = was.rfind("\n", 0, start) + 1, was.find("\n", end)
     before = [m for m in TOKEN.finditer(was[line_start:start])]
@@ -182,16 +193,16 @@ def widen(was, today, start, end, left, right):
         for j in range(len(behind) + 1):
             s, e = at(i, j)
             old = was[s:e]
-            if old != old.strip() and not (s == line_start and old.strip()):
+            if not old or old != old.rstrip() or old != old.lstrip() and s != line_start:
                 continue
-            if today.count(old) == 1 and old:
-                tries.append((abs(i - left) + abs(j - right), i, j, s, e))
+            if today.count(old) == 1:
+                tries.append((abs(i - left) + abs(j - right) + 2 * (old != old.lstrip()) + 3 * abs(open_ends(old) - closes), i, j, s, e))
     return min(tries)[3:] if tries else None
 
 
 def reach(old, new):
-    """How many tokens of an old pair stand on both sides of what it changes."""
-    a, b = tokens(old), tokens(new)
+    """How many tokens of an old pair stand on both sides of what it changes. (A dash was a letter of a name, and a field stood apart.)"""
+    a, b = (tokens(re.sub(r" \.(?=\w)", ".", re.sub(r"(?<=\w)[-·](?=\w)", "_", it))) for it in (old, new))
     left = 0
     while left < min(len(a), len(b)) and a[left] == b[left]:
         left += 1
@@ -233,10 +244,11 @@ def write(folder):
                 bad.append(f"{len(places)} places and {len(mine)} pairs")
             for n, (start, end, text) in enumerate(places):
                 left, right = reach(*mine[n][1:]) if len(places) == len(mine) else (3, 3)
+                closes = open_ends(mine[n][1]) if len(places) == len(mine) else 0
                 if "\n" in was[start:end]:
                     bad.append(f"over several lines: {was[start:end]!r} -> {text!r}")
                     continue
-                it = widen(was, today, start, end, left, right)
+                it = widen(was, today, start, end, left, right, closes)
                 if not it:
                     bad.append(f"stands not once: {was[was.rfind(chr(10), 0, start) + 1 : was.find(chr(10), end)]!r}")
                     continue
