@@ -1,0 +1,17 @@
+-- `premise::cover::charges` meets its contract. The loop's invariant: sum is the charges of the script before operation i. The
+-- measure is how many operations of the script are left. Assumes nothing.
+use Rattle.std.proofs.Common.{arith, ◌-◌}
+use Rattle.premise.specs.Charges.{summed_none, summed_more, summed_all}
+use Rattle.premise.proofs.cover.charges.Goals as goal
+
+pub loop-i-init : goal.loop-i-init
+loop-i-init c =
+    summed_none c.requires.1 c.requires.2 c.first-i.ensures.is (omega arith)
+
+pub loop-i-preserved : goal.loop-i-preserved
+loop-i-preserved c =
+    let v = c.charge-sum in
+    summed_more c.loop-i.invariant c.loop-i-test.true v.result v.ensures.is v.ensures.small
+
+pub returns : goal.returns
+returns c = summed_all c.loop-i.invariant c.loop-i-test.false
