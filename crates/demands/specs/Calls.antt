@@ -30,10 +30,10 @@ use Rattle.promises.specs.ServiceStatements.{FollowCall, RunCall, LeftAlike, Fol
 use Rattle.promises.specs.ServiceStatements.{RunReports, RunReplayed, FollowByArrival, FollowsAlike, RunAlike, FollowSwaps}
 use Rattle.promises.specs.EditionStatements.{FollowEditions}
 use Rattle.promises.specs.ExchangeStatements.{FollowSameClass}
-use Rattle.promises.specs.Theorems.{verdicts, follow_reports, run_reports, run_replayed, follow_by_arrival, follows_alike, run_alike, follow_swaps, follow_same_class, follow_editions}
-use Rattle.promises.specs.compare.ReportBytes.{first_byte}
-use Rattle.promises.specs.claims.Calls.{left_kept, follow_answer, follow_lent, follow_report, run_answer}
-use Rattle.promises.specs.claims.Reported.{follow_passes, run_passes}
+use Rattle.promises.proofs.Theorems.{verdicts, follow_reports, run_reports, run_replayed, follow_by_arrival, follows_alike, run_alike, follow_swaps, follow_same_class, follow_editions}
+use Rattle.promises.proofs.compare.ReportBytes.{first_byte}
+use Rattle.promises.proofs.claims.Calls.{left_kept, follow_answer, follow_lent, follow_report, run_answer}
+use Rattle.promises.proofs.claims.Reported.{follow_passes, run_passes}
 use Rattle.demands.specs.Demands.{Seen, KeptRules, SameAnswer, CheckAndFollow, RunKeeps, Ended, CallsAlike}
 use Rattle.demands.specs.Demands.{ArrivalTold, TwoOrders, Exchanged, OneClass, FollowDemands, TwoFollows, RunAsFollowed, Replayed, FollowAndRun, BothEditions, AsRun, OneForAll}
 

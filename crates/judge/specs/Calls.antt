@@ -21,9 +21,9 @@ use Rattle.laws.specs.Rooms.{rooms_enough}
 use Rattle.invariant.specs.sheet.FromBytes.{unrefused_accepted, accepted_laid, valid_from_accepted}
 use Rattle.invariant.specs.deliveries.Commute.{delivery_laws}
 use Rattle.invariant.specs.preserve.Orders.{left_reached}
-use Rattle.promises.specs.claims.RunEnds.{run_ended}
-use Rattle.promises.specs.compare.ReportBytes.{report_length}
-use Rattle.promises.specs.claims.Calls.{front_report}
+use Rattle.promises.proofs.claims.RunEnds.{run_ended}
+use Rattle.promises.proofs.compare.ReportBytes.{report_length}
+use Rattle.promises.proofs.claims.Calls.{front_report}
 use Rattle.jamturret.specs.Rooms.{Ready}
 use Rattle.jamturret.specs.Outcomes.{ready}
 use Rattle.judge.specs.Printed.{most_report, most_order, zeros, report_for, line_size, told_size}

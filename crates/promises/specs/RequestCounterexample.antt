@@ -1,14 +1,11 @@
 -- Why verdict 1 leaves no request only with document 02's K7. A sheet that keeps every other rule, and forgets a receive: its run
--- finishes, and the receive is pending. The sheet is written as a bench job and computed. Assumes nothing.
-use Rattle.std.specs.Prelude.{◌≡◌, refl, [], ◌∷◌}
-use Rattle.std.proofs.Common.{arith}
-use Rattle.rules.specs.Sheet.{Sheet, N_of, sheet_in}
-use Rattle.rules.specs.Refusal.{refusal, accepted, or_else, first_broken, boards_refusal, ops_refusal, request_good, sheet_refusal}
+-- finishes, and the receive is pending. The sheet is written as a bench job and computed, in
+-- proofs/RequestCounterexample. Assumes nothing.
+use Rattle.std.specs.Prelude.{[], ◌∷◌}
+use Rattle.rules.specs.Sheet.{Sheet, sheet_in}
 use Rattle.rules.specs.Job.{Job}
 use Rattle.rules.specs.Order.{run}
 use Rattle.rules.specs.BenchJob.{ireceive, script, Draft, draft, draft_bytes}
-use Rattle.rules.specs.Definitions.{definitions}
-use Rattle.promises.specs.Statements.{told_by, FinishedLeavesNone}
 
 -- one board, which posts a receive from itself and ends
 unfoldable pub forgetful_sheet : Draft
@@ -17,20 +14,6 @@ forgetful_sheet = draft 1 0x89bf [] (script 0 1 (ireceive 0 0 0 0 1 0 ∷ []) �
 abbrev pub forgetful : Sheet
 forgetful = sheet_in (draft_bytes forgetful_sheet)
 
--- it is refused for that alone
-pub forgetful_refused : sheet_refusal (draft_bytes forgetful_sheet) ≡ refusal 7 0
-unfolding forgetful_sheet definitions
-forgetful_refused = refl
-
-pub forgetful_keeps_others : or_else (boards_refusal forgetful) (or_else (ops_refusal forgetful)
-    (first_broken 7 (request_good forgetful) (N_of forgetful) 0)) ≡ accepted
-unfolding forgetful_sheet definitions
-forgetful_keeps_others = refl
-
 -- its run ends with verdict 1 and a receive pending
 abbrev pub forgotten : Job
 forgotten = (run forgetful (0 ∷ [])).end
-
-pub forgotten_matters : FinishedLeavesNone forgetful (told_by forgetful forgotten) → ⊥
-unfolding forgetful_sheet definitions FinishedLeavesNone told_by
-forgotten_matters clear = omega (arith, (clear refl).none_pending)

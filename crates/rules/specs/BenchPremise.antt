@@ -1,14 +1,11 @@
--- The premise service on sheets written by hand, in one list under one claim that the checker computes. What each must answer is
--- worked out from document 01, "What is pinned down", and document 02, K6 and K9. BenchNumbered, BenchProbes and BenchStandard say how to
--- read a sheet.
--- The edits in must-fail/ named premise-.. put wrong definitions in the place of Premise's; this claim refuses each. Assumes
--- nothing.
-use Rattle.std.specs.Prelude.{◌≡◌, refl, Bool, true, ◌&&◌, List, [], ◌∷◌, ℕ, eqb}
+-- The premise service on sheets written by hand, in one list, of which proofs/BenchPremise has one claim that the checker computes.
+-- What each must answer is worked out from document 01, "What is pinned down", and document 02, K6 and K9. BenchNumbered, BenchProbes
+-- and BenchStandard say how to read a sheet. Assumes nothing.
+use Rattle.std.specs.Prelude.{Bool, ◌&&◌, List, [], ◌∷◌, ℕ, eqb}
 use Rattle.rules.specs.Premise.{premise_refusal}
 use Rattle.rules.specs.BenchJob.{standard, buffered, synchronous, ready, any, send, isend, receive, ireceive, wait, probe, query}
-use Rattle.rules.specs.BenchJob.{script, roomed, Draft, draft, draft_2, draft_bytes, all}
+use Rattle.rules.specs.BenchJob.{script, roomed, Draft, draft, draft_2, draft_bytes}
 use Rattle.rules.specs.BenchNumbered.{case_1_sheet, ready_sheet, any_source_sheet}
-use Rattle.rules.specs.Definitions.{definitions}
 
 -- a sheet, and the number and place that premise must answer
 pub data Question : Type 0 where
@@ -132,7 +129,3 @@ questions =
     -- a receive of any tag names its source, and a synchronous send is charged nothing; no operations at all
     ∷ asked case_1_sheet 0 0
     ∷ asked (draft 1 0xe5b1 [] (script 0 0 [] ∷ [])) 0 0 ∷ []
-
-pub questions_answered : all answered questions ≡ true
-unfolding answered standard_sheet questions definitions
-questions_answered = refl

@@ -21,8 +21,8 @@
 --   BenchStandardRefused   calls with sheets of the second edition
 --   BenchRooms     calls with every byte of the lent rooms before and after
 --   Definitions    all definitions under one name, for claims that the checker computes
---   Bench          the jobs, the calls and the rooms, each under one claim
---   BenchPremise   sheets that premise is asked about, under one claim
+--   Bench          the bench jobs in one list; proofs/Bench has the jobs, the calls and the rooms, each under one claim
+--   BenchPremise   sheets that premise is asked about; proofs/BenchPremise has them under one claim
 pub mod Limits
 pub mod Sheet
 pub mod Crc
