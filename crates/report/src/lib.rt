@@ -15,7 +15,7 @@ ghost use Rattle.state.specs.Layout.{seat_at};
 ghost use Rattle.state.specs.Decoded.{place_in};
 ghost use Rattle.simulation.specs.Represents.{Represented};
 ghost use Rattle.orders.specs.Jobs.{Every};
-ghost use Rattle.report.specs.Report.{stop_rank as Report·stop-rank, stop_op as Report·stop-op, row_front, front_bytes, back_bytes};
+ghost use Rattle.report.specs.Report.{stop_rank as report_stop_rank, stop_op as report_stop_op, row_front, front_bytes, back_bytes};
 ghost use Rattle.report.specs.ReportCounts.{Bit, message_row, receive_row, cut_row, RowsCounted};
 ghost use Rattle.report.specs.ReportRows.{row_in, joined, board_row_at, four};
 
@@ -181,14 +181,14 @@ fn verdict(s: &[u8], c: &[u8], t: Control) -> usize
 
 // The rank of the board that stopped the job.
 fn stop_rank(t: Control) -> usize
-    ensures { result ≡ Report·stop-rank t }
+    ensures { result ≡ report_stop_rank t }
 {
     if t.verdict == 0 { NO_RANK } else { t.rank }
 }
 
 // The operation that stopped it.
 fn stop_op(t: Control) -> usize
-    ensures { result ≡ Report·stop-op t }
+    ensures { result ≡ report_stop_op t }
 {
     if t.verdict == 0 { limits::ABSENT } else { t.op }
 }
@@ -259,7 +259,7 @@ fn count_rows(s: &[u8], c: &[u8]) -> Counts
 
 // The header's first eight bytes: verdict and stop rank, a byte each, stop operation, steps, P.
 fn header_front(s: &[u8], t: Control, v: usize, out: &mut [u8])
-    requires { Laid s.now × (v ≤ 4) × (Report·stop-rank t < 256) × (report_header_size ≤ length out.old) }
+    requires { Laid s.now × (v ≤ 4) × (report_stop_rank t < 256) × (report_header_size ≤ length out.old) }
     ensures { out.new ≡ splice out.old 0 (front_bytes v t (P_of (sheet_in s.now))) }
 {
     let front = v + 256 * stop_rank(t);

@@ -3,7 +3,7 @@
 ghost use Rattle.std.specs.Prelude.{◌≡◌};
 ghost use Rattle.rules.specs.Step.{initiated, initiating, pend_receive};
 ghost use Rattle.simulation.specs.Simulates.{Holds, Simulates};
-ghost use Rattle.steps.specs.Pairing.{Unentered, searched as Pairing·searched};
+ghost use Rattle.steps.specs.Pairing.{Unentered, searched as pairing_searched};
 ghost use Rattle.steps.specs.Initiate.{Begins};
 
 use crate::{matching, parts, sends};
@@ -23,7 +23,7 @@ fn post(s: &[u8], c: &mut [u8], t: Control, r: usize, i: usize) -> Control
 
 // The list that an operation searches: a receive the pending messages, a send the posted receives.
 fn searched(receives: bool) -> Queue
-    ensures { result ≡ Pairing·searched receives }
+    ensures { result ≡ pairing_searched receives }
 {
     if receives {
         Queue::Messages
