@@ -14,7 +14,8 @@ import re
 import sys
 
 WORD = r'[^\s(){}.;,@"«»`|\[\]]+'
-DECLARED = re.compile(rf"\s*((?:abbrev |unfoldable )?(?:pub )?(?:data |record )?)({WORD})((?: \{{[^{{}}]*\}}| \([^()]*\))*) :(?= |$)(.*)")
+GROUP = r"(?:\{(?:[^{}]|\{[^{}]*\})*\}|\((?:[^()]|\((?:[^()]|\([^()]*\))*\))*\))"
+DECLARED = re.compile(rf"\s*((?:abbrev |unfoldable )?(?:pub )?(?:data |record )?)({WORD})((?: {GROUP})*) :(?= |$)(.*)")
 
 
 def indent(line):

@@ -7,7 +7,7 @@
 --   parts_harmless               together they are Harmless
 --   SwapWhere                   an exchange leaves jobs alike where a condition holds of it; with Harmless it is promised
 --   harm_refutes                 an exchange that ends apart, and of which the condition holds, refutes SwapWhere
---   query_apart, any_probe_apart, room_apart             the exchanges end apart; ..-goes-on: and stop the job in neither order
+--   query_apart, any_probe_apart, room_apart             the exchanges end apart; .._goes_on: and stop the job in neither order
 --   query_step_matters, probe_race_matters, room_step_matters
 -- Assumes nothing.
 use Rattle.std.specs.Prelude.{◌≡◌, refl, true, ℕ}

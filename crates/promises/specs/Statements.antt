@@ -20,7 +20,7 @@ pub record Lent (bs i : List ℕ) : Type 0 where
   pub passing : passes bs ≡ true
   pub room : inbox_total (sheet_in bs) ≤ length i
 
--- What is told of a job: by the job itself (told_by), or by the bytes of its report (ServiceStatements: told-in). A claim that
+-- What is told of a job: by the job itself (told_by), or by the bytes of its report (ServiceStatements: told_in). A claim that
 -- speaks of what is told is stated once, and holds of both.
 pub record Told : Type 0 where
   pub verdict : ℕ
