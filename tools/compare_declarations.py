@@ -5,7 +5,7 @@ usage: python3 tools/compare_declarations.py OLD [--moved]     at the top of the
 
 OLD is a folder with the older commit on which port.py and tools/respell.py were run, so that only spelling is gone (docs/PORT.md says
 how). A declaration is known by its file's name, its own name and the sections round it; compared are its statement and, for what is
-defined, its text, with white space made even. --moved prints the statements of those that moved from specs/ to proofs/.
+defined, its text, with white space made even; local ones, of a `where` or a `let`, too. --moved prints the statements of those that moved from specs/ to proofs/.
 Ends with 1 if one is missing or differs.
 """
 import glob
@@ -71,8 +71,9 @@ def declarations(folder):
                 i = after
             elif m and not line.lstrip().startswith("use"):
                 key = (os.path.basename(path), m[2], " ".join(h for _, h in round_it))
+                is_local = indent(line) != (round_it[-1][0] + 2 if round_it else 0)
                 one, i = declaration(lines, i, m)
-                found.setdefault(key, []).append(one)
+                found.setdefault(key, []).append((*one, is_local))
             else:
                 i += 1
     return found
@@ -87,14 +88,16 @@ def compare(crate, old, moved):
         now = specs.get(key)
         if now is None and key in proofs:
             now = proofs[key]
-            left.setdefault(key[0], []).append((key, one))
-        if now is None or [d[1:] for d in now] != [d[1:] for d in one]:
+            if not one[0][3]:
+                left.setdefault(key[0], []).append((key, one))
+        if now is None or [d[1:3] for d in now] != [d[1:3] for d in one]:
             differ += 1
             print(f"{crate}/{key[0]}: {key[1]} {'is gone' if now is None else 'differs'}")
         elif [d[0] for d in now] != [d[0] for d in one]:
             print(f"{crate}/{key[0]}: {key[1]}: '{one[0][0]}' is '{now[0][0]}' now")
     count = sum(len(d) for d in left.values())
-    print(f"{crate}: {len(was)} declarations, {differ} differ or are gone, {count} moved to proofs/, {len(set(specs) - set(was))} new in specs/")
+    whole = sum(not d[0][3] for d in was.values())
+    print(f"{crate}: {whole} declarations and {len(was) - whole} local ones, {differ} differ or are gone, {count} moved to proofs/, {len(set(specs) - set(was))} new in specs/")
     if moved:
         for name, those in left.items():
             print(f"\n{name}")

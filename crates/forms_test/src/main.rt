@@ -8,11 +8,16 @@ use limits::ANY;
 use std::io;
 use waiting::{Envelope, Found};
 
+fn number(rt: &impl Print, n: usize) -> io::Result<()> {
+    rt.print(n)
+}
+
 fn figures(rt: &impl Print, a: Account) -> io::Result<()> {
-    let size = a.size;
-    let in_use = a.in_use;
-    let peak = a.peak;
-    print!(rt; "{size} {in_use} {peak}")
+    number(rt, a.size)?;
+    rt.print(" ")?;
+    number(rt, a.in_use)?;
+    rt.print(" ")?;
+    number(rt, a.peak)
 }
 
 // An account that is charged n bytes.
@@ -48,7 +53,10 @@ fn release_line(
 fn found_line(rt: &impl Print, f: Found) -> io::Result<()> {
     match f {
         Found::Nothing => rt.println("none"),
-        Found::At(k) => rt.println(k),
+        Found::At(k) => {
+            number(rt, k)?;
+            rt.println("")
+        }
     }
 }
 
