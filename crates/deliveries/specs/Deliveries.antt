@@ -32,7 +32,7 @@ use Rattle.invariant.specs.deliveries.Commute.{copied_in_area, copied_in_message
 use Rattle.rules.specs.Report.{entry_in}
 use Rattle.state.specs.declared.Control.{Control}
 use Rattle.state.specs.Layout.{row_at}
-use Rattle.state.specs.Decodes.{entry_is}
+use Rattle.state.proofs.Decodes.{entry_is}
 use Rattle.simulation.specs.Represents.{Represents, Represented}
 
 -- what deliveries are given

@@ -27,7 +27,7 @@ use Rattle.rules.specs.Service.{in_front}
 use Rattle.state.specs.declared.Control.{Control}
 use Rattle.state.specs.Layout.{seat_at}
 use Rattle.state.specs.Decoded.{place_in}
-use Rattle.state.specs.Decodes.{place_is}
+use Rattle.state.proofs.Decodes.{place_is}
 use Rattle.state.specs.Controls.{stop_of, stop_some}
 use Rattle.laws.specs.Splice.{splice_then}
 use Rattle.simulation.specs.Represents.{Represents}

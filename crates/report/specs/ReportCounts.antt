@@ -12,7 +12,7 @@ use Rattle.rules.specs.Job.{Job, Entry, entry_at}
 use Rattle.rules.specs.Report.{count_from, is_pending_message, is_pending_receive, pending_messages, pending_receives, cut_messages, entry_in}
 use Rattle.state.specs.declared.Control.{Control}
 use Rattle.state.specs.Layout.{row_at}
-use Rattle.state.specs.Decodes.{entry_is}
+use Rattle.state.proofs.Decodes.{entry_is}
 use Rattle.simulation.specs.Represents.{Represents}
 
 unfoldable pub message_row : Sheet → (c : List ℕ) → (i : ℕ) → Bool

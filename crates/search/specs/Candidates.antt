@@ -10,7 +10,8 @@ use Rattle.std.proofs.Math.Path.{refl}
 use Rattle.std.proofs.Common.{sym, ◌∙◌, ap, eq-eqb, ne_eqb}
 use Rattle.std.proofs.Math.Bool.{true, false}
 use Rattle.rules.specs.Sheet.{Sheet, op, rank_of}
-use Rattle.waiting.specs.Envelopes.{is_asked, envelope_fits, other_source, other_tag, same_but_context}
+use Rattle.waiting.specs.Envelopes.{is_asked, envelope_fits}
+use Rattle.waiting.proofs.Envelopes.{other_source, other_tag, same_but_context}
 use Rattle.state.specs.declared.Queue.{Queue}
 use Rattle.state.specs.declared.Queue.TheVariants.{Messages, Receives}
 use Rattle.search.specs.declared.candidates.Asked.{Asked}

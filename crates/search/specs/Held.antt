@@ -18,7 +18,8 @@ use Rattle.state.specs.declared.Queue.{Queue}
 use Rattle.state.specs.declared.Queue.TheVariants.{Messages, Receives}
 use Rattle.state.specs.Layout.{word_at}
 use Rattle.state.specs.Queues.{base_of, count_of, list_of}
-use Rattle.state.specs.Decodes.{Decodes, list_are, few_listed, list_is, list_length}
+use Rattle.state.specs.Decodes.{Decodes}
+use Rattle.state.proofs.Decodes.{list_are, few_listed, list_is, list_length}
 use Rattle.simulation.specs.Simulates.{Holds}
 use Rattle.search.specs.Search.{Readable, Listed, First, pair_fits, first_found, first_missing}
 

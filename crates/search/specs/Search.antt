@@ -15,7 +15,7 @@ use Rattle.laws.specs.Laid.{Laid}
 use Rattle.laws.specs.Tests.{cond_true, cond_false}
 use Rattle.words.specs.Tab.{tab}
 use Rattle.waiting.specs.Envelopes.{envelope_fits}
-use Rattle.waiting.specs.Messages.{fits_with_is}
+use Rattle.waiting.proofs.Messages.{fits_with_is}
 use Rattle.state.specs.declared.Queue.{Queue}
 use Rattle.state.specs.declared.Queue.TheVariants.{Messages, Receives}
 use Rattle.state.specs.Layout.{word_at}

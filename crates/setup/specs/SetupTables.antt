@@ -22,7 +22,8 @@ use Rattle.laws.specs.Below.{below_found}
 use Rattle.laws.specs.Laid.{Laid}
 use Rattle.laws.specs.Splice.{splice_length}
 use Rattle.state.specs.Layout.{rank_at, word_at, waits_at}
-use Rattle.state.specs.Indexed.{Ranked, Awaited, Indexed, ranked_kept, awaited_kept, ranked_more, awaited_skip, awaited_more}
+use Rattle.state.specs.Indexed.{Ranked, Awaited, Indexed}
+use Rattle.state.proofs.Indexed.{ranked_kept, awaited_kept, ranked_more, awaited_skip, awaited_more}
 use Rattle.invariant.specs.sheet.Valid.{Valid}
 
 -- operation i is one of the sheet's, and its slot is below the limit

@@ -15,8 +15,10 @@ use Rattle.invariant.specs.sheet.Valid.{Valid, valid_first}
 use Rattle.invariant.specs.preserve.Orders.{start_reached}
 use Rattle.state.specs.declared.Control.{Control}
 use Rattle.state.specs.Controls.{no_control}
-use Rattle.state.specs.Decodes.{Decodes, decodes_as}
-use Rattle.state.specs.Start.{started_bytes, started_decodes}
+use Rattle.state.specs.Decodes.{Decodes}
+use Rattle.state.proofs.Decodes.{decodes_as}
+use Rattle.state.specs.Start.{started_bytes}
+use Rattle.state.proofs.StartHolds.{started_decodes}
 use Rattle.simulation.specs.Represents.{Represents}
 use Rattle.setup.specs.SetupTables.{Slotted, Latest, latest_none, latest_more, last_after, Filled, filled_more, filled_all, op_put}
 

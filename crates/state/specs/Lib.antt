@@ -5,11 +5,11 @@
 --   Written  the rows as they stand are the report's rows
 --   Places   board places put and read
 --   Lists    the waiting lists: searched, an entry appended, an entry removed
---   Indexed  the tables of ranks and of waits
+--   Indexed  the tables of ranks and of waits (Indexed, Decodes, Changes, Start: what is proved of them stands in proofs/)
 --   Controls  the numbers that are kept beside scratch
 --   Queues   the two waiting lists as one
---   Decodes  scratch and its control block hold a job; what each change of them does to the job, in the words of rules
---   Changes  changes in two places, a place changed by a function, a charge
+--   Decodes  scratch and its control block hold a job; in proofs/ what each change of them does to the job, in the words of rules
+--   Changes  in what words changes in two places, a place changed by a function and a charge are told
 --   Charged  a store charged and released by its account
 --   Start    the start of a job
 pub mod Layout

@@ -21,7 +21,7 @@ use Rattle.state.specs.declared.Control.{Control}
 use Rattle.state.specs.Layout.{row_at, seat_at, word_at, waits_at}
 use Rattle.state.specs.Decoded.{place_in}
 use Rattle.state.specs.Controls.{stop_of}
-use Rattle.state.specs.Decodes.{entry_is, place_is}
+use Rattle.state.proofs.Decodes.{entry_is, place_is}
 use Rattle.simulation.specs.Represents.{Represents}
 
 -- what comes next is an initiating step, or a waiting half that can end

@@ -18,7 +18,8 @@ use Rattle.state.specs.declared.Queue.{Queue}
 use Rattle.state.specs.declared.Queue.TheVariants.{Messages, Receives}
 use Rattle.state.specs.Queues.{list_of, with_list, pended}
 use Rattle.state.specs.Lists.{FirstAt}
-use Rattle.state.specs.Decodes.{Decodes, memory_put}
+use Rattle.state.specs.Decodes.{Decodes}
+use Rattle.state.proofs.Decodes.{memory_put}
 use Rattle.state.specs.Changes.{CanFinish}
 use Rattle.steps.specs.Parts.{released_finished, released_list}
 

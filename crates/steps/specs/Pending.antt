@@ -10,7 +10,8 @@ use Rattle.state.specs.declared.Control.{Control}
 use Rattle.state.specs.declared.Queue.{Queue}
 use Rattle.state.specs.Controls.{halted}
 use Rattle.state.specs.Queues.{count_of, list_of, pended}
-use Rattle.state.specs.Decodes.{Decodes, list_length, stop_put}
+use Rattle.state.specs.Decodes.{Decodes}
+use Rattle.state.proofs.Decodes.{list_length, stop_put}
 use Rattle.state.specs.Changes.{Becomes, CanFinish, charged_in, Charges}
 use Rattle.simulation.specs.Simulates.{Holds, Simulates, held_after, in_turn, simulates_as}
 use Rattle.steps.specs.Parts.{place_put_list}

@@ -12,7 +12,8 @@ use Rattle.invariant.specs.preserve.Step.{step_sound}
 use Rattle.invariant.specs.Bounds.{steps_few}
 use Rattle.state.specs.declared.Control.{Control}
 use Rattle.state.specs.Controls.{stepped}
-use Rattle.state.specs.Decodes.{Decodes, steps_put}
+use Rattle.state.specs.Decodes.{Decodes}
+use Rattle.state.proofs.Decodes.{steps_put}
 use Rattle.simulation.specs.Represents.{Represents}
 use Rattle.steps.specs.Initiate.{AbleBoard, Begins}
 

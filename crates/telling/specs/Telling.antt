@@ -24,7 +24,8 @@ use Rattle.state.specs.declared.Queue.TheVariants.{Messages}
 use Rattle.state.specs.Layout.{word_at, row_at, messages_at, waits_at}
 use Rattle.state.specs.Queues.{base_of, count_of, list_of}
 use Rattle.rules.specs.Report.{entry_in}
-use Rattle.state.specs.Decodes.{Decodes, entry_is}
+use Rattle.state.specs.Decodes.{Decodes}
+use Rattle.state.proofs.Decodes.{entry_is}
 use Rattle.search.specs.Search.{Listed, First, pair_fits}
 use Rattle.simulation.specs.Simulates.{Holds}
 use Rattle.search.specs.Held.{listed_in, found_is, missing_is}

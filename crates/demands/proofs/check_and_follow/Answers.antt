@@ -1,5 +1,5 @@
 -- `demands::check_and_follow` meets its contract: demands 1 and 2 of the two calls, by what each ensures. Assumes nothing.
-use Rattle.demands.specs.Calls.{check_and_follow}
+use Rattle.demands.proofs.Calls.{check_and_follow}
 use Rattle.demands.proofs.check_and_follow.Goals as goal
 
 pub returns : goal.returns

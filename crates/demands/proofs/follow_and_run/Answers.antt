@@ -1,5 +1,5 @@
 -- `demands::follow_and_run` meets its contract: demand 3 of the two calls, by what each ensures. Assumes nothing.
-use Rattle.demands.specs.Calls.{follow_and_run}
+use Rattle.demands.proofs.Calls.{follow_and_run}
 use Rattle.demands.proofs.follow_and_run.Goals as goal
 
 pub returns : goal.returns

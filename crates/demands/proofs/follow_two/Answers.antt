@@ -1,5 +1,5 @@
 -- `demands::follow_two` meets its contract: demands 2 and 3 of the two calls, and the two editions, by what each ensures. Assumes nothing.
-use Rattle.demands.specs.Calls.{two_follows}
+use Rattle.demands.proofs.Calls.{two_follows}
 use Rattle.demands.proofs.follow_two.Goals as goal
 
 pub returns : goal.returns

@@ -1,5 +1,5 @@
 -- `demands::premise_and_run` meets its contract: one outcome for all full orders, by what each ensures. Assumes nothing.
-use Rattle.demands.specs.Calls.{one_for_all}
+use Rattle.demands.proofs.Calls.{one_for_all}
 use Rattle.demands.proofs.premise_and_run.Goals as goal
 
 pub returns : goal.returns

@@ -1,5 +1,5 @@
 -- `demands::run_once` meets its contract: demands 1 and 2 of the call, by what it ensures. Assumes nothing.
-use Rattle.demands.specs.Calls.{run_keeps}
+use Rattle.demands.proofs.Calls.{run_keeps}
 use Rattle.demands.proofs.run_once.Goals as goal
 
 pub returns : goal.returns

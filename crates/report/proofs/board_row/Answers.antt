@@ -6,7 +6,7 @@ use Rattle.rules.specs.Job.{Place}
 use Rattle.rules.specs.Step.{splice}
 use Rattle.rules.specs.Report.{board_row, room_bytes}
 use Rattle.laws.specs.Editions.{at_least_eight}
-use Rattle.state.specs.Decodes.{place_is}
+use Rattle.state.proofs.Decodes.{place_is}
 use Rattle.report.specs.Report.{row_first, row_second}
 use Rattle.report.proofs.board_row.Goals as goal
 

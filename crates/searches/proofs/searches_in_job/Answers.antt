@@ -5,7 +5,8 @@ use Rattle.rules.specs.Refusal.{sheet_refusal}
 use Rattle.rules.specs.Service.{CheckSays}
 use Rattle.laws.specs.Answers.{answers_number}
 use Rattle.invariant.specs.sheet.FromBytes.{Accepted, unrefused_accepted, accepted_laid, valid_from_accepted}
-use Rattle.searches.specs.Jobs.{searched_places, sheet_refused, scratch_short, no_operations, places_told}
+use Rattle.searches.specs.Jobs.{searched_places}
+use Rattle.searches.proofs.Jobs.{scratch_short, no_operations, places_told, sheet_refused}
 use Rattle.searches.proofs.searches_in_job.Goals as goal
 use Rattle.searches.proofs.searches_in_job.Goals.{After-check-checked, After-ops-ops, Start}
 

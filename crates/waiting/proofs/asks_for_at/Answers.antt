@@ -1,6 +1,6 @@
 -- `waiting::asks_for_at` meets its contract: any asks for whatever stands there. Assumes nothing.
 use Rattle.std.proofs.Common.{get_or}
-use Rattle.waiting.specs.Envelopes.{any_is_asked, named_is_asked}
+use Rattle.waiting.proofs.Envelopes.{any_is_asked, named_is_asked}
 use Rattle.waiting.proofs.asks_for_at.Goals as goal
 
 pub returns-then-asked-eq-ANY : goal.returns-then-asked-eq-ANY

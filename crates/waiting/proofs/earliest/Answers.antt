@@ -1,6 +1,7 @@
 -- `waiting::earliest` meets its contract: a turn returns k, or goes on past one more that does not fit. Assumes nothing.
 use Rattle.std.proofs.Common.{arith, sym, ◌∙◌}
-use Rattle.waiting.specs.Envelopes.{fits_receive, passed_on, found_here, found_nowhere}
+use Rattle.waiting.specs.Envelopes.{fits_receive}
+use Rattle.waiting.proofs.Envelopes.{passed_on, found_here, found_nowhere}
 use Rattle.waiting.proofs.earliest.Goals as goal
 
 pub loop-k-init : goal.loop-k-init

@@ -1,6 +1,6 @@
 -- `waiting::fits_at` meets its contract: the first of the tests that fails decides. Assumes nothing.
 use Rattle.std.proofs.Common.{get_or, sym, ◌∙◌}
-use Rattle.waiting.specs.Envelopes.{other_source, other_tag, same_but_context}
+use Rattle.waiting.proofs.Envelopes.{other_source, other_tag, same_but_context}
 use Rattle.waiting.proofs.fits_at.Goals as goal
 
 pub returns-then-not-asks_for_at : goal.returns-then-not-asks_for_at

@@ -1,7 +1,8 @@
 -- `waiting::fits_in` meets its contract: another source, another tag, and with both as asked the communicators decide.
 -- Assumes nothing.
 use Rattle.std.proofs.Common.{◌≡◌, sym, true, get_or}
-use Rattle.waiting.specs.Envelopes.{envelope, is_asked, any_is_asked, same_is_asked, other_is_not, other_source, other_tag, same_but_context}
+use Rattle.waiting.specs.Envelopes.{envelope, is_asked}
+use Rattle.waiting.proofs.Envelopes.{any_is_asked, same_is_asked, other_is_not, other_source, other_tag, same_but_context}
 use Rattle.waiting.proofs.fits_in.Goals as goal
 use Rattle.waiting.proofs.fits_in.Goals.{then-source-ne-ANY+else-list-k, else-source-ne-ANY, then-tag-ne-ANY+else-list-k-2, else-tag-ne-ANY}
 

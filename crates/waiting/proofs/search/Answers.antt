@@ -1,7 +1,7 @@
 -- `waiting::search` meets its contract. The loop's invariant: none of the i passed fits. The measure is how many are left.
 -- Assumes nothing.
 use Rattle.std.proofs.Common.{arith}
-use Rattle.waiting.specs.Envelopes.{searched_here, searched_on, searched_nowhere}
+use Rattle.waiting.proofs.Envelopes.{searched_here, searched_on, searched_nowhere}
 use Rattle.waiting.proofs.search.Goals as goal
 
 pub loop-i-init : goal.loop-i-init

@@ -1,7 +1,7 @@
 -- `search::candidates::source_asked` meets its contract: any source is every message's. Assumes nothing.
 use Rattle.std.proofs.Common.{ap, eqb, get_or, ℕ, ◌∙◌}
 use Rattle.state.specs.Layout.{rank_at}
-use Rattle.waiting.specs.Envelopes.{any_is_asked, named_is_asked}
+use Rattle.waiting.proofs.Envelopes.{any_is_asked, named_is_asked}
 use Rattle.search.proofs.candidates.source_asked.Goals as goal
 
 pub returns-then-source-eq-ANY : goal.returns-then-source-eq-ANY

@@ -1,7 +1,7 @@
 -- `search::candidates::tag_asked` meets its contract: any tag is every message's. Assumes nothing.
 use Rattle.std.proofs.Common.{ap, eqb, ℕ, ◌∙◌}
 use Rattle.rules.specs.Sheet.{sheet_in, op}
-use Rattle.waiting.specs.Envelopes.{any_is_asked, named_is_asked}
+use Rattle.waiting.proofs.Envelopes.{any_is_asked, named_is_asked}
 use Rattle.search.proofs.candidates.tag_asked.Goals as goal
 
 pub returns-then-tag-eq-ANY : goal.returns-then-tag-eq-ANY

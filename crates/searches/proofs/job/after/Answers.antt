@@ -9,7 +9,8 @@ use Rattle.search.specs.Search.{Listed}
 use Rattle.search.specs.Held.{holds_reads, listed_in}
 use Rattle.orders.specs.Jobs.{some_inboxes, some_lent}
 use Rattle.orders.specs.Follows.{Answered, refused_at}
-use Rattle.searches.specs.Jobs.{sum_places, found_in_job}
+use Rattle.searches.specs.Jobs.{sum_places}
+use Rattle.searches.proofs.Jobs.{found_in_job}
 use Rattle.searches.proofs.job.after.Goals as goal
 use Rattle.searches.proofs.job.after.Goals.{After-follow-outcome, Start}
 

@@ -6,7 +6,7 @@ use Rattle.rules.specs.Sheet.{sheet_in}
 use Rattle.state.specs.declared.Queue.TheVariants.{Messages}
 use Rattle.state.specs.Queues.{base_of}
 use Rattle.state.specs.Decoded.{words_in}
-use Rattle.searches.specs.Jobs.{places_none, places_more, places_all, found_place}
+use Rattle.searches.proofs.Jobs.{places_none, places_more, places_all, found_place}
 use Rattle.searches.proofs.job.places.Goals as goal
 use Rattle.searches.proofs.job.places.Goals.{After-find-total, Start}
 

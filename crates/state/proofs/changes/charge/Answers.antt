@@ -8,7 +8,8 @@ use Rattle.account.specs.Stores.{stands_for}
 use Rattle.account.specs.Accounts.{room_is}
 use Rattle.state.specs.Layout.{seat_at}
 use Rattle.state.specs.Decoded.{place_row}
-use Rattle.state.specs.Changes.{charged_in, place_change, room_asked}
+use Rattle.state.specs.Changes.{charged_in}
+use Rattle.state.proofs.ChangesHold.{place_change, room_asked}
 use Rattle.state.specs.Charged.{charged_as, charged_fits}
 use Rattle.state.proofs.changes.charge.Goals as goal
 

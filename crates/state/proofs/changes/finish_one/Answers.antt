@@ -4,7 +4,7 @@ use Rattle.rules.specs.Job.{Place, place}
 use Rattle.rules.specs.Step.{splice, one_finished}
 use Rattle.state.specs.Layout.{seat_at}
 use Rattle.state.specs.Decoded.{place_of, place_row}
-use Rattle.state.specs.Changes.{place_read, place_change}
+use Rattle.state.proofs.ChangesHold.{place_read, place_change}
 use Rattle.state.proofs.changes.finish_one.Goals as goal
 
 pub overflow_add-q : goal.overflow_add-q

@@ -1,5 +1,5 @@
 -- `state::changes::match_rows` meets its contract: the message's row, then the receive's. Assumes nothing.
-use Rattle.state.specs.Changes.{rows_match}
+use Rattle.state.proofs.ChangesHold.{rows_match}
 use Rattle.state.proofs.changes.match_rows.Goals as goal
 
 pub returns : goal.returns

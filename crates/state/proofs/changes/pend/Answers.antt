@@ -1,6 +1,6 @@
 -- `state::changes::pend` meets its contract: a row, then an entry of the waiting list. Assumes nothing.
 use Rattle.std.proofs.Common.{arith}
-use Rattle.state.specs.Changes.{pend_by}
+use Rattle.state.proofs.ChangesHold.{pend_by}
 use Rattle.state.proofs.changes.pend.Goals as goal
 
 pub returns : goal.returns

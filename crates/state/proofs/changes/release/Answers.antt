@@ -5,7 +5,8 @@ use Rattle.rules.specs.Step.{splice}
 use Rattle.account.specs.Stores.{stands_for}
 use Rattle.state.specs.Layout.{seat_at}
 use Rattle.state.specs.Decoded.{place_of, place_row}
-use Rattle.state.specs.Changes.{released_in, place_change}
+use Rattle.state.specs.Changes.{released_in}
+use Rattle.state.proofs.ChangesHold.{place_change}
 use Rattle.state.specs.Charged.{released_as, released_fits}
 use Rattle.state.proofs.changes.release.Goals as goal
 

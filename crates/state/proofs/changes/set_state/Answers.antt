@@ -4,7 +4,7 @@ use Rattle.rules.specs.Job.{bare_entry}
 use Rattle.rules.specs.Step.{splice, with_state}
 use Rattle.rules.specs.Report.{op_row}
 use Rattle.state.specs.Layout.{row_at}
-use Rattle.state.specs.Decodes.{decodes_as, state_put}
+use Rattle.state.proofs.Decodes.{decodes_as, state_put}
 use Rattle.state.proofs.changes.set_state.Goals as goal
 
 pub returns : goal.returns

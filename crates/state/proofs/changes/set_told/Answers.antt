@@ -1,5 +1,5 @@
 -- `state::changes::set_told` meets its contract: the row that is put is the one that is told. Assumes nothing.
-use Rattle.state.specs.Changes.{row_told}
+use Rattle.state.proofs.ChangesHold.{row_told}
 use Rattle.state.proofs.changes.set_told.Goals as goal
 
 pub returns : goal.returns

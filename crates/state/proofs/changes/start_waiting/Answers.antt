@@ -4,7 +4,7 @@ use Rattle.rules.specs.Job.{Place, place}
 use Rattle.rules.specs.Step.{splice, now_waiting}
 use Rattle.state.specs.Layout.{seat_at}
 use Rattle.state.specs.Decoded.{place_row}
-use Rattle.state.specs.Changes.{place_change}
+use Rattle.state.proofs.ChangesHold.{place_change}
 use Rattle.state.proofs.changes.start_waiting.Goals as goal
 
 pub returns : goal.returns

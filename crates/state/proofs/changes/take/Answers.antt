@@ -3,7 +3,7 @@ use Rattle.std.proofs.Common.{arith, subst, ℕ, ◌-◌, ◌≡◌}
 use Rattle.rules.specs.Step.{splice}
 use Rattle.state.specs.Layout.{word_at}
 use Rattle.state.specs.Lists.{behind}
-use Rattle.state.specs.Changes.{take_by}
+use Rattle.state.proofs.ChangesHold.{take_by}
 use Rattle.state.proofs.changes.take.Goals as goal
 
 pub returns : goal.returns

@@ -2,7 +2,8 @@
 -- Assumes nothing.
 use Rattle.std.proofs.Common.{ap, arith, ℕ, ◌∙◌, ◌≡◌}
 use Rattle.rules.specs.Step.{splice}
-use Rattle.state.specs.Start.{bare_none, bare_more, bare_rows}
+use Rattle.state.specs.Start.{bare_rows}
+use Rattle.state.proofs.StartHolds.{bare_none, bare_more}
 use Rattle.state.proofs.start.put_rows.Goals as goal
 
 pub loop-i-init : goal.loop-i-init

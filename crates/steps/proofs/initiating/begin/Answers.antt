@@ -7,7 +7,8 @@ use Rattle.rules.specs.Step.{first_by, initiated, initiating}
 use Rattle.state.specs.declared.Queue.{Queue}
 use Rattle.state.specs.Layout.{word_at}
 use Rattle.state.specs.Queues.{base_of, count_of, list_of}
-use Rattle.state.specs.Decodes.{Decodes, list_length}
+use Rattle.state.specs.Decodes.{Decodes}
+use Rattle.state.proofs.Decodes.{list_length}
 use Rattle.search.specs.Search.{Listed, First, pair_fits}
 use Rattle.search.specs.Held.{holds_reads, listed_in, found_is, missing_is}
 use Rattle.steps.specs.Pairing.{searched, matched_with}

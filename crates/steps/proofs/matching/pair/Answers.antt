@@ -5,7 +5,8 @@ use Rattle.rules.specs.Job.{Job}
 use Rattle.rules.specs.Step.{initiated, matched_rows, release}
 use Rattle.state.specs.Layout.{word_at}
 use Rattle.state.specs.Queues.{base_of, list_of}
-use Rattle.state.specs.Decodes.{Decodes, few_listed, list_is}
+use Rattle.state.specs.Decodes.{Decodes}
+use Rattle.state.proofs.Decodes.{few_listed, list_is}
 use Rattle.simulation.specs.Simulates.{Simulates, held_after, in_turn, simulates_as, holds_for}
 use Rattle.steps.specs.Pairing.{Pairs, both_read, matched_with, matched_read, paired_can_finish, rows_list, first_at_as}
 use Rattle.steps.proofs.matching.pair.Goals as goal

@@ -2,7 +2,8 @@
 use Rattle.std.proofs.Common.{ap, arith, subst, sym, ◌∙◌}
 use Rattle.rules.specs.Job.{Job, Entry}
 use Rattle.rules.specs.Sheet.{sheet_in}
-use Rattle.state.specs.Decodes.{Decodes, entry_is}
+use Rattle.state.specs.Decodes.{Decodes}
+use Rattle.state.proofs.Decodes.{entry_is}
 use Rattle.account.specs.Stores.{stands_for}
 use Rattle.steps.specs.Parts.{release_charged, release_none}
 use Rattle.steps.proofs.matching.release_charge.Goals as goal

@@ -5,7 +5,8 @@ use Rattle.rules.specs.Job.{Job, Place, place_at}
 use Rattle.rules.specs.Step.{next_op}
 use Rattle.state.specs.Layout.{seat_at}
 use Rattle.state.specs.Decoded.{place_in}
-use Rattle.state.specs.Decodes.{Decodes, place_is}
+use Rattle.state.specs.Decodes.{Decodes}
+use Rattle.state.proofs.Decodes.{place_is}
 use Rattle.steps.specs.Initiate.{AbleBoard, able_can_finish, able_inside}
 use Rattle.steps.specs.Parts.{Ends}
 use Rattle.steps.specs.Turn.{moved_half, moved_begins, moved_initiating}
