@@ -4,8 +4,9 @@
 usage: python3 tools/compare_declarations.py OLD [--moved]     at the top of the repository
 
 OLD is a folder with the older commit on which port.py and tools/respell.py were run, so that only spelling is gone (docs/PORT.md says
-how). A declaration is known by its file's name, its own name and the sections round it; compared are its statement and, for what is
-defined, its text, with white space made even; local ones, of a `where` or a `let`, too. --moved prints the statements of those that moved from specs/ to proofs/.
+how). A declaration is known by its file's name (in proofs/ by another one, where only one file there has it), its own name and the
+sections round it. Compared are its statement and, for what is defined, its text, with white space made even; local ones, of a `where` or a
+`let`, too. --moved prints the statements of those that moved from specs/ to proofs/.
 Ends with 1 if one is missing or differs.
 """
 import glob
@@ -87,8 +88,9 @@ def compare(crate, old, moved):
     left = {}
     for key, one in was.items():
         now = specs.get(key)
-        if now is None and key in proofs:
-            now = proofs[key]
+        elsewhere = [k for k in proofs if k[1:] == key[1:]] if now is None else []
+        if now is None and (key in proofs or len(elsewhere) == 1):
+            now = proofs[key if key in proofs else elsewhere[0]]
             if not one[0][3]:
                 left.setdefault(key[0], []).append((key, one))
         if now is None or [d[1:3] for d in now] != [d[1:3] for d in one]:
