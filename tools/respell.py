@@ -1,5 +1,5 @@
 #!/usr/bin/env python3
-"""Gives the repository's own definitions and lemmas the spelling of today's library, once, after /opt/rattle/port/port.py.
+"""Gives the repository's own definitions and lemmas the spelling of today's library, once, after the kit's port/port.py.
 
 usage: python3 tools/respell.py [--list]     at the top of the repository
 

@@ -30,7 +30,13 @@ HAND = {
     "searches/receives-take-what-they-find",
     "waiting/answers-the-last",
     "waiting/skips-the-first-defined",
+    "waiting/takes-anothers-message",
 }
+
+
+def kit():
+    """The folder of the kit: where the page lies that it says to read first."""
+    return os.path.dirname(subprocess.run(["rt", "doc"], check=True, capture_output=True, text=True).stdout.strip())
 
 
 def parse(text):
@@ -94,7 +100,7 @@ def tree(folder):
     run("git", "config", "user.name", "none")
     run("git", "add", "-A")
     run("git", "commit", "-qm", "LANDED, with the files that its edits make")
-    run("python3", "/opt/rattle/port/port.py")
+    run("python3", os.path.join(kit(), "port", "port.py"))
     run("git", "add", "-A")
     run("git", "commit", "-qm", "port.py")
     run("python3", os.path.abspath("tools/respell.py"))
