@@ -111,7 +111,18 @@ def table():
     return out, kinds, lib
 
 
+SPELLED = re.compile(r'(?<![^\s(){}.;,@"«»`|\[\]])' + r'[^\s(){}.;,@"«»`|\[\]:?!\'’]+')
+
+
+def respelled(line, names):
+    return SPELLED.sub(lambda m: names.get(m[0], m[0]), line)
+
+
 def main():
+    if glob.glob("crates/*/proofs/**/Answers.antt", recursive=True):
+        # names of goals have dashes: what was written after the port is spelled as it should be
+        print("respell: this tree is past the port: nothing to do")
+        return
     out, kinds, lib = table()
     if "--list" in sys.argv:
         for a, b in sorted(out.items()):
@@ -121,7 +132,6 @@ def main():
     for b, n in new.items():
         if n > 1:
             print("fall together:", b, [a for a in out if out[a] == b])
-    word = re.compile(r'(?<![^\s(){}.;,@"«»`|\[\]])' + r'[^\s(){}.;,@"«»`|\[\]:?!\'’]+')
     changed = 0
     for pattern in ("crates/**/*.antt", "crates/**/*.rt"):
         for path, text in texts(pattern):
@@ -136,7 +146,7 @@ def main():
                 # a fact of one word
                 here["answers"] = "Answers"
             text = text.replace("Service.answers", "Service.Answers")
-            said = word.sub(lambda m: here.get(m[0], m[0]), text)
+            said = "\n".join(respelled(line, out if line.lstrip().startswith(("--", "//")) else here) for line in text.split("\n"))
             if said != was:
                 with open(path, "w", encoding="utf-8") as f:
                     f.write(said)

@@ -1,9 +1,5 @@
--- A board's two accounts in a job (document 01, "How a board steps"; document 02, K6): the size of a store, and what the board's
--- place has in use there and at most. One law, `step_moves`: a step of any board moves the account of every board and store as
--- `taken` and `given_back` move an account, or leaves it as it was.
---   Movement, movement, moved   what a step does to the accounts, and each account after it
---   step_moves                  the account of every board and store after a step is that
--- Assumes nothing.
+-- One law of a board's two accounts (specs/Boards), `step_moves`: a step of any board moves the account of every board and store as
+-- `taken` and `given_back` move an account, or leaves it as it was. Assumes nothing.
 use Rattle.std.specs.Prelude.{◌≡◌, Bool, ◌&&◌, ℕ, suc, ◌-◌, ◌<◌, ◌≤◌, ltb}
 use Rattle.std.proofs.Math.Path.{refl, sym, ap}
 use Rattle.std.proofs.Common.{◌∙◌, arith, get_or-set_same, get_or-set_other}

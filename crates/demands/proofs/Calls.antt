@@ -136,7 +136,7 @@ module _ {bs o : List ℕ} {f : Seen} (a : FollowSeen bs o f) where
         let same = or_else_stopped (sheet_refusal bs) rest (λ z. h (c.0 ∙ z)) in
         (a.said.0.0 ∙ ap (λ (r : Refusal). r.number) same ∙ sym c.0, a.said.0.1 ∙ ap (λ (r : Refusal). r.place) same ∙ sym c.1)
 
-    -- where the sheet passes, a call that 8 does not refuse Answers 0 or 9
+    -- where the sheet passes, a call that 8 does not refuse answers 0 or 9
     order_number : (k : Option ℕ) → (order_refusal k).number ≢ 0 → (order_refusal k).number ≤ 7 → ⊥
     unfolding order_refusal refusal
     order_number none h l = h refl

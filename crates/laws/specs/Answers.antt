@@ -1,6 +1,6 @@
--- What a service Answers, number and place: from an equation of refusals, along a chain of them, and by a search from the front.
+-- What a service answers, number and place: from an equation of refusals, along a chain of them, and by a search from the front.
 --   told_is, told_same, answers_number   from an equation, from an answer to an equal refusal, and its number
---   or_else_told, or_else_next           a chain Answers as its first refusal that does not accept
+--   or_else_told, or_else_next           a chain answers as its first refusal that does not accept
 --   Sought                               a search has come to index i and refused nothing: sought_more, sought_bad, sought_all
 -- Assumes nothing.
 use Rattle.std.specs.Prelude.{◌≡◌, Bool, true, false, not, ℕ, ◌+◌, ◌-◌, ◌<◌, ◌≤◌}
@@ -31,7 +31,7 @@ module _ (a b : Refusal) (n p : ℕ) (told : Answers a n p) where
   pub or_else_next : n ≡ 0 → (m q : ℕ) → Answers b m q → Answers (or_else a b) m q
   or_else_next h m q t = told_same (or_else a b) b m q (or_else_passed a b (first_accepts h)) t
 
--- SEARCHES: what the whole search Answers is what is left of it, from index i up to `end`. The rule is any test f of an index,
+-- SEARCHES: what the whole search answers is what is left of it, from index i up to `end`. The rule is any test f of an index,
 -- n the number that it is refused with
 pub record Sought (whole : Refusal) (n : ℕ) (f : ℕ → Bool) (i end : ℕ) : Type 0 where
   pub upper : i ≤ end

@@ -1,4 +1,4 @@
--- Refusal 5 as a walk over the board table: what holds before board r, one board more, and what the walk Answers.
+-- Refusal 5 as a walk over the board table: what holds before board r, one board more, and what the walk answers.
 -- Assumes nothing.
 use Rattle.std.specs.Prelude.{◌≡◌, refl, Bool, true, false, not, cond, ℕ, suc, ◌+◌, ◌-◌, ◌*◌, ◌<◌, ◌≤◌, eqb}
 use Rattle.std.proofs.Common.{sym, ◌∙◌, ap, arith, add-one, eq-eqb, ne_eqb}

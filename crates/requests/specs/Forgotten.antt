@@ -1,5 +1,5 @@
 -- Forgotten requests as a walk over a script from its end to its front. At operation i it is known which slots are freed from
--- there on, and what the search from there on Answers: both definitions recurse from the front, so that the walk takes one turn
+-- there on, and what the search from there on answers: both definitions recurse from the front, so that the walk takes one turn
 -- of each. Assumes nothing.
 use Rattle.std.specs.Prelude.{◌≡◌, Bool, ◌&&◌, ◌||◌, cond, List, eqb, length, get_or, set, replicate}
 use Rattle.std.proofs.Math.Path.{refl, ap, subst}
@@ -22,7 +22,7 @@ use Rattle.requests.specs.Slots.{Slotted}
 abbrev pub script_end : Sheet → (r : ℕ) → ℕ
 script_end s r = (board s r).first + (board s r).count
 
--- what the search Answers from operation i on
+-- what the search answers from operation i on
 abbrev pub AnsweredFrom : Sheet → (r i number place : ℕ) → Type 0
 AnsweredFrom s r i n p = Answers (first_broken 7 (slot_freed s) (script_end s r - i) i) n p
 
@@ -174,7 +174,7 @@ module _ {s : Sheet} {r i : ℕ} {known : List Bool} {number place : ℕ} (w : W
       pub walked_on : forgotten ≡ false → Walked s r j known number place
       walked_on e = walked_same false e
 
--- at the front of the script the walk Answers for all of it
+-- at the front of the script the walk answers for all of it
 pub walked_all : {s : Sheet} {r i : ℕ} {known : List Bool} {number place : ℕ} → Walked s r i known number place →
     i ≤ (board s r).first → Answers (first_broken 7 (slot_freed s) (board s r).count (board s r).first) number place
 walked_all {s} {r} {i} {known} {number} {place} w l =

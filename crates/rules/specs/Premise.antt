@@ -1,5 +1,5 @@
 -- Whether the order of steps can matter for a sheet (document 01, "What is pinned down", the first point of demand 3), as a
--- service Answers it: the lowest number first, each at its first place. The numbers 20 to 24 are this service's own and stand
+-- service answers it: the lowest number first, each at its first place. The numbers 20 to 24 are this service's own and stand
 -- beside 1 to 9 of document 01's table. Assumes nothing: these are definitions.
 use Rattle.std.specs.Prelude.{Bool, not, List, ℕ}
 use Rattle.rules.specs.Sheet.{Sheet, op, board, P_of, N_of, is_ready, tells_completion, sheet_in}

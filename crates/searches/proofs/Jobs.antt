@@ -1,8 +1,5 @@
--- What the engine's searches find in a job that an order leads to, as places in the list of pending messages. Assumes nothing.
---   place_by         the place of the first that passes a test, or the length of the list
---   sum_places       the places that n receives find in a list, one after another, added up
---   places_in_job    the same of the messages that are pending after an order
---   searched_places  the same for every input: 0 where the sheet is refused, scratch is short or there are no such operations
+-- The loop that adds up what the engine's searches find in a job comes to the definition's sum (specs/Jobs), and each thing that is
+-- not so to 0. Assumes nothing.
 use Rattle.std.specs.Prelude.{◌≡◌, Bool, ◌&&◌, cond, List, eqb, leb, replicate}
 use Rattle.std.proofs.Math.Path.{refl, sym, ap, subst}
 use Rattle.std.proofs.Common.{◌∙◌, add-zero, zero-add, eq-eqb, ne_eqb, le-leb}

@@ -1,6 +1,6 @@
 -- Scratch and its control block hold a job. Each change of scratch is the change of the job that rules names, so that an engine above
--- never speaks of bytes. Nothing is held of the inbox memory: deliveries are made at the end, from the rows. What is proved of it stands in proofs/Decodes.
--- Assumes nothing.
+-- never speaks of bytes. Nothing is held of the inbox memory: deliveries are made at the end, from the rows. What is proved of it stands
+-- in proofs/Decodes. Assumes nothing.
 use Rattle.std.specs.Prelude.{◌≡◌, ℕ, ◌≤◌, take}
 use mathlib.Core.List.{List}
 use Rattle.std.proofs.Math.ListN.{length}

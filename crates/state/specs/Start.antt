@@ -1,4 +1,5 @@
--- The start of a job: bare rows and zero places, whatever scratch held before. That it holds is proved in proofs/StartHolds. Assumes nothing.
+-- The start of a job: bare rows and zero places, whatever scratch held before. That it holds is proved in proofs/StartHolds.
+-- Assumes nothing.
 use Rattle.std.specs.Prelude.{◌≡◌, List, ℕ, ◌*◌, ◌≤◌, length, replicate}
 use Rattle.rules.specs.Limits.{most_ops, scratch_size}
 use Rattle.rules.specs.Job.{bare_entry}

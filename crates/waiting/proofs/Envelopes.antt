@@ -1,5 +1,5 @@
--- Envelopes of waiting messages, and the first in order of waiting that fits what a receive asks for (document 01, "How a board
--- steps": fit, and the earliest that fits). Assumes nothing.
+-- What a search through waiting envelopes finds (specs/Envelopes): what any source or tag asks for, a fit by its parts, and that the
+-- first that passes from the front is the definition's. Assumes nothing.
 use Rattle.std.specs.Prelude.{◌≡◌, Bool, ◌&&◌, List, [], ◌∷◌, ℕ, zero, suc, ◌+◌, ◌<◌, ◌≤◌, min, eqb, leb, length, get_or, take}
 use Rattle.std.proofs.Math.Path.{refl, sym}
 use Rattle.std.proofs.Common.{◌∙◌, ap, subst, arith, take_all, below_more, leb-true, leb-false, eq-eqb, ne_eqb}

@@ -1,5 +1,5 @@
--- The waiting list of one receiver in a job: the envelopes of the pending messages that are addressed to it, in order of arrival.
--- The earliest that fits a receive is the message that rules' `first_message` gives. Assumes nothing.
+-- In the waiting list of one receiver (specs/Messages) the earliest envelope that fits a receive is the message that rules'
+-- `first_message` gives. Assumes nothing.
 use Rattle.std.specs.Prelude.{◌≡◌, Bool, ◌&&◌, ◌||◌, ℕ}
 use Rattle.std.proofs.Math.Path.{refl, sym}
 use Rattle.std.proofs.Common.{◌∙◌}

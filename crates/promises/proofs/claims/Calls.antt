@@ -128,7 +128,7 @@ module _ {bs o : List ℕ} (p : passes bs ≡ true) (f : FollowCall bs o) where
     unfolding FollowSays left_by
     follow_report = f.said.2 ∙ kept_new follow_number.number _ f.report number_zero
 
--- RUN, which Answers 0 where number 8 does not refuse it
+-- RUN, which answers 0 where number 8 does not refuse it
 pub record RunAnswer {bs : List ℕ} (f : RunCall bs) : Type 0 where
   pub inbox_room : inbox_total (sheet_in bs) ≤ length f.inbox
   pub number_zero : f.number ≡ 0
