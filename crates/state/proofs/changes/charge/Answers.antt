@@ -17,7 +17,7 @@ pub returns-then-not-charged : goal.returns-then-not-charged
 returns-then-not-charged c =
     let a = c.args in
     let old = c.place_of-q in
-    let f = c.figures_in-f in
+    let f = c.figures-f in
     let full =
     sym (c.charging-charged.ensures.1 ∙ room_is _ _ _ _)
     ∙ not-true _ c.if-not-charged.true in
@@ -35,7 +35,7 @@ unfolding figures
 returns c =
     let a = c.args in
     let old = c.place_of-q in
-    let f = c.figures_in-f in
+    let f = c.figures-f in
     let said = c.charging-charged in
     let w = stands_for a.w in
     let put = c.put_account in

@@ -15,7 +15,7 @@ returns c =
     λ t s x d l.
     let a = c.args in
     let old = c.place_of-q in
-    let f = c.figures_in-f in
+    let f = c.figures-f in
     let left = c.releasing-left in
     let w = stands_for a.w in
     let put = c.put_account in
