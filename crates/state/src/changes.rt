@@ -95,12 +95,9 @@ pub fn charge(c: &mut [u8], r: usize, w: Store, size: usize, n: usize) -> bool
     ensures { Charges (stands_for w) c.old c.new r size n result }
 {
     let q = places::place_of(c, r);
-    let f = q.figures(w);
-    let charged = account::charging(size, f.in_use, f.peak, n);
-    if !charged.ok {
+    let Some(after) = q.figures(w).account(size).take(n) else {
         return false;
-    }
-    let after = charged.account;
+    };
     put_account(c, r, q, w, after);
     true
 }
@@ -112,8 +109,7 @@ pub fn release(c: &mut [u8], r: usize, w: Store, size: usize, n: usize)
         (λ s x. with_place r (released_in (stands_for w) n (place_at x r)) x) }
 {
     let q = places::place_of(c, r);
-    let f = q.figures(w);
-    let left = account::releasing(size, f.in_use, f.peak, n);
+    let left = q.figures(w).account(size).give_back(n);
     put_account(c, r, q, w, left);
 }
 

@@ -3,13 +3,14 @@ ghost use Rattle.std.specs.Prelude.{◌≡◌, ◌<◌, ◌≤◌, length};
 ghost use Rattle.rules.specs.Limits.{most_boards, scratch_size};
 ghost use Rattle.rules.specs.Job.{account, with_account};
 ghost use Rattle.rules.specs.Step.{splice};
+ghost use Rattle.account.specs.Accounts.{account as account_with};
 ghost use Rattle.account.specs.Stores.{stands_for};
 ghost use Rattle.state.specs.Layout.{seat_at};
 ghost use Rattle.state.specs.Decoded.{figures_at, place_in, place_row, figures_of, place_of, FiguresRead, PlaceRead};
 ghost use Rattle.words.specs.Read.{Word};
 
 use crate::{BoardPlace, PLACES, SEAT_SIZE, StoreFigures};
-use account::Store;
+use account::{Account, Store};
 
 // How many operations board r has finished.
 pub fn finished_of(c: &[u8], r: usize) -> usize
@@ -75,6 +76,19 @@ pub fn put_place(c: &mut [u8], r: usize, q: BoardPlace)
     words::put_pair(c, at, q.finished, q.attached.in_use);
     words::put_pair(c, at + 4, q.attached.peak, usize::from(q.waiting));
     words::put_pair(c, at + 8, q.room.in_use, q.room.peak);
+}
+
+impl StoreFigures {
+    // The account with these figures, of a store of the size.
+    pub fn account(self, size: usize) -> Account
+        ensures { result ≡ account_with size self.in_use self.peak }
+    {
+        Account {
+            size,
+            in_use: self.in_use,
+            peak: self.peak,
+        }
+    }
 }
 
 impl BoardPlace {
