@@ -2,15 +2,18 @@
 --   Asks             the numbers that were read of an operation before its search
 --   sides_fit        rules' fit of a message and a receive, over plain numbers
 --   ..-order         its parts in the order in which the code tests them
+--   read-..          a source or a tag that is asked for
 --   and-..           a test that is made where the one before it holds
 --   candidate_read   so a candidate fits what was read exactly where rules' fit says so
 -- Assumes nothing.
 use Rattle.std.specs.Prelude.{◌≡◌, Bool, ◌&&◌, ℕ, eqb}
 use Rattle.std.proofs.Math.Path.{refl}
-use Rattle.std.proofs.Common.{sym, ◌∙◌, ap, arith}
+use Rattle.std.proofs.Common.{sym, ◌∙◌, ap, arith, eq-eqb}
 use Rattle.std.proofs.Math.Bool.{true, false}
+use Rattle.rules.specs.Limits.{any}
 use Rattle.rules.specs.Sheet.{Sheet, op, rank_of}
 use Rattle.waiting.specs.Envelopes.{is_asked, envelope_fits}
+use Rattle.waiting.proofs.Envelopes.{any_is_asked, named_is_asked}
 use Rattle.state.specs.declared.Queue.{Queue}
 use Rattle.state.specs.declared.Queue.TheVariants.{Messages, Receives}
 use Rattle.search.specs.declared.candidates.Asked.{Asked}
@@ -64,6 +67,13 @@ module _ (x : Sides) where
     where
       go : (s d t c : Bool) → (((d && t) && s) && c) ≡ (d && (c && (s && t)))
       go s d t c = grind arith
+
+-- any source or tag is asked for, or one that is told by a number that was read
+pub read_any : {v : Bool} {asked : ℕ} (told : ℕ) → asked ≡ any → v ≡ eqb asked any → v ≡ is_asked asked told
+read_any {v} {asked} told e f = f ∙ eq-eqb asked any e ∙ any_is_asked asked told e
+
+pub read_named : {v : Bool} {asked told n : ℕ} → (asked ≡ any → ⊥) → n ≡ told → v ≡ eqb asked n → v ≡ is_asked asked told
+read_named {v} {asked} {told} {n} e f h = h ∙ ap (λ (k : ℕ). eqb asked k) f ∙ named_is_asked asked told e
 
 -- a test that is made where the one before it holds, and one that is not made
 pub and_then : {a b w : Bool} → a ≡ true → w ≡ b → w ≡ (a && b)

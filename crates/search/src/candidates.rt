@@ -1,12 +1,8 @@
 // An operation that waits, beside what the operation that searches its list asks for (document 01, "How a board steps"; 004). What
 // is asked for is read once, before the search. Of a candidate those fields are read that decide, in this order: its board, which
 // is another in most; whom it is addressed to, or its tag; its communicator, of which there are few.
-ghost use Rattle.std.specs.Prelude.{◌≡◌, ◌<◌, ◌≤◌, length, get_or};
-ghost use Rattle.rules.specs.Limits.{most_ops, scratch_size};
-ghost use Rattle.rules.specs.Sheet.{sheet_in, op, N_of};
-ghost use Rattle.laws.specs.Laid.{Laid};
-ghost use Rattle.waiting.specs.Envelopes.{is_asked};
-ghost use Rattle.state.specs.Layout.{rank_at};
+ghost use Rattle.std.specs.Prelude.{◌≡◌, ◌<◌};
+ghost use Rattle.rules.specs.Sheet.{sheet_in, N_of};
 ghost use Rattle.search.specs.Search.{Readable};
 ghost use Rattle.search.specs.Candidates.{Asks, sides_fit, message_beside, receive_beside, candidate_fits};
 

@@ -23,7 +23,7 @@ word_of-requires c = let p = c.requires in omega (arith, p.1.short, c.base-base.
 pub candidate_fits-requires : goal.candidate_fits-requires
 candidate_fits-requires c =
     let p = c.requires in
-    let member = p.1.members (k c) c.loop-k-test.true in
+    let member = p.1.members (k c) (omega arith) in
     (p.0, subst (λ (n : ℕ). n < N_of (sheet_in c.args.s.now)) (sym (read c)) member)
 
 -- what the test answered, of the k-th of the list
@@ -38,7 +38,7 @@ tested c =
 pub returns-then-candidate_fits : goal.returns-then-candidate_fits
 returns-then-candidate_fits c =
     record {
-      inside = c.loop-k-test.true;
+      inside = omega arith;
       before = c.loop-k.invariant;
       found = tested (goal.at.returns-then-candidate_fits c).After-candidate_fits ∙ c.if-candidate_fits.true;
     }

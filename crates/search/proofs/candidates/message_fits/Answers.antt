@@ -1,9 +1,8 @@
 -- `search::candidates::message_fits` meets its contract: test by test, in the order in which they are made. Assumes nothing.
-use Rattle.std.proofs.Common.{ap, eq-eqb, eqb, sym, ℕ, ◌&&◌, ◌∙◌, ◌≡◌}
+use Rattle.std.proofs.Common.{ap, eqb, sym, ℕ, ◌&&◌, ◌∙◌, ◌≡◌}
 use Rattle.rules.specs.Sheet.{sheet_in}
 use Rattle.waiting.specs.Envelopes.{is_asked}
-use Rattle.waiting.proofs.Envelopes.{any_is_asked, named_is_asked}
-use Rattle.search.specs.Candidates.{Sides, message_beside, message_order, and_then, and_stop}
+use Rattle.search.specs.Candidates.{Sides, message_beside, message_order, read_any, read_named, and_then, and_stop}
 use Rattle.search.proofs.candidates.message_fits.Goals as goal
 use Rattle.search.proofs.candidates.message_fits.Goals.{Joined-peer-a, then-a-eq-ANY, else-a-eq-ANY, then-a-rank_at, else-a-rank_at, then-peer-a+then-a-eq-ANY-2, then-peer-a+else-a-eq-ANY-2, else-peer-a}
 
@@ -14,10 +13,9 @@ module _ (c : Joined-peer-a) where
 
   source : c.if-a-eq-ANY.value ≡ is_asked x.source x.sender
   source = elim c.if-a-eq-ANY.branch [
-    | then-a-eq-ANY w ↦ w.value-is ∙ eq-eqb x.source 65535 w.if-a-eq-ANY.true ∙ any_is_asked x.source x.sender w.if-a-eq-ANY.true
-    | else-a-eq-ANY w ↦ w.value-is
-        ∙ ap (λ (r : ℕ). eqb x.source r) (w.rank_at.ensures.is ∙ c.requires.0.tables.rank_is c.args.m c.requires.1)
-        ∙ named_is_asked x.source x.sender w.if-a-eq-ANY.false
+    | then-a-eq-ANY w ↦ read_any x.sender w.if-a-eq-ANY.true w.value-is
+    | else-a-eq-ANY w ↦ read_named w.if-a-eq-ANY.false
+        (w.rank_at.ensures.is ∙ c.requires.0.tables.rank_is c.args.m c.requires.1) w.value-is
   ]
 
   board : c.if-a-rank_at.value ≡ (is_asked x.source x.sender && eqb x.destination x.board)
@@ -28,8 +26,8 @@ module _ (c : Joined-peer-a) where
 
   tag : c.if-peer-a.value ≡ ((is_asked x.source x.sender && eqb x.destination x.board) && is_asked x.tag x.mark)
   tag = elim c.if-peer-a.branch [
-    | then-peer-a+then-a-eq-ANY-2 w ↦ and_then (sym board ∙ w.if-peer-a.true) (w.value-is ∙ eq-eqb x.tag 65535 w.if-a-eq-ANY-2.true ∙ any_is_asked x.tag x.mark w.if-a-eq-ANY-2.true)
-    | then-peer-a+else-a-eq-ANY-2 w ↦ and_then (sym board ∙ w.if-peer-a.true) (w.value-is ∙ ap (λ (t : ℕ). eqb x.tag t) w.tag.ensures.is ∙ named_is_asked x.tag x.mark w.if-a-eq-ANY-2.false)
+    | then-peer-a+then-a-eq-ANY-2 w ↦ and_then (sym board ∙ w.if-peer-a.true) (read_any x.mark w.if-a-eq-ANY-2.true w.value-is)
+    | then-peer-a+else-a-eq-ANY-2 w ↦ and_then (sym board ∙ w.if-peer-a.true) (read_named w.if-a-eq-ANY-2.false w.tag.ensures.is w.value-is)
     | else-peer-a w ↦ and_stop _ (sym board ∙ w.if-peer-a.false) (w.value-is ∙ board)
   ]
 
