@@ -2,14 +2,19 @@
 // scratch decodes to (specs/Decodes) and not of bytes.
 #![tactic(auto)]
 
-pub mod changes;
+ghost use Rattle.std.specs.Prelude.{List, ℕ, ◌≡◌, ◌≤◌, length};
+ghost use Rattle.rules.specs.Limits.{scratch_size};
+
+use std::marker::Model;
+
+mod changes;
 mod controls;
-pub mod lists;
-pub mod places;
-pub mod ranks;
-pub mod rows;
-pub mod start;
-pub mod waits;
+mod lists;
+mod places;
+mod ranks;
+mod rows;
+mod start;
+mod waits;
 
 // Where each part stands; another limit changes a number of `limits`, and the layout follows.
 const PLACES: usize = limits::OP_ROW_SIZE * limits::MOST_OPS;
@@ -24,6 +29,29 @@ const RECEIVES: usize = MESSAGES + 2 * limits::MOST_OPS;
 const RANKS: usize = RECEIVES + 2 * limits::MOST_OPS;
 
 const WAITS: usize = RANKS + limits::MOST_OPS;
+
+// Scratch as it is lent, with room for every job. Clauses see its bytes.
+#[derive(Drop)]
+pub struct Scratch<'a> {
+    bytes: &'a mut [u8],
+}
+
+impl<'a> Model for Scratch<'a> {
+    ghost Value = { List ℕ };
+
+    ghost view = { λ c. c.bytes.now };
+
+    ghost invariant = { λ c. scratch_size ≤ length c.bytes.now };
+}
+
+impl Scratch<'_> {
+    // What every scratch keeps. A caller learns it here, at no cost.
+    pub fn known(&self)
+        ensures { scratch_size ≤ length self.now }
+    {
+        let _size = self.bytes.len();
+    }
+}
 
 // The state of an operation, with the number that its row tells (document 01, "The report"). Finished is a wait, a probe or a query.
 #[derive(Clone, Copy)]

@@ -8,7 +8,7 @@ ghost use Rattle.state.specs.Lists.{behind};
 ghost use Rattle.words.specs.Read.{Word};
 ghost use Rattle.state.specs.Queues.{Based, base_of};
 
-use crate::{MESSAGES, Queue, RECEIVES};
+use crate::{MESSAGES, Queue, RECEIVES, Scratch};
 
 impl Queue {
     // Where the list starts.
@@ -23,26 +23,28 @@ impl Queue {
     }
 }
 
-// Entry k of the list at base.
-pub fn word_of(c: &[u8], base: usize, k: usize) -> usize
-    requires { word_at base k + 2 ≤ length c.now }
-    ensures { Word (two c.now (word_at base k)) result }
-{
-    words::two_at(c, base + 2 * k)
-}
+impl Scratch<'_> {
+    // Entry k of the list at base.
+    pub fn word_of(&self, base: usize, k: usize) -> usize
+        requires { word_at base k + 2 ≤ length self.now }
+        ensures { Word (two self.now (word_at base k)) result }
+    {
+        words::two_at(self.bytes, base + 2 * k)
+    }
 
-// One more at the end.
-pub fn append(c: &mut [u8], base: usize, count: usize, v: usize)
-    requires { word_at base count + 2 ≤ length c.old }
-    ensures { c.new ≡ splice c.old (word_at base count) (low_two v) }
-{
-    words::put_two(c, base + 2 * count, v);
-}
+    // One more at the end.
+    pub fn append(&mut self, base: usize, count: usize, v: usize)
+        requires { word_at base count + 2 ≤ length self.old }
+        ensures { self.new ≡ splice self.old (word_at base count) (low_two v) }
+    {
+        words::put_two(self.bytes, base + 2 * count, v);
+    }
 
-// Entry k removed: those behind it move down by one. `left` is how many then remain.
-pub fn remove(c: &mut [u8], base: usize, left: usize, k: usize)
-    requires { (k ≤ left) × (word_at base left + 2 ≤ length c.old) }
-    ensures { c.new ≡ splice c.old (word_at base k) (behind c.old base left k) }
-{
-    words::move_down(c, base + 2 * k, 2, 2 * (left - k));
+    // Entry k removed: those behind it move down by one. `left` is how many then remain.
+    pub fn remove(&mut self, base: usize, left: usize, k: usize)
+        requires { (k ≤ left) × (word_at base left + 2 ≤ length self.old) }
+        ensures { self.new ≡ splice self.old (word_at base k) (behind self.old base left k) }
+    {
+        words::move_down(self.bytes, base + 2 * k, 2, 2 * (left - k));
+    }
 }

@@ -9,23 +9,58 @@ ghost use Rattle.state.specs.Layout.{seat_at};
 ghost use Rattle.state.specs.Decoded.{figures_at, place_in, place_row, figures_of, place_of, FiguresRead, PlaceRead};
 ghost use Rattle.words.specs.Read.{Word};
 
-use crate::{BoardPlace, PLACES, SEAT_SIZE, StoreFigures};
+use crate::{BoardPlace, PLACES, SEAT_SIZE, Scratch, StoreFigures};
 use account::{Account, Store};
 
-// How many operations board r has finished.
-pub fn finished_of(c: &[u8], r: usize) -> usize
-    requires { (r < most_boards) × (scratch_size ≤ length c.now) }
-    ensures { Word (place_in c.now (seat_at r)).finished result }
-{
-    words::two_at(c, PLACES + SEAT_SIZE * r)
-}
+impl Scratch<'_> {
+    // How many operations board r has finished.
+    pub fn finished_of(&self, r: usize) -> usize
+        requires { r < most_boards }
+        ensures { Word (place_in self.now (seat_at r)).finished result }
+    {
+        words::two_at(self.bytes, PLACES + SEAT_SIZE * r)
+    }
 
-// Whether its next operation is in its waiting half.
-pub fn waiting_of(c: &[u8], r: usize) -> bool
-    requires { (r < most_boards) × (scratch_size ≤ length c.now) }
-    ensures { result ≡ (place_in c.now (seat_at r)).waiting }
-{
-    words::byte_at(c, PLACES + SEAT_SIZE * r + 6) == 1
+    // Whether its next operation is in its waiting half.
+    pub fn waiting_of(&self, r: usize) -> bool
+        requires { r < most_boards }
+        ensures { result ≡ (place_in self.now (seat_at r)).waiting }
+    {
+        words::byte_at(self.bytes, PLACES + SEAT_SIZE * r + 6) == 1
+    }
+
+    // The figures of its store.
+    pub fn figures_of(&self, r: usize, w: Store) -> StoreFigures
+        requires { r < most_boards }
+        ensures { FiguresRead (account (stands_for w) (place_in self.now (seat_at r))) result }
+    {
+        figures_in(self.bytes, r, w)
+    }
+
+    // The whole place of board r, read.
+    pub fn place_of(&self, r: usize) -> BoardPlace
+        requires { r < most_boards }
+        ensures { PlaceRead (place_in self.now (seat_at r)) result }
+    {
+        let finished = self.finished_of(r);
+        let waiting = self.waiting_of(r);
+        let attached = self.figures_of(r, Store::Attached);
+        let room = self.figures_of(r, Store::Room);
+        BoardPlace {
+            finished,
+            waiting,
+            attached,
+            room,
+        }
+    }
+
+    // The whole place of board r, put.
+    pub fn put_place(&mut self, r: usize, q: BoardPlace)
+        requires { r < most_boards }
+        ensures { self.new ≡ splice self.old (seat_at r) (place_row (place_of q)) }
+    {
+        put_seat(self.bytes, r, q);
+    }
 }
 
 // Where a store's figures stand in a place.
@@ -39,8 +74,8 @@ fn figures_at(w: Store) -> usize
     }
 }
 
-// The figures of its store.
-pub fn figures_of(c: &[u8], r: usize, w: Store) -> StoreFigures
+// The figures of its store, in the bytes of scratch.
+fn figures_in(c: &[u8], r: usize, w: Store) -> StoreFigures
     requires { (r < most_boards) × (scratch_size ≤ length c.now) }
     ensures { FiguresRead (account (stands_for w) (place_in c.now (seat_at r))) result }
 {
@@ -50,25 +85,8 @@ pub fn figures_of(c: &[u8], r: usize, w: Store) -> StoreFigures
     StoreFigures { in_use, peak }
 }
 
-// The whole place of board r, read.
-pub fn place_of(c: &[u8], r: usize) -> BoardPlace
-    requires { (r < most_boards) × (scratch_size ≤ length c.now) }
-    ensures { PlaceRead (place_in c.now (seat_at r)) result }
-{
-    let finished = finished_of(c, r);
-    let waiting = waiting_of(c, r);
-    let attached = figures_of(c, r, Store::Attached);
-    let room = figures_of(c, r, Store::Room);
-    BoardPlace {
-        finished,
-        waiting,
-        attached,
-        room,
-    }
-}
-
-// The whole place of board r, put.
-pub fn put_place(c: &mut [u8], r: usize, q: BoardPlace)
+// The whole place of board r, put into the bytes of scratch.
+fn put_seat(c: &mut [u8], r: usize, q: BoardPlace)
     requires { (r < most_boards) × (scratch_size ≤ length c.old) }
     ensures { c.new ≡ splice c.old (seat_at r) (place_row (place_of q)) }
 {

@@ -5,28 +5,30 @@ ghost use Rattle.rules.specs.Step.{splice};
 ghost use Rattle.state.specs.Layout.{rank_at};
 ghost use Rattle.words.specs.Read.{Byte};
 
-use crate::RANKS;
+use crate::{RANKS, Scratch};
 
-// The rank of operation i.
-pub fn rank_at(c: &[u8], i: usize) -> usize
-    requires { (i < most_ops) × (scratch_size ≤ length c.now) }
-    ensures { Byte (get_or c.now (rank_at i) 0) result }
-{
-    words::byte_at(c, RANKS + i)
-}
+impl Scratch<'_> {
+    // The rank of operation i.
+    pub fn rank_at(&self, i: usize) -> usize
+        requires { i < most_ops }
+        ensures { Byte (get_or self.now (rank_at i) 0) result }
+    {
+        words::byte_at(self.bytes, RANKS + i)
+    }
 
-// The rank of one operation.
-pub fn put_rank(c: &mut [u8], i: usize, r: u8)
-    requires { (i < most_ops) × (scratch_size ≤ length c.old) }
-    ensures { c.new ≡ splice c.old (rank_at i) (r ∷ []) }
-{
-    words::put_byte(c, RANKS + i, r);
-}
+    // The rank of one operation.
+    pub fn put_rank(&mut self, i: usize, r: u8)
+        requires { i < most_ops }
+        ensures { self.new ≡ splice self.old (rank_at i) (r ∷ []) }
+    {
+        words::put_byte(self.bytes, RANKS + i, r);
+    }
 
-// The rank of n operations from i on: a board's whole script.
-pub fn put_ranks(c: &mut [u8], i: usize, n: usize, r: u8)
-    requires { (i + n ≤ most_ops) × (scratch_size ≤ length c.old) }
-    ensures { c.new ≡ splice c.old (rank_at i) (replicate n r) }
-{
-    words::fill(c, RANKS + i, n, r);
+    // The rank of n operations from i on: a board's whole script.
+    pub fn put_ranks(&mut self, i: usize, n: usize, r: u8)
+        requires { i + n ≤ most_ops }
+        ensures { self.new ≡ splice self.old (rank_at i) (replicate n r) }
+    {
+        words::fill(self.bytes, RANKS + i, n, r);
+    }
 }

@@ -8,7 +8,7 @@ ghost use Rattle.state.specs.Layout.{row_at};
 ghost use Rattle.state.specs.Numbers.{state_number};
 ghost use Rattle.words.specs.Read.{Word, Byte};
 
-use crate::State;
+use crate::{Scratch, State};
 use limits::ABSENT;
 
 impl From<State> for u8 {
@@ -19,44 +19,96 @@ impl From<State> for u8 {
     }
 }
 
-// The state of operation i.
-pub fn state_of(c: &[u8], i: usize) -> usize
-    requires { (i < most_ops) × (scratch_size ≤ length c.now) }
-    ensures { Byte (entry_in c.now (row_at i)).state result }
-{
-    words::byte_at(c, limits::OP_ROW_SIZE * i)
-}
+impl Scratch<'_> {
+    // The state of operation i.
+    pub fn state_of(&self, i: usize) -> usize
+        requires { i < most_ops }
+        ensures { Byte (entry_in self.now (row_at i)).state result }
+    {
+        words::byte_at(self.bytes, limits::OP_ROW_SIZE * i)
+    }
 
-// Whether operation i is in a state.
-pub fn is_in(c: &[u8], i: usize, state: State) -> bool
-    requires { (i < most_ops) × (scratch_size ≤ length c.now) }
-    ensures { result ≡ eqb (entry_in c.now (row_at i)).state (state_number state) }
-{
-    state_of(c, i) == usize::from(u8::from(state))
-}
+    // Whether operation i is in a state.
+    pub fn is_in(&self, i: usize, state: State) -> bool
+        requires { i < most_ops }
+        ensures { result ≡ eqb (entry_in self.now (row_at i)).state (state_number state) }
+    {
+        self.state_of(i) == usize::from(u8::from(state))
+    }
 
-// Whether it is complete: from buffered on.
-pub fn is_complete(c: &[u8], i: usize) -> bool
-    requires { (i < most_ops) × (scratch_size ≤ length c.now) }
-    ensures { result ≡ leb 2 (entry_in c.now (row_at i)).state }
-{
-    usize::from(u8::from(State::Buffered)) <= state_of(c, i)
-}
+    // Whether it is complete: from buffered on.
+    pub fn is_complete(&self, i: usize) -> bool
+        requires { i < most_ops }
+        ensures { result ≡ leb 2 (entry_in self.now (row_at i)).state }
+    {
+        usize::from(u8::from(State::Buffered)) <= self.state_of(i)
+    }
 
-// Whether its message was cut, 1 or 0.
-pub fn cut_of(c: &[u8], i: usize) -> usize
-    requires { (i < most_ops) × (scratch_size ≤ length c.now) }
-    ensures { Byte (entry_in c.now (row_at i)).cut result }
-{
-    words::byte_at(c, limits::OP_ROW_SIZE * i + 1)
-}
+    // Whether its message was cut, 1 or 0.
+    pub fn cut_of(&self, i: usize) -> usize
+        requires { i < most_ops }
+        ensures { Byte (entry_in self.now (row_at i)).cut result }
+    {
+        words::byte_at(self.bytes, limits::OP_ROW_SIZE * i + 1)
+    }
 
-// The operation that it was matched with.
-pub fn partner_of(c: &[u8], i: usize) -> usize
-    requires { (i < most_ops) × (scratch_size ≤ length c.now) }
-    ensures { Word (entry_in c.now (row_at i)).partner result }
-{
-    words::two_at(c, limits::OP_ROW_SIZE * i + 2)
+    // The operation that it was matched with.
+    pub fn partner_of(&self, i: usize) -> usize
+        requires { i < most_ops }
+        ensures { Word (entry_in self.now (row_at i)).partner result }
+    {
+        words::two_at(self.bytes, limits::OP_ROW_SIZE * i + 2)
+    }
+
+    // A row with neither partner nor status.
+    #[tactic(auto, unfolding(rules::specs::Job::bare_entry))]
+    pub fn put_bare(&mut self, i: usize, state: State)
+        requires { i < most_ops }
+        ensures { self.new ≡ splice self.old (row_at i) (op_row (bare_entry (state_number state))) }
+    {
+        put_row(self.bytes, i, state, false, ABSENT, ABSENT, ABSENT, 0);
+    }
+
+    // The row of message m, matched with receive r.
+    pub fn put_sent(&mut self, m: usize, r: usize)
+        requires { m < most_ops }
+        ensures { self.new ≡ splice self.old (row_at m) (op_row (entry 3 0 r absent absent 0)) }
+    {
+        put_row(self.bytes, m, State::Matched, false, r, ABSENT, ABSENT, 0);
+    }
+
+    // The row of receive r, matched with message m, with its status.
+    pub fn put_received(
+        &mut self,
+        r: usize,
+        cut: bool,
+        m: usize,
+        source: usize,
+        tag: usize,
+        long: usize,
+    )
+        requires { r < most_ops }
+        ensures { self.new ≡ splice self.old (row_at r) (op_row (entry 3 (cond cut 1 0) m source tag long)) }
+    {
+        put_row(self.bytes, r, State::Matched, cut, m, source, tag, long);
+    }
+
+    // The row of operation i, finished, with what it tells (document 02, K9).
+    pub fn put_told(&mut self, i: usize, source: usize, tag: usize, long: usize)
+        requires { i < most_ops }
+        ensures { self.new ≡ splice self.old (row_at i) (op_row (entry 5 0 absent source tag long)) }
+    {
+        put_row(
+            self.bytes,
+            i,
+            State::Finished,
+            false,
+            ABSENT,
+            source,
+            tag,
+            long,
+        );
+    }
 }
 
 // State and cut, a byte each, and the partner: the first four bytes of a row.
@@ -88,45 +140,4 @@ fn put_row(
     put_front(c, at, state, cut, partner);
     words::put_pair(c, at + 4, source, tag);
     words::put_pair(c, at + 8, long, 0);
-}
-
-// A row with neither partner nor status.
-#[tactic(auto, unfolding(rules::specs::Job::bare_entry))]
-pub fn put_bare(c: &mut [u8], i: usize, state: State)
-    requires { (i < most_ops) × (scratch_size ≤ length c.old) }
-    ensures { c.new ≡ splice c.old (row_at i) (op_row (bare_entry (state_number state))) }
-{
-    put_row(c, i, state, false, ABSENT, ABSENT, ABSENT, 0);
-}
-
-// The row of message m, matched with receive r.
-pub fn put_sent(c: &mut [u8], m: usize, r: usize)
-    requires { (m < most_ops) × (scratch_size ≤ length c.old) }
-    ensures { c.new ≡ splice c.old (row_at m) (op_row (entry 3 0 r absent absent 0)) }
-{
-    put_row(c, m, State::Matched, false, r, ABSENT, ABSENT, 0);
-}
-
-// The row of receive r, matched with message m, with its status.
-pub fn put_received(
-    c: &mut [u8],
-    r: usize,
-    cut: bool,
-    m: usize,
-    source: usize,
-    tag: usize,
-    long: usize,
-)
-    requires { (r < most_ops) × (scratch_size ≤ length c.old) }
-    ensures { c.new ≡ splice c.old (row_at r) (op_row (entry 3 (cond cut 1 0) m source tag long)) }
-{
-    put_row(c, r, State::Matched, cut, m, source, tag, long);
-}
-
-// The row of operation i, finished, with what it tells (document 02, K9).
-pub fn put_told(c: &mut [u8], i: usize, source: usize, tag: usize, long: usize)
-    requires { (i < most_ops) × (scratch_size ≤ length c.old) }
-    ensures { c.new ≡ splice c.old (row_at i) (op_row (entry 5 0 absent source tag long)) }
-{
-    put_row(c, i, State::Finished, false, ABSENT, source, tag, long);
 }

@@ -7,19 +7,21 @@ ghost use Rattle.rules.specs.Report.{low_two};
 ghost use Rattle.state.specs.Layout.{waits_at, word_at};
 ghost use Rattle.words.specs.Read.{Word};
 
-use crate::WAITS;
+use crate::{Scratch, WAITS};
 
-// The operation that holds the slot which operation i names.
-pub fn waited_at(c: &[u8], i: usize) -> usize
-    requires { (i < most_ops) × (scratch_size ≤ length c.now) }
-    ensures { Word (two c.now (word_at waits_at i)) result }
-{
-    words::two_at(c, WAITS + 2 * i)
-}
+impl Scratch<'_> {
+    // The operation that holds the slot which operation i names.
+    pub fn waited_at(&self, i: usize) -> usize
+        requires { i < most_ops }
+        ensures { Word (two self.now (word_at waits_at i)) result }
+    {
+        words::two_at(self.bytes, WAITS + 2 * i)
+    }
 
-pub fn put_waited(c: &mut [u8], i: usize, j: usize)
-    requires { (i < most_ops) × (scratch_size ≤ length c.old) }
-    ensures { c.new ≡ splice c.old (word_at waits_at i) (low_two j) }
-{
-    words::put_two(c, WAITS + 2 * i, j);
+    pub fn put_waited(&mut self, i: usize, j: usize)
+        requires { i < most_ops }
+        ensures { self.new ≡ splice self.old (word_at waits_at i) (low_two j) }
+    {
+        words::put_two(self.bytes, WAITS + 2 * i, j);
+    }
 }

@@ -1,4 +1,4 @@
--- `state::changes::release` meets its contract: the place with the account that a release leaves. Assumes nothing.
+-- `Scratch::release` meets its contract: the place with the account that a release leaves. Assumes nothing.
 use Rattle.std.proofs.Common.{ap, ◌∙◌}
 use Rattle.rules.specs.Job.{Place}
 use Rattle.rules.specs.Step.{splice}
@@ -10,7 +10,7 @@ use Rattle.state.specs.Decoded.{place_of, place_row}
 use Rattle.state.specs.Changes.{released_in}
 use Rattle.state.proofs.ChangesHold.{place_change}
 use Rattle.state.specs.Charged.{released_as, released_fits}
-use Rattle.state.proofs.changes.release.Goals as goal
+use Rattle.state.proofs.Scratch.release.Goals as goal
 
 pub returns : goal.returns
 returns c =
@@ -22,8 +22,8 @@ returns c =
     let back = left.ensures ∙ ap (λ (b : Account). given_back b a.n) c.account.ensures in
     let w = stands_for a.w in
     let put = c.put_account in
-    place_change s a.c.now t x d (released_in w a.n) a.r old.result put.new.c l old.ensures
+    place_change s a.self.now t x d (released_in w a.n) a.r old.result put.new.self l old.ensures
     (released_fits w a.n (place_of old.result) old.ensures.fits)
     (put.ensures
-    ∙ ap (λ (p : Place). splice a.c.now (seat_at a.r) (place_row p))
+    ∙ ap (λ (p : Place). splice a.self.now (seat_at a.r) (place_row p))
     (released_as w a.size a.n old.result f.result f.ensures left.result back))

@@ -1,8 +1,8 @@
--- `state::changes::start_waiting` meets its contract: the place that was read, in its waiting half. Assumes nothing.
+-- `Scratch::start_waiting` meets its contract: the place that was read, in its waiting half. Assumes nothing.
 use Rattle.rules.specs.Job.{place}
 use Rattle.rules.specs.Step.{now_waiting}
 use Rattle.state.proofs.ChangesHold.{place_change}
-use Rattle.state.proofs.changes.start_waiting.Goals as goal
+use Rattle.state.proofs.Scratch.start_waiting.Goals as goal
 
 pub returns : goal.returns
 unfolding now_waiting place
@@ -11,7 +11,7 @@ returns c =
     let a = c.args in
     let old = c.place_of-q in
     let put = c.put_place in
-    place_change s a.c.now t x d now_waiting a.r old.result put.new.c ok old.ensures
+    place_change s a.self.now t x d now_waiting a.r old.result put.new.self ok old.ensures
     (record {
       finished_fits = old.ensures.fits.finished_fits;
       attached_fits = old.ensures.fits.attached_fits;

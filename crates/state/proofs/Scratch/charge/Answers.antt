@@ -1,4 +1,4 @@
--- `state::changes::charge` meets its contract: where the account has room, the place with the account that a charge leaves. Assumes nothing.
+-- `Scratch::charge` meets its contract: where the account has room, the place with the account that a charge leaves. Assumes nothing.
 use Rattle.std.proofs.Common.{ap, refl, sym, ◌∙◌, ◌≡◌}
 use Rattle.rules.specs.Job.{Place, figures}
 use Rattle.rules.specs.Step.{splice}
@@ -11,8 +11,8 @@ use Rattle.state.specs.Decoded.{place_row}
 use Rattle.state.specs.Changes.{charged_in}
 use Rattle.state.proofs.ChangesHold.{place_change, room_asked}
 use Rattle.state.specs.Charged.{charged_as, charged_fits}
-use Rattle.state.proofs.changes.charge.Goals as goal
-use Rattle.state.proofs.changes.charge.Goals.{After-take}
+use Rattle.state.proofs.Scratch.charge.Goals as goal
+use Rattle.state.proofs.Scratch.charge.Goals.{After-take}
 
 -- what the account of the store answered
 module _ (c : After-take) where
@@ -33,7 +33,7 @@ returns-in_default c =
       says =
           λ s t x d l.
           sym full
-          ∙ room_asked s a.c.now t x d (stands_for a.w) a.r a.size a.n old.result f.result l old.ensures f.ensures;
+          ∙ room_asked s a.self.now t x d (stands_for a.w) a.r a.size a.n old.result f.result l old.ensures f.ensures;
       taken = λ e. absurd (true_not_false e refl);
       refused = λ e. refl;
     }
@@ -52,13 +52,13 @@ returns c =
     record {
       says =
           λ s t x d l.
-          sym fits ∙ room_asked s a.c.now t x d w a.r a.size a.n old.result f.result l old.ensures f.ensures;
+          sym fits ∙ room_asked s a.self.now t x d w a.r a.size a.n old.result f.result l old.ensures f.ensures;
       taken =
           λ e t s x d l.
-          place_change s a.c.now t x d (charged_in w a.n) a.r old.result put.new.c l old.ensures
+          place_change s a.self.now t x d (charged_in w a.n) a.r old.result put.new.self l old.ensures
           (charged_fits w a.size a.n old.result f.result f.ensures old.ensures.fits fits c.requires.1)
           (put.ensures
-          ∙ ap (λ (p : Place). splice a.c.now (seat_at a.r) (place_row p))
+          ∙ ap (λ (p : Place). splice a.self.now (seat_at a.r) (place_row p))
           (charged_as w a.size a.n old.result f.result f.ensures c.in-Some.after fits (sym charged.1)));
       refused = λ e. absurd (true_not_false refl e);
     }

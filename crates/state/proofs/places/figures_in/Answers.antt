@@ -1,11 +1,11 @@
--- `state::places::figures_of` meets its contract: the two numbers that stand where the store's figures do. Assumes nothing.
+-- `state::places::figures_in` meets its contract: the two numbers that stand where the store's figures do. Assumes nothing.
 use Rattle.std.proofs.Common.{ap, sym, ℕ, ◌+◌, ◌∙◌, ◌≡◌}
 use Rattle.rules.specs.Job.{figures}
 use Rattle.account.specs.Stores.{stands_for}
 use Rattle.state.specs.Layout.{seat_at}
 use Rattle.state.specs.Decoded.{figures_in}
 use Rattle.state.specs.Places.{figures_are}
-use Rattle.state.proofs.places.figures_of.Goals as goal
+use Rattle.state.proofs.places.figures_in.Goals as goal
 
 pub returns : goal.returns
 unfolding figures

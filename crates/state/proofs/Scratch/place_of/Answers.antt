@@ -1,7 +1,7 @@
--- `state::places::place_of` meets its contract: what was read makes the place. Assumes nothing.
+-- `Scratch::place_of` meets its contract: what was read makes the place. Assumes nothing.
 use Rattle.rules.specs.Job.{place, account}
 use Rattle.account.specs.Stores.{stands_for}
-use Rattle.state.proofs.places.place_of.Goals as goal
+use Rattle.state.proofs.Scratch.place_of.Goals as goal
 
 pub returns : goal.returns
 unfolding place account stands_for

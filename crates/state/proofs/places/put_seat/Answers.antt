@@ -1,4 +1,4 @@
--- `state::places::put_place` meets its contract: three pairs of numbers side by side are the row. Assumes nothing.
+-- `state::places::put_seat` meets its contract: three pairs of numbers side by side are the row. Assumes nothing.
 use Rattle.std.proofs.Common.{List, [], ap, arith, cond, refl, ℕ, ◌++◌, ◌∙◌, ◌∷◌, ◌≡◌}
 use Rattle.rules.specs.Job.{figures, place}
 use Rattle.rules.specs.Step.{splice}
@@ -8,7 +8,7 @@ use Rattle.state.specs.Layout.{seat_at}
 use Rattle.state.specs.Decoded.{place_row}
 use Rattle.state.specs.Numbers.{bit_is}
 use Rattle.state.specs.Places.{waiting_bytes}
-use Rattle.state.proofs.places.put_place.Goals as goal
+use Rattle.state.proofs.places.put_seat.Goals as goal
 
 pub returns : goal.returns
 unfolding low_two figures place place_row
