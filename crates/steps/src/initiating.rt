@@ -8,7 +8,7 @@ ghost use Rattle.steps.specs.Initiate.{Begins};
 
 use crate::{matching, parts, sends};
 use sheet::ops;
-use state::{Control, Queue, changes, controls};
+use state::{Control, Queue, State, changes};
 
 // Nothing fits receive i of board r: it is pending.
 fn post(s: &[u8], c: &mut [u8], t: Control, r: usize, i: usize) -> Control
@@ -16,12 +16,13 @@ fn post(s: &[u8], c: &mut [u8], t: Control, r: usize, i: usize) -> Control
     ensures { Simulates s.entry.now c.old t c.new result (Unentered r i)
         (λ s x. initiated s r i (pend_receive i x)) }
 {
-    let u = changes::pend(c, t, Queue::Receives, i, 1);
+    let u = changes::pend(c, t, Queue::Receives, i, State::Pending);
     parts::initiate(s, c, u, r, i);
     u
 }
 
 // The list that an operation searches: a receive the pending messages, a send the posted receives.
+#[tactic(auto, unfolding(crate::specs::Pairing::searched))]
 fn searched(receives: bool) -> Queue
     ensures { result ≡ pairing_searched receives }
 {
@@ -40,13 +41,9 @@ pub fn begin(s: &[u8], c: &mut [u8], t: Control, r: usize, i: usize) -> Control
 {
     let receives = ops::is_receive(s, i);
     let list = searched(receives);
-    let count = controls::count(t, list);
-    let k = search::find(s, c, list, count, i);
-    if k < count {
-        return matching::pair(s, c, t, list, r, i, k);
+    match search::find(s, c, list, t.count(list), i) {
+        Some(k) => matching::pair(s, c, t, list, r, i, k),
+        None if receives => post(s, c, t, r, i),
+        None => sends::leave(s, c, t, r, i),
     }
-    if receives {
-        return post(s, c, t, r, i);
-    }
-    sends::leave(s, c, t, r, i)
 }

@@ -17,9 +17,9 @@ pub fn initiate(s: &[u8], c: &mut [u8], t: Control, r: usize, i: usize)
 {
     if ops::has_no_half(s, i) {
         changes::finish_one(c, r);
-        return;
+    } else {
+        changes::start_waiting(c, r);
     }
-    changes::start_waiting(c, r);
 }
 
 // A waiting half ends operation i of board r; the row of one that is only a waiting half then says so.
@@ -30,8 +30,6 @@ pub fn end_half(s: &[u8], c: &mut [u8], t: Control, r: usize, i: usize)
 {
     if ops::is_only_half(s, i) {
         telling::put_half_row(s, c, t, i);
-        changes::finish_one(c, r);
-        return;
     }
     changes::finish_one(c, r);
 }

@@ -3,6 +3,7 @@ use Rattle.std.proofs.Common.{ap, arith}
 use Rattle.rules.specs.Sheet.{sheet_in}
 use Rattle.rules.specs.Job.{Job}
 use Rattle.rules.specs.Step.{initiated}
+use Rattle.state.specs.Numbers.{state_number}
 use Rattle.state.specs.declared.Queue.TheVariants.{Messages}
 use Rattle.simulation.specs.Simulates.{simulates_as}
 use Rattle.steps.specs.Pairing.{pended_message}
@@ -19,10 +20,10 @@ pub initiate-requires : goal.initiate-requires
 initiate-requires c =
     let a = c.args in
     let p = c.requires in
-    (pended_holds Messages a.r a.i a.v c.pend-u.ensures p, p.fine.inside)
+    (pended_holds Messages a.r a.i (state_number a.state) c.pend-u.ensures p, p.fine.inside)
 
 pub returns : goal.returns
 returns c =
     let a = c.args in
-    simulates_as (λ x o. ap (λ (y : Job). initiated (sheet_in a.s.now) a.r a.i y) (pended_message a.i a.v x))
-    (pended_initiated Messages a.r a.i a.v c.pend-u.ensures c.initiate.ensures)
+    simulates_as (λ x o. ap (λ (y : Job). initiated (sheet_in a.s.now) a.r a.i y) (pended_message a.i (state_number a.state) x))
+    (pended_initiated Messages a.r a.i (state_number a.state) c.pend-u.ensures c.initiate.ensures)
