@@ -1,4 +1,6 @@
 // The header: field readers (document 01, "The sheet, byte by byte"), and the edition that its offsets tell (document 02, K6).
+#![tactic(auto, unfolding(rules::specs::Sheet::second_in))]
+
 ghost use Rattle.std.specs.Prelude.{◌≡◌, ◌<◌, length};
 ghost use Rattle.rules.specs.Sheet.{two, P_in, C_in, N_in, L_in, second_in};
 ghost use Rattle.words.specs.Read.{Word};

@@ -5,7 +5,9 @@
 
 pub mod boards;
 pub mod header;
+pub mod kind;
 pub mod ops;
+pub mod refusal;
 pub mod stores;
 
 // What a service answers: number 0 and place 0, or the number of a refusal and its place.

@@ -1,14 +1,18 @@
 // Operations by their index: field readers, and tests of their roles (document 01, "The sheet, byte by byte"). The sixteen bytes
 // of an operation are found from the header's own offset of the operation table.
+#![tactic(auto, unfolding(rules::specs::Sheet::is_send, rules::specs::Sheet::is_standard, rules::specs::Sheet::is_buffered, rules::specs::Sheet::is_ready, rules::specs::Sheet::is_receive, rules::specs::Sheet::is_wait, rules::specs::Sheet::is_probe, rules::specs::Sheet::is_query, rules::specs::Sheet::tells_message, rules::specs::Sheet::tells_completion, rules::specs::Sheet::tells, rules::specs::Sheet::selects, rules::specs::Sheet::only_half, rules::specs::Sheet::names_slot, rules::specs::Sheet::frees_slot, rules::specs::Sheet::is_nonblocking, rules::specs::Sheet::no_half, rules::specs::Sheet::takes_slot, rules::specs::Claims::is_any_source))]
+
 ghost use Rattle.std.specs.Prelude.{◌≡◌, ◌+◌, ◌<◌, length};
 ghost use Rattle.rules.specs.Sheet.{sheet_in, op, N_of, is_send, is_standard, is_buffered, is_ready, is_receive, only_half, no_half, takes_slot, names_slot, frees_slot};
 ghost use Rattle.rules.specs.Sheet.{tells_message, tells_completion, tells, selects};
 ghost use Rattle.rules.specs.Claims.{is_any_source};
 ghost use Rattle.laws.specs.Laid.{Laid};
 ghost use Rattle.sheet.specs.Fields.{OpAt};
+ghost use Rattle.sheet.specs.Kinds.{Names};
 ghost use Rattle.words.specs.Read.{Word, Byte};
 
 use crate::header;
+use crate::kind::{Kind, UnknownKind};
 
 // Where operation i stands.
 fn at(s: &[u8], i: usize) -> usize
@@ -19,11 +23,11 @@ fn at(s: &[u8], i: usize) -> usize
 }
 
 // Its kind, for the tests of roles below.
-pub fn kind(s: &[u8], i: usize) -> usize
+pub fn kind(s: &[u8], i: usize) -> Result<Kind, UnknownKind>
     requires { Laid s.now × (i < N_of (sheet_in s.now)) }
-    ensures { Byte (op (sheet_in s.now) i).kind result }
+    ensures { Names (op (sheet_in s.now) i).kind result }
 {
-    words::byte_at(s, at(s, i))
+    Kind::try_from(s[at(s, i)])
 }
 
 // Its flag: 0 blocking, 1 nonblocking.
@@ -95,8 +99,10 @@ pub fn is_send(s: &[u8], i: usize) -> bool
     requires { Laid s.now × (i < N_of (sheet_in s.now)) }
     ensures { result ≡ is_send (op (sheet_in s.now) i) }
 {
-    let k = kind(s, i);
-    (1 <= k) & (k <= 4)
+    matches!(
+        kind(s, i),
+        Ok(Kind::Standard | Kind::Buffered | Kind::Synchronous | Kind::Ready)
+    )
 }
 
 // A standard send.
@@ -104,7 +110,7 @@ pub fn is_standard(s: &[u8], i: usize) -> bool
     requires { Laid s.now × (i < N_of (sheet_in s.now)) }
     ensures { result ≡ is_standard (op (sheet_in s.now) i) }
 {
-    kind(s, i) == 1
+    matches!(kind(s, i), Ok(Kind::Standard))
 }
 
 // A buffered send.
@@ -112,7 +118,7 @@ pub fn is_buffered(s: &[u8], i: usize) -> bool
     requires { Laid s.now × (i < N_of (sheet_in s.now)) }
     ensures { result ≡ is_buffered (op (sheet_in s.now) i) }
 {
-    kind(s, i) == 2
+    matches!(kind(s, i), Ok(Kind::Buffered))
 }
 
 // A ready send.
@@ -120,7 +126,7 @@ pub fn is_ready(s: &[u8], i: usize) -> bool
     requires { Laid s.now × (i < N_of (sheet_in s.now)) }
     ensures { result ≡ is_ready (op (sheet_in s.now) i) }
 {
-    kind(s, i) == 4
+    matches!(kind(s, i), Ok(Kind::Ready))
 }
 
 // A receive.
@@ -128,7 +134,7 @@ pub fn is_receive(s: &[u8], i: usize) -> bool
     requires { Laid s.now × (i < N_of (sheet_in s.now)) }
     ensures { result ≡ is_receive (op (sheet_in s.now) i) }
 {
-    kind(s, i) == 5
+    matches!(kind(s, i), Ok(Kind::Receive))
 }
 
 // A receive or a probe from any source.
@@ -144,7 +150,7 @@ pub fn tells_message(s: &[u8], i: usize) -> bool
     requires { Laid s.now × (i < N_of (sheet_in s.now)) }
     ensures { result ≡ tells_message (op (sheet_in s.now) i) }
 {
-    kind(s, i) == 7
+    matches!(kind(s, i), Ok(Kind::Probe))
 }
 
 // Tells whether the operation that holds its slot is complete: a query.
@@ -152,7 +158,7 @@ pub fn tells_completion(s: &[u8], i: usize) -> bool
     requires { Laid s.now × (i < N_of (sheet_in s.now)) }
     ensures { result ≡ tells_completion (op (sheet_in s.now) i) }
 {
-    kind(s, i) == 8
+    matches!(kind(s, i), Ok(Kind::Query))
 }
 
 // Tells one or the other.
@@ -160,8 +166,7 @@ pub fn tells(s: &[u8], i: usize) -> bool
     requires { Laid s.now × (i < N_of (sheet_in s.now)) }
     ensures { result ≡ tells (op (sheet_in s.now) i) }
 {
-    let k = kind(s, i);
-    (k == 7) | (k == 8)
+    matches!(kind(s, i), Ok(Kind::Probe | Kind::Query))
 }
 
 // Names a source and a tag, or any, by which messages are selected.
@@ -169,8 +174,7 @@ pub fn selects(s: &[u8], i: usize) -> bool
     requires { Laid s.now × (i < N_of (sheet_in s.now)) }
     ensures { result ≡ selects (op (sheet_in s.now) i) }
 {
-    let k = kind(s, i);
-    (k == 5) | (k == 7)
+    matches!(kind(s, i), Ok(Kind::Receive | Kind::Probe))
 }
 
 // Only a waiting half: it has no initiating step.
@@ -178,8 +182,7 @@ pub fn is_only_half(s: &[u8], i: usize) -> bool
     requires { Laid s.now × (i < N_of (sheet_in s.now)) }
     ensures { result ≡ only_half (op (sheet_in s.now) i) }
 {
-    let k = kind(s, i);
-    (k == 6) | ((k == 7) | (k == 8))
+    matches!(kind(s, i), Ok(Kind::Wait | Kind::Probe | Kind::Query))
 }
 
 // Finished after its initiating step.
@@ -203,8 +206,7 @@ pub fn names_slot(s: &[u8], i: usize) -> bool
     requires { Laid s.now × (i < N_of (sheet_in s.now)) }
     ensures { result ≡ names_slot (op (sheet_in s.now) i) }
 {
-    let k = kind(s, i);
-    (k == 6) | (k == 8)
+    matches!(kind(s, i), Ok(Kind::Wait | Kind::Query))
 }
 
 // Frees the slot that it names, once the operation that took it is complete.
@@ -212,5 +214,5 @@ pub fn frees_slot(s: &[u8], i: usize) -> bool
     requires { Laid s.now × (i < N_of (sheet_in s.now)) }
     ensures { result ≡ frees_slot (op (sheet_in s.now) i) }
 {
-    kind(s, i) == 6
+    matches!(kind(s, i), Ok(Kind::Wait))
 }

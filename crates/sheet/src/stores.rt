@@ -1,5 +1,7 @@
 // What a sheet says of a board's two stores (document 02, K6): their sizes, which sends are kept in them, and what they are
 // charged there. One function each for both, by the store.
+#![tactic(auto, unfolding(rules::specs::Step::store_of, rules::specs::Step::kept_in, rules::specs::Step::size_of, rules::specs::Step::charge_of, account::specs::Stores::stands_for))]
+
 ghost use Rattle.std.specs.Prelude.{◌≡◌, ◌+◌, ◌<◌};
 ghost use Rattle.rules.specs.Sheet.{Op, sheet_in, op, board, P_of, N_of};
 ghost use Rattle.rules.specs.Step.{store_of, kept_in, size_of, charge_of};
