@@ -2,7 +2,7 @@
 // are chained by `?`. A service answers in numbers.
 ghost use Rattle.std.specs.Prelude.{◌≡◌, ◌<◌, ◌≤◌, ◌-◌, ℕ, Bool};
 ghost use Rattle.rules.specs.Refusal.{first_broken};
-ghost use Rattle.sheet.specs.Refused.{number_of, Refuses, Told, Tests};
+ghost use Rattle.sheet.specs.Refused.{number_of, Refuses, Told, KeptOr, Tests};
 
 use crate::Answer;
 
@@ -73,6 +73,17 @@ impl From<Result<(), Refusal>> for Answer {
     }
 }
 
+// The rule is kept, or it is broken at the place.
+pub fn ensure(kept: bool, rule: Rule, place: usize) -> Result<(), Refusal>
+    ensures { KeptOr kept rule place result }
+{
+    if kept {
+        Ok(())
+    } else {
+        Err(Refusal { rule, place })
+    }
+}
+
 // The first index from `from` to before `end` that doesn't keep the rule.
 pub fn first_broken<F: Fn(usize) -> bool>(
     from: usize,
@@ -85,9 +96,7 @@ pub fn first_broken<F: Fn(usize) -> bool>(
         → Refuses (first_broken (number_of rule) f (end - from) from) result }
 {
     for i in from..end {
-        if !keeps(i) {
-            return Err(Refusal { rule, place: i });
-        }
+        ensure(keeps(i), rule, i)?;
     }
     Ok(())
 }
