@@ -2,8 +2,10 @@
 #![tactic(auto, unfolding(rules::specs::Sheet::second_in))]
 
 ghost use Rattle.std.specs.Prelude.{◌≡◌, ◌<◌, length};
-ghost use Rattle.rules.specs.Sheet.{two, P_in, C_in, N_in, L_in, second_in};
+ghost use Rattle.rules.specs.Sheet.{two, sheet_in, P_in, C_in, N_in, L_in, P_of, N_of, second_in};
 ghost use Rattle.words.specs.Read.{Word};
+
+use crate::Sheet;
 
 // P, the number of boards.
 pub fn boards(s: &[u8]) -> usize
@@ -75,4 +77,48 @@ pub fn crc(s: &[u8]) -> usize
     ensures { Word (two s.now 14) result }
 {
     words::two_at(s, 14)
+}
+
+impl Sheet<'_> {
+    // P, the number of boards.
+    pub fn boards(&self) -> usize
+        ensures { Word (P_of (sheet_in self.now)) result }
+    {
+        boards(self.bytes)
+    }
+
+    // C, the number of communicators.
+    pub fn comms(&self) -> usize
+        ensures { Word (C_in self.now) result }
+    {
+        comms(self.bytes)
+    }
+
+    // N, the number of operations.
+    pub fn ops(&self) -> usize
+        ensures { Word (N_of (sheet_in self.now)) result }
+    {
+        ops(self.bytes)
+    }
+
+    // L, the number of payload bytes.
+    pub fn payload(&self) -> usize
+        ensures { Word (L_in self.now) result }
+    {
+        payload(self.bytes)
+    }
+
+    // Where the payload starts.
+    pub fn payload_offset(&self) -> usize
+        ensures { Word (two self.now 10) result }
+    {
+        payload_offset(self.bytes)
+    }
+
+    // The sheet is of the second edition.
+    pub fn is_second(&self) -> bool
+        ensures { result ≡ second_in self.now }
+    {
+        is_second(self.bytes)
+    }
 }

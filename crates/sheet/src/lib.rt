@@ -3,6 +3,11 @@
 // number a kind has.
 #![tactic(auto)]
 
+ghost use Rattle.std.specs.Prelude.{◌≡◌, List, ℕ};
+ghost use Rattle.laws.specs.Laid.{Laid};
+
+use std::marker::Model;
+
 pub mod boards;
 pub mod header;
 pub mod kind;
@@ -16,4 +21,35 @@ pub mod stores;
 pub struct Answer {
     pub number: u32,
     pub place: u64,
+}
+
+// A sheet whose header and tables are in place: what refusals 1 to 3 have settled of its bytes. Clauses see the bytes.
+#[derive(Drop)]
+pub struct Sheet<'a> {
+    bytes: &'a [u8],
+}
+
+impl<'a> Model for Sheet<'a> {
+    ghost Value = { List ℕ };
+
+    ghost view = { λ s. s.bytes.now };
+
+    ghost invariant = { λ s. Laid s.bytes.now };
+}
+
+impl<'a> Sheet<'a> {
+    // The sheet of bytes that are laid out as one.
+    pub fn new(bytes: &'a [u8]) -> Sheet<'a>
+        requires { Laid bytes.now }
+        ensures { result ≡ bytes.now }
+    {
+        Sheet { bytes }
+    }
+
+    // Its bytes.
+    pub fn bytes(&self) -> &'a [u8]
+        ensures { result.now ≡ self.now }
+    {
+        self.bytes
+    }
 }
