@@ -8,8 +8,8 @@
 --   passed_on, told_by        what `?` passes on
 --   chain_stops, chain_goes_on, accepts   of refusals in their order
 use Rattle.std.specs.Prelude.{◌≡◌, refl, Bool, true, false, ℕ, ◌<◌, ◌≤◌, Result, Ok, Err, MatchResult, IsErrAnd}
-use Rattle.std.proofs.Common.{sym, arith}
-use Rattle.rules.specs.Refusal.{Refusal, or_else}
+use Rattle.std.proofs.Common.{sym, subst₂, arith}
+use Rattle.rules.specs.Refusal.{Refusal, or_else, first_broken}
 use Rattle.rules.specs.Service.{Answers}
 use Rattle.laws.specs.Answers.{answers_number, or_else_told, or_else_next}
 use Rattle.sheet.specs.declared.Answer.{Answer}
@@ -97,3 +97,8 @@ module _ (a b : Refusal) (accepted : Refuses a (Ok tt)) where
 
   pub chain_goes_on : (r : Result Unit Refused) → Refuses b r → Refuses (or_else a b) r
   chain_goes_on r t = or_else_next a b 0 0 accepted refl (number_told r) (place_told r) t
+
+-- a search is the same from the same place on, over as many
+pub same_search : (n : ℕ) (f : ℕ → Bool) (r : Result Unit Refused) {left i k j : ℕ} → left ≡ k → i ≡ j
+    → Refuses (first_broken n f left i) r → Refuses (first_broken n f k j) r
+same_search n f r e d t = subst₂ (λ (x y : ℕ). Refuses (first_broken n f x y) r) e d t
