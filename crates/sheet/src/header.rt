@@ -88,8 +88,9 @@ impl Sheet<'_> {
     }
 
     // C, the number of communicators.
+    #[tactic(auto, unfolding(rules::specs::Sheet::sheet_in))]
     pub fn comms(&self) -> usize
-        ensures { Word (C_in self.now) result }
+        ensures { Word (sheet_in self.now).comms result }
     {
         comms(self.bytes)
     }
@@ -103,7 +104,7 @@ impl Sheet<'_> {
 
     // L, the number of payload bytes.
     pub fn payload(&self) -> usize
-        ensures { Word (L_in self.now) result }
+        ensures { Word (length (sheet_in self.now).payload) result }
     {
         payload(self.bytes)
     }

@@ -46,6 +46,13 @@ impl<'a> Sheet<'a> {
         Sheet { bytes }
     }
 
+    // What every sheet keeps. A caller learns it here, at no cost.
+    pub fn known(&self)
+        ensures { Laid self.now }
+    {
+        let _bytes = self.bytes;
+    }
+
     // Its bytes.
     pub fn bytes(&self) -> &'a [u8]
         ensures { result.now ≡ self.now }

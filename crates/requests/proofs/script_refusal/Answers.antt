@@ -12,8 +12,8 @@ use Rattle.requests.proofs.script_refusal.Goals.{In-loop-i}
 pub loop-i-init : goal.loop-i-init
 loop-i-init c =
     let s = sheet_in c.args.s.now in (
-      searched_none c.requires.1 c.requires.3 c.first-first.ensures.is (omega arith),
-      kept_none s c.requires.1.consecutive c.args.r c.first-first.result c.requires.3 c.first-first.ensures.is,
+      searched_none c.requires.0 c.requires.2 c.first-first.ensures.is (omega arith),
+      kept_none s c.requires.0.consecutive c.args.r c.first-first.result c.requires.2 c.first-first.ensures.is,
     )
 
 -- what is known of operation i inside the loop
@@ -25,7 +25,7 @@ module _ (c : In-loop-i) where
   ranked = searched_rank c.loop-i.invariant.0 c.loop-i-test.true
 
   there : (j : ℕ) → j < N_of (sheet_in c.args.s.now) → Slotted (op (sheet_in c.args.s.now) j)
-  there = slotted c.args.s.now c.requires.0 c.requires.1 c.requires.2
+  there = slotted c.args.s.now c.known.ensures c.requires.0 c.requires.1
 
   -- the table's answer is rule 7's
   answered : table_good c.loop-i.starts c.loop-i.ends (op (sheet_in c.args.s.now) c.loop-i.i) ≡ request_good (sheet_in c.args.s.now) c.loop-i.i
@@ -34,7 +34,7 @@ module _ (c : In-loop-i) where
 pub table_is_good-requires : goal.table_is_good-requires
 table_is_good-requires c =
     let d = (goal.at.table_is_good-requires c).In-loop-i in
-    (c.requires.0, inside d, there d _ (inside d))
+    (inside d, there d _ (inside d))
 
 pub returns-then-not-table_is_good : goal.returns-then-not-table_is_good
 returns-then-not-table_is_good c =
@@ -44,7 +44,7 @@ returns-then-not-table_is_good c =
 pub note-requires : goal.note-requires
 note-requires c =
     let d = (goal.at.note-requires c).In-loop-i in
-    (c.requires.0, inside d, there d _ (inside d))
+    (inside d, there d _ (inside d))
 
 pub loop-i-preserved : goal.loop-i-preserved
 loop-i-preserved c =

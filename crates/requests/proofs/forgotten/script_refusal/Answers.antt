@@ -8,11 +8,11 @@ use Rattle.requests.proofs.forgotten.script_refusal.Goals as goal
 use Rattle.requests.proofs.forgotten.script_refusal.Goals.{In-loop-i}
 
 pub loop-i-init : goal.loop-i-init
-loop-i-init c = walked_none (sheet_in c.args.s.now) c.requires.1 c.args.r _ c.requires.3 (omega arith)
+loop-i-init c = walked_none (sheet_in c.args.s.now) c.requires.0 c.args.r _ c.requires.2 (omega arith)
 
 -- what refusal 6 has settled of that operation
 there : (c : In-loop-i) → Slotted (op (sheet_in c.args.s.now) (c.loop-i.i - 1))
-there c = slotted c.args.s.now c.requires.0 c.requires.1 c.requires.2 (c.loop-i.i - 1) (omega arith)
+there c = slotted c.args.s.now c.known.ensures c.requires.0 c.requires.1 (c.loop-i.i - 1) (omega arith)
 
 pub bounds-freed-slot : goal.bounds-freed-slot
 bounds-freed-slot c = omega (arith, (there (goal.at.bounds-freed-slot c).In-loop-i).slot_small)
