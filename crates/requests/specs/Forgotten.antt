@@ -1,7 +1,7 @@
 -- Forgotten requests as a walk over a script from its end to its front. At operation i it is known which slots are freed from
 -- there on, and what the search from there on answers: both definitions recurse from the front, so that the walk takes one turn
 -- of each. Assumes nothing.
-use Rattle.std.specs.Prelude.{◌≡◌, Bool, ◌&&◌, ◌||◌, cond, List, eqb, length, get_or, set, replicate}
+use Rattle.std.specs.Prelude.{◌≡◌, Bool, ◌&&◌, ◌||◌, cond, List, eqb, length, get_or, set, replicate, Result, Ok, Err}
 use Rattle.std.proofs.Math.Path.{refl, ap, subst}
 use Rattle.std.proofs.Common.{sym, ◌∙◌, ap₂, arith, length-set, get_or-set_same, get_or-set_other, eq-eqb, ne_eqb}
 use Rattle.std.proofs.Math.Bool.{true, false, not}
@@ -11,7 +11,9 @@ use Rattle.std.proofs.lemmas.List.{length-replicate, get_or-replicate}
 use Rattle.rules.specs.Limits.{slot_limit}
 use Rattle.rules.specs.Sheet.{Sheet, op, board, P_of, N_of, rank_of, takes_slot, frees_slot}
 use Rattle.rules.specs.Refusal.{refusal, first_broken, freed, slot_freed}
-use Rattle.rules.specs.Service.{Answers}
+use Rattle.sheet.specs.declared.refusal.Refusal.{Refusal as Refused}
+use Rattle.sheet.specs.declared.refusal.Rule.TheVariants.{Requests}
+use Rattle.sheet.specs.Refused.{Refuses}
 use Rattle.laws.specs.Answers.{told_is}
 use Rattle.laws.specs.Broken.{broken_none}
 use Rattle.laws.specs.Ranks.{rank_in_script}
@@ -23,21 +25,26 @@ abbrev pub script_end : Sheet → (r : ℕ) → ℕ
 script_end s r = (board s r).first + (board s r).count
 
 -- what the search answers from operation i on
-abbrev pub AnsweredFrom : Sheet → (r i number place : ℕ) → Type 0
-AnsweredFrom s r i n p = Answers (first_broken 7 (slot_freed s) (script_end s r - i) i) n p
+abbrev pub AnsweredFrom : Sheet → (r i : ℕ) → Result Unit Refused → Type 0
+AnsweredFrom s r i said = Refuses (first_broken 7 (slot_freed s) (script_end s r - i) i) said
+
+-- operation j is refused
+abbrev pub refused_at : (j : ℕ) → Result Unit Refused
+refused_at j = Err (record { rule = Requests; place = j })
 
 -- the walk over the script of board r has come down to operation i
-pub record Walked (s : Sheet) (r i : ℕ) (known : List Bool) (number place : ℕ) : Type 0 where
+pub record Walked (s : Sheet) (r i : ℕ) (known : List Bool) (said : Result Unit Refused) : Type 0 where
   pub tabled : Tabled s
   pub ranked : r < P_of s
   pub lower : (board s r).first ≤ i
   pub upper : i ≤ script_end s r
+  pub inside : script_end s r ≤ N_of s
   pub long : length known ≡ slot_limit
   pub freed_is : (k : ℕ) → k < slot_limit → get_or known k false ≡ freed s (script_end s r - i) i k
-  pub told : AnsweredFrom s r i number place
+  pub told : AnsweredFrom s r i said
 
 -- behind the script nothing is freed, and nothing is refused
-pub walked_none : (s : Sheet) → Tabled s → (r i : ℕ) → r < P_of s → i ≡ script_end s r → Walked s r i (replicate slot_limit false) 0 0
+pub walked_none : (s : Sheet) → Tabled s → (r i : ℕ) → r < P_of s → i ≡ script_end s r → Walked s r i (replicate slot_limit false) (Ok tt)
 unfolding freed
 walked_none s t r i l e =
     let none : script_end s r - i ≡ 0 = omega arith in
@@ -46,6 +53,7 @@ walked_none s t r i l e =
       ranked = l;
       lower = omega arith;
       upper = omega arith;
+      inside = script_inside s t r l;
       long = length-replicate {A = Bool} slot_limit false;
       freed_is = λ k l. get_or-replicate {A = Bool} slot_limit k false false l ∙ ap (λ (n : ℕ). freed s n i k) (sym none);
       told =
@@ -54,12 +62,12 @@ walked_none s t r i l e =
     }
 
 -- one operation more: the one before i is an operation of the sheet, and of board r
-module _ {s : Sheet} {r i : ℕ} {known : List Bool} {number place : ℕ} (w : Walked s r i known number place) (more : (board s r).first < i) where
+module _ {s : Sheet} {r i : ℕ} {known : List Bool} {said : Result Unit Refused} (w : Walked s r i known said) (more : (board s r).first < i) where
   abbrev j : ℕ
   j = i - 1
 
   pub walked_inside : i - 1 < N_of s
-  walked_inside = omega (arith, w.upper, script_inside s w.tabled r w.ranked)
+  walked_inside = omega (arith, w.upper, w.inside)
 
   walked_rank : rank_of s (i - 1) ≡ r
   walked_rank = rank_in_script s w.tabled.consecutive r j w.ranked (omega arith) (omega (arith, w.upper))
@@ -122,26 +130,26 @@ module _ {s : Sheet} {r i : ℕ} {known : List Bool} {number place : ℕ} (w : W
         turned true false = refl
         turned false b = refl
 
-    told_now : AnsweredFrom s r j (cond forgotten 7 number) (cond forgotten j place)
+    told_now : AnsweredFrom s r j (cond forgotten (refused_at j) said)
     unfolding first_broken
-    told_now = subst (λ (n : ℕ). Answers (first_broken 7 (slot_freed s) n j) (cond forgotten 7 number) (cond forgotten j place)) (sym left) here
+    told_now = subst (λ (n : ℕ). Refuses (first_broken 7 (slot_freed s) n j) (cond forgotten (refused_at j) said)) (sym left) here
       where
-        behind : Answers (first_broken 7 (slot_freed s) (script_end s r - suc j) (suc j)) number place
-        behind = subst (λ (n : ℕ). Answers (first_broken 7 (slot_freed s) (script_end s r - n) n) number place) next w.told
+        behind : Refuses (first_broken 7 (slot_freed s) (script_end s r - suc j) (suc j)) said
+        behind = subst (λ (n : ℕ). Refuses (first_broken 7 (slot_freed s) (script_end s r - n) n) said) next w.told
 
         go : (b : Bool)
-            → Answers (cond (not b) (first_broken 7 (slot_freed s) (script_end s r - suc j) (suc j)) (refusal 7 j))
-            (cond b 7 number) (cond b j place)
+            → Refuses (cond (not b) (first_broken 7 (slot_freed s) (script_end s r - suc j) (suc j)) (refusal 7 j))
+            (cond b (refused_at j) said)
         go true = told_is (refusal 7 j) 7 j refl
         go false = behind
 
-        here : Answers (first_broken 7 (slot_freed s) (suc (script_end s r - suc j)) j) (cond forgotten 7 number) (cond forgotten j place)
+        here : Refuses (first_broken 7 (slot_freed s) (suc (script_end s r - suc j)) j) (cond forgotten (refused_at j) said)
         here =
-            subst (λ (b : Bool). Answers (cond b (first_broken 7 (slot_freed s) (script_end s r - suc j) (suc j)) (refusal 7 j))
-            (cond forgotten 7 number) (cond forgotten j place)) (sym rule_is) (go forgotten)
+            subst (λ (b : Bool). Refuses (cond b (first_broken 7 (slot_freed s) (script_end s r - suc j) (suc j)) (refusal 7 j))
+            (cond forgotten (refused_at j) said)) (sym rule_is) (go forgotten)
 
     -- THREE WAYS: j frees its slot, and takes none; it is forgotten, and told; neither
-    pub walked_freed : frees_slot (op s j) ≡ true → Walked s r j (set known slot true) number place
+    pub walked_freed : frees_slot (op s j) ≡ true → Walked s r j (set known slot true) said
     walked_freed f =
         let Takes_none = o.roles.named_takes_none (o.roles.frees_named f) in
         let kept : forgotten ≡ false = ap (λ (b : Bool). b && not (get_or known slot false)) Takes_none in
@@ -150,35 +158,37 @@ module _ {s : Sheet} {r i : ℕ} {known : List Bool} {number place : ℕ} (w : W
           ranked = w.ranked;
           lower = omega arith;
           upper = omega (arith, w.upper);
+          inside = w.inside;
           long = length-set known slot true ∙ w.long;
           freed_is = noted_freed f;
-          told = subst (λ (b : Bool). AnsweredFrom s r j (cond b 7 number) (cond b j place)) kept told_now;
+          told = subst (λ (b : Bool). AnsweredFrom s r j (cond b (refused_at j) said)) kept told_now;
         }
 
     module _ (f : frees_slot (op s j) ≡ false) where
-      walked_same : (b : Bool) → forgotten ≡ b → Walked s r j known (cond b 7 number) (cond b j place)
+      walked_same : (b : Bool) → forgotten ≡ b → Walked s r j known (cond b (refused_at j) said)
       walked_same b e =
           record {
             tabled = w.tabled;
             ranked = w.ranked;
             lower = omega arith;
             upper = omega (arith, w.upper);
+            inside = w.inside;
             long = w.long;
             freed_is = noted_same f;
-            told = subst (λ (b : Bool). AnsweredFrom s r j (cond b 7 number) (cond b j place)) e told_now;
+            told = subst (λ (b : Bool). AnsweredFrom s r j (cond b (refused_at j) said)) e told_now;
           }
 
-      pub walked_forgotten : forgotten ≡ true → Walked s r j known 7 j
+      pub walked_forgotten : forgotten ≡ true → Walked s r j known (refused_at j)
       walked_forgotten e = walked_same true e
 
-      pub walked_on : forgotten ≡ false → Walked s r j known number place
+      pub walked_on : forgotten ≡ false → Walked s r j known said
       walked_on e = walked_same false e
 
 -- at the front of the script the walk answers for all of it
-pub walked_all : {s : Sheet} {r i : ℕ} {known : List Bool} {number place : ℕ} → Walked s r i known number place →
-    i ≤ (board s r).first → Answers (first_broken 7 (slot_freed s) (board s r).count (board s r).first) number place
-walked_all {s} {r} {i} {known} {number} {place} w l =
+pub walked_all : {s : Sheet} {r i : ℕ} {known : List Bool} {said : Result Unit Refused} → Walked s r i known said →
+    i ≤ (board s r).first → Refuses (first_broken 7 (slot_freed s) (board s r).count (board s r).first) said
+walked_all {s} {r} {i} {known} {said} w l =
     let at : i ≡ (board s r).first = omega (arith, w.lower) in
     let all : script_end s r - (board s r).first ≡ (board s r).count = omega arith in
-    subst (λ (n : ℕ). Answers (first_broken 7 (slot_freed s) n (board s r).first) number place) all
-    (subst (λ (n : ℕ). Answers (first_broken 7 (slot_freed s) (script_end s r - n) n) number place) at w.told)
+    subst (λ (n : ℕ). Refuses (first_broken 7 (slot_freed s) n (board s r).first) said) all
+    (subst (λ (n : ℕ). Refuses (first_broken 7 (slot_freed s) (script_end s r - n) n) said) at w.told)

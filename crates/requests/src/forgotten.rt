@@ -3,38 +3,34 @@
 ghost use Rattle.std.specs.Prelude.{◌<◌};
 ghost use Rattle.rules.specs.Sheet.{sheet_in, P_of};
 ghost use Rattle.rules.specs.Refusal.{slot_freed};
-ghost use Rattle.rules.specs.Service.{Answers};
-ghost use Rattle.laws.specs.Laid.{Laid};
+ghost use Rattle.sheet.specs.Refused.{Refuses};
 ghost use Rattle.laws.specs.Tabled.{Tabled};
 ghost use Rattle.laws.specs.Fields.{Fielded};
 ghost use Rattle.laws.specs.Scripts.{script_broken};
 
-use sheet::{Answer, boards, ops};
+use sheet::refusal::{Refusal, Rule};
+use sheet::Sheet;
 
 // The first operation of board r's script that takes a slot which nothing behind it frees. The table is written only where a
 // slot is freed: with a store in each turn, each would wait for the one before.
-pub fn script_refusal(s: &[u8], r: usize) -> Answer
-    requires { Laid s.now × Tabled (sheet_in s.now) × Fielded (sheet_in s.now) × (r < P_of (sheet_in s.now)) }
-    ensures { Answers (script_broken 7 (slot_freed (sheet_in s.now)) (sheet_in s.now) r)
-        result.number result.place }
+pub fn script_refusal(s: &Sheet, r: usize) -> Result<(), Refusal>
+    requires { Tabled (sheet_in s.now) × Fielded (sheet_in s.now) × (r < P_of (sheet_in s.now)) }
+    ensures { Refuses (script_broken 7 (slot_freed (sheet_in s.now)) (sheet_in s.now) r) result }
 {
-    let first = boards::first(s, r);
+    s.known();
+    let first = s.first(r);
     let mut freed = [false; limits::SLOT_LIMIT];
-    let mut number: u32 = 0;
-    let mut place: u64 = 0;
-    let mut i = first + boards::count(s, r);
-    while first < i {
-        i -= 1;
-        let slot = ops::slot(s, i);
-        if ops::frees_slot(s, i) {
+    let mut found = Ok(());
+    for i in (first..first + s.count(r)).rev() {
+        let slot = s.slot(i);
+        if s.frees_slot(i) {
             freed[slot] = true;
-        } else if ops::takes_slot(s, i) & !freed[slot] {
-            number = 7;
-            place = i as u64;
+        } else if s.takes_slot(i) & !freed[slot] {
+            found = Err(Refusal {
+                rule: Rule::Requests,
+                place: i,
+            });
         }
     }
-    Answer {
-        number: number,
-        place: place,
-    }
+    found
 }

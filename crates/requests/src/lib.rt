@@ -6,8 +6,7 @@ ghost use Rattle.std.specs.Prelude.{◌≡◌, ◌<◌};
 ghost use Rattle.rules.specs.Limits.{slot_limit};
 ghost use Rattle.rules.specs.Sheet.{sheet_in, op, P_of, N_of};
 ghost use Rattle.rules.specs.Refusal.{some_below, request_good};
-ghost use Rattle.rules.specs.Service.{Answers};
-ghost use Rattle.laws.specs.Laid.{Laid};
+ghost use Rattle.sheet.specs.Refused.{Refuses};
 ghost use Rattle.laws.specs.Tabled.{Tabled};
 ghost use Rattle.laws.specs.Fields.{Fielded};
 ghost use Rattle.laws.specs.Scripts.{script_broken};
@@ -15,9 +14,10 @@ ghost use Rattle.requests.specs.Slots.{hit, table_good, starts_after, ends_after
 
 pub mod forgotten;
 
-use sheet::{Answer, boards, ops};
+use sheet::refusal::{Refusal, Rule};
+use sheet::Sheet;
 
-// The start of a slot that nobody holds.
+// The start of a slot that nobody holds: a number and no Option, so that `any_hit` compares every row in the same way.
 const FREE: u16 = limits::ABSENT as u16;
 
 // Whether the stretch from `from` to before `to` shares a byte with the area of a held slot. Every row is compared and none
@@ -31,93 +31,81 @@ fn any_hit(
     ensures { result ≡ some_below slot_limit (hit starts.now ends.now from to) }
 {
     let mut found = false;
-    let mut k = 0;
-    while k < limits::SLOT_LIMIT {
-        found = ((from < ends[k]) & (starts[k] < to)) | found;
-        k += 1;
+    for k in 0..limits::SLOT_LIMIT {
+        found |= (from < ends[k]) & (starts[k] < to);
     }
     found
 }
 
 // What operation i asks of the table: if it names a slot, that the slot is taken; if it takes one, that the slot is free; if it
 // is a receive, that its area is.
+#[tactic(auto, unfolding(crate::specs::Slots::table_good, crate::specs::Slots::slot_taken, crate::specs::Slots::some_hit, crate::specs::Slots::has_area))]
 fn table_is_good(
-    s: &[u8],
+    s: &Sheet,
     i: usize,
     starts: &[u16; limits::SLOT_LIMIT],
     ends: &[u16; limits::SLOT_LIMIT],
 ) -> bool
-    requires { Laid s.now × (i < N_of (sheet_in s.now)) × Slotted (op (sheet_in s.now) i) }
+    requires { (i < N_of (sheet_in s.now)) × Slotted (op (sheet_in s.now) i) }
     ensures { result ≡ table_good starts.now ends.now (op (sheet_in s.now) i) }
 {
-    let taken = starts[ops::slot(s, i)] != FREE;
-    if ops::names_slot(s, i) {
+    let taken = starts[s.slot(i)] != FREE;
+    if s.names_slot(i) {
         return taken;
     }
-    if ops::takes_slot(s, i) & taken {
+    if s.takes_slot(i) && taken {
         return false;
     }
-    let from = ops::offset(s, i);
-    let capacity = ops::long(s, i);
-    if ops::is_receive(s, i) & (0 < capacity) {
-        return !any_hit(starts, ends, from as u16, (from + capacity) as u16);
-    }
-    true
+    let from = s.offset(i);
+    let capacity = s.long(i);
+    !(s.is_receive(i)
+        && 0 < capacity
+        && any_hit(starts, ends, from as u16, (from + capacity) as u16))
 }
 
 // What operation i leaves in the table: its slot free if it frees it; if it takes it, with its area there.
+#[tactic(auto, unfolding(crate::specs::Slots::starts_after, crate::specs::Slots::ends_after, crate::specs::Slots::area_from, crate::specs::Slots::area_to, crate::specs::Slots::has_area))]
 fn note(
-    s: &[u8],
+    s: &Sheet,
     i: usize,
     starts: &mut [u16; limits::SLOT_LIMIT],
     ends: &mut [u16; limits::SLOT_LIMIT],
 )
-    requires { Laid s.now × (i < N_of (sheet_in s.now)) × Slotted (op (sheet_in s.now) i) }
+    requires { (i < N_of (sheet_in s.now)) × Slotted (op (sheet_in s.now) i) }
     ensures { (starts.new ≡ starts_after (op (sheet_in s.now) i) starts.old)
         × (ends.new ≡ ends_after (op (sheet_in s.now) i) ends.old) }
 {
-    let slot = ops::slot(s, i);
-    if ops::frees_slot(s, i) {
-        starts[slot] = FREE;
-        ends[slot] = 0;
-        return;
+    let slot = s.slot(i);
+    if s.frees_slot(i) {
+        (starts[slot], ends[slot]) = (FREE, 0);
+    } else if s.takes_slot(i) {
+        let from = s.offset(i);
+        let size = s.long(i);
+        (starts[slot], ends[slot]) = if s.is_receive(i) && 0 < size {
+            (from as u16, (from + size) as u16)
+        } else {
+            (0, 0)
+        };
     }
-    if !ops::takes_slot(s, i) {
-        return;
-    }
-    let from = ops::offset(s, i);
-    let size = ops::long(s, i);
-    if ops::is_receive(s, i) & (0 < size) {
-        starts[slot] = from as u16;
-        ends[slot] = (from + size) as u16;
-        return;
-    }
-    starts[slot] = 0;
-    ends[slot] = 0;
 }
 
 // Refusal 7 in the script of board r.
-pub fn script_refusal(s: &[u8], r: usize) -> Answer
-    requires { Laid s.now × Tabled (sheet_in s.now) × Fielded (sheet_in s.now) × (r < P_of (sheet_in s.now)) }
-    ensures { Answers (script_broken 7 (request_good (sheet_in s.now)) (sheet_in s.now) r)
-        result.number result.place }
+pub fn script_refusal(s: &Sheet, r: usize) -> Result<(), Refusal>
+    requires { Tabled (sheet_in s.now) × Fielded (sheet_in s.now) × (r < P_of (sheet_in s.now)) }
+    ensures { Refuses (script_broken 7 (request_good (sheet_in s.now)) (sheet_in s.now) r) result }
 {
+    s.known();
     let mut starts = [FREE; limits::SLOT_LIMIT];
     let mut ends = [0u16; limits::SLOT_LIMIT];
-    let mut i = boards::first(s, r);
-    let end = i + boards::count(s, r);
-    while i < end {
+    let first = s.first(r);
+    for i in first..first + s.count(r) {
         if !table_is_good(s, i, &starts, &ends) {
-            return Answer {
-                number: 7,
-                place: i as u64,
-            };
+            return Err(Refusal {
+                rule: Rule::Requests,
+                place: i,
+            });
         }
         note(s, i, &mut starts, &mut ends);
-        i += 1;
     }
-    Answer {
-        number: 0,
-        place: 0,
-    }
+    Ok(())
 }

@@ -1,7 +1,11 @@
 // The header: field readers (document 01, "The sheet, byte by byte"), and the edition that its offsets tell (document 02, K6).
+#![tactic(auto, unfolding(rules::specs::Sheet::second_in))]
+
 ghost use Rattle.std.specs.Prelude.{◌≡◌, ◌<◌, length};
-ghost use Rattle.rules.specs.Sheet.{two, P_in, C_in, N_in, L_in, second_in};
+ghost use Rattle.rules.specs.Sheet.{two, sheet_in, P_in, C_in, N_in, L_in, P_of, N_of, second_in};
 ghost use Rattle.words.specs.Read.{Word};
+
+use crate::Sheet;
 
 // P, the number of boards.
 pub fn boards(s: &[u8]) -> usize
@@ -73,4 +77,49 @@ pub fn crc(s: &[u8]) -> usize
     ensures { Word (two s.now 14) result }
 {
     words::two_at(s, 14)
+}
+
+impl Sheet<'_> {
+    // P, the number of boards.
+    pub fn boards(&self) -> usize
+        ensures { Word (P_of (sheet_in self.now)) result }
+    {
+        boards(self.bytes)
+    }
+
+    // C, the number of communicators.
+    #[tactic(auto, unfolding(rules::specs::Sheet::sheet_in))]
+    pub fn comms(&self) -> usize
+        ensures { Word (sheet_in self.now).comms result }
+    {
+        comms(self.bytes)
+    }
+
+    // N, the number of operations.
+    pub fn ops(&self) -> usize
+        ensures { Word (N_of (sheet_in self.now)) result }
+    {
+        ops(self.bytes)
+    }
+
+    // L, the number of payload bytes.
+    pub fn payload(&self) -> usize
+        ensures { Word (length (sheet_in self.now).payload) result }
+    {
+        payload(self.bytes)
+    }
+
+    // Where the payload starts.
+    pub fn payload_offset(&self) -> usize
+        ensures { Word (two self.now 10) result }
+    {
+        payload_offset(self.bytes)
+    }
+
+    // The sheet is of the second edition.
+    pub fn is_second(&self) -> bool
+        ensures { result ≡ second_in self.now }
+    {
+        is_second(self.bytes)
+    }
 }

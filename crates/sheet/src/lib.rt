@@ -3,9 +3,16 @@
 // number a kind has.
 #![tactic(auto)]
 
+ghost use Rattle.std.specs.Prelude.{◌≡◌, List, ℕ};
+ghost use Rattle.laws.specs.Laid.{Laid};
+
+use std::marker::Model;
+
 pub mod boards;
 pub mod header;
+pub mod kind;
 pub mod ops;
+pub mod refusal;
 pub mod stores;
 
 // What a service answers: number 0 and place 0, or the number of a refusal and its place.
@@ -14,4 +21,42 @@ pub mod stores;
 pub struct Answer {
     pub number: u32,
     pub place: u64,
+}
+
+// A sheet whose header and tables are in place: what refusals 1 to 3 have settled of its bytes. Clauses see the bytes.
+#[derive(Drop)]
+pub struct Sheet<'a> {
+    bytes: &'a [u8],
+}
+
+impl<'a> Model for Sheet<'a> {
+    ghost Value = { List ℕ };
+
+    ghost view = { λ s. s.bytes.now };
+
+    ghost invariant = { λ s. Laid s.bytes.now };
+}
+
+impl<'a> Sheet<'a> {
+    // The sheet of bytes that are laid out as one.
+    pub fn new(bytes: &'a [u8]) -> Sheet<'a>
+        requires { Laid bytes.now }
+        ensures { result ≡ bytes.now }
+    {
+        Sheet { bytes }
+    }
+
+    // What every sheet keeps. A caller learns it here, at no cost.
+    pub fn known(&self)
+        ensures { Laid self.now }
+    {
+        let _bytes = self.bytes;
+    }
+
+    // Its bytes.
+    pub fn bytes(&self) -> &'a [u8]
+        ensures { result.now ≡ self.now }
+    {
+        self.bytes
+    }
 }

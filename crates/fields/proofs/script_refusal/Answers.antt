@@ -1,51 +1,32 @@
--- `fields::script_refusal` meets its contract. The loop's invariant: the search inside the script has come to operation i.
--- The measure is how many operations of the script are left. Assumes nothing.
-use Rattle.std.proofs.Common.{ap, arith, not, ◌≡◌}
-use Rattle.rules.specs.Sheet.{sheet_in}
-use Rattle.rules.specs.Refusal.{op_good, room_for}
-use Rattle.laws.specs.Decoded.{comms_decoded}
-use Rattle.laws.specs.Scripts.{searched_none, searched_inside, searched_rank, searched_more, searched_bad, searched_all}
+-- `fields::script_refusal` meets its contract: what the closure tests is the definition's test of an operation. Assumes nothing.
+use Rattle.std.proofs.Common.{ap, ap₂, arith, cond, rules, sym, ℕ, ◌≡◌, ◌<◌, ◌∙◌}
+use Rattle.rules.specs.Sheet.{sheet_in, N_of, P_of, op, board, rank_of, is_receive}
+use Rattle.rules.specs.Refusal.{op_good, room_for, fields_good}
+use Rattle.laws.specs.Ranks.{rank_in_script}
+use Rattle.laws.specs.Scripts.{script_inside}
+use Rattle.sheet.specs.Refused.{same_search}
 use Rattle.fields.proofs.script_refusal.Goals as goal
-use Rattle.fields.proofs.script_refusal.Goals.{After-fields_are_good, Start}
 
-pub loop-i-init : goal.loop-i-init
-loop-i-init c =
-    searched_none c.requires.1 c.requires.2 c.first-i.ensures.is (omega arith)
-
-pub room-requires : goal.room-requires
-room-requires c = (
-  c.requires.0,
-  searched_inside c.loop-i.invariant c.loop-i-test.true,
-)
-
-pub fields_are_good-requires : goal.fields_are_good-requires
-fields_are_good-requires c = (
-  c.requires.0,
-  searched_inside c.loop-i.invariant c.loop-i-test.true,
-)
-
--- what the test of the fields says is the definition's
-module _ (c : After-fields_are_good) where
-  tested : c.fields_are_good.result ≡ op_good (sheet_in c.args.s.now) c.loop-i.i
-  unfolding op_good room_for
-  tested = cc (comms_decoded c.args.s.now, searched_rank c.loop-i.invariant c.loop-i-test.true)
-
-pub returns-then-not-fields_are_good : goal.returns-then-not-fields_are_good
-returns-then-not-fields_are_good c =
-    searched_bad c.loop-i.invariant c.loop-i-test.true (tested (goal.at.returns-then-not-fields_are_good c).After-fields_are_good) (ap not c.if-not-fields_are_good.true)
-
-pub loop-i-preserved : goal.loop-i-preserved
-loop-i-preserved c =
-    searched_more c.loop-i.invariant c.loop-i-test.true (tested (goal.at.loop-i-preserved c).After-fields_are_good) (ap not c.if-not-fields_are_good.false)
+pub first_broken-requires : goal.first_broken-requires
+first_broken-requires c =
+    let inside = script_inside (sheet_in c.args.s.now) c.requires.0 c.args.r c.requires.1 in
+    λ i l h.
+    let small : i < N_of (sheet_in c.args.s.now) = omega arith in
+    search rules
 
 pub returns : goal.returns
-returns c = searched_all c.loop-i.invariant c.loop-i-test.false
-
-pub overflow_add-end : goal.overflow_add-end
-overflow_add-end c = omega arith
-
-pub overflow_add-i : goal.overflow_add-i
-overflow_add-i c = omega arith
-
-pub loop-i-smaller : goal.loop-i-smaller
-loop-i-smaller c = omega arith
+unfolding op_good room_for
+returns c =
+    let s = sheet_in c.args.s.now in
+    same_search 6 (op_good s) c.first_broken.result (omega arith) c.first-first.ensures.is
+    (c.first_broken.ensures (op_good s)
+    (λ i l h b p.
+    let o = op s i in
+    let room = cond (is_receive o) c.inbox-inbox.result c.payload-payload.result in
+    let told : b ≡ fields_good c.boards-p.result c.comms-comms.result room o = search rules in
+    let rank : rank_of s i ≡ c.args.r = rank_in_script s c.requires.0.consecutive c.args.r i c.requires.1 (omega arith) (omega arith) in
+    told
+    ∙ (ap (λ (p : ℕ). fields_good p c.comms-comms.result room o) c.boards-p.ensures.is
+    ∙ (ap (λ (m : ℕ). fields_good (P_of s) m room o) c.comms-comms.ensures.is
+    ∙ ap (λ (k : ℕ). fields_good (P_of s) s.comms k o)
+    (ap₂ (λ (m k : ℕ). cond (is_receive o) m k) (c.inbox-inbox.ensures.is ∙ ap (λ (q : ℕ). (board s q).inbox) (sym rank)) c.payload-payload.ensures.is)))))

@@ -1,12 +1,8 @@
--- The invariant and the measure of `requests::any_hit`.
-use Rattle.std.proofs.Common.{◌-◌, ◌≡◌, ◌≤◌}
-use Rattle.rules.specs.Limits.{slot_limit}
+-- The invariant of `requests::any_hit`: found says whether one of the rows passed was hit.
+use Rattle.std.proofs.Common.{◌≡◌}
 use Rattle.rules.specs.Refusal.{some_below}
 use Rattle.requests.specs.Slots.{hit}
 use Rattle.requests.proofs.any_hit.Given as goal
 
 abbrev pub invariant-loop-k : goal.invariant-loop-k
-invariant-loop-k l = (l.k ≤ slot_limit) × (l.found ≡ some_below l.k (hit l.starts l.ends l.from l.to))
-
-abbrev pub decreases-loop-k : goal.decreases-loop-k
-decreases-loop-k l = slot_limit - l.k
+invariant-loop-k l = l.found ≡ some_below l.k (hit l.starts l.ends l.from l.to)

@@ -1,5 +1,4 @@
--- The invariant and the measure of `requests::script_refusal`.
-use Rattle.std.proofs.Common.{◌-◌}
+-- The invariant of `requests::script_refusal`.
 use Rattle.rules.specs.Sheet.{sheet_in}
 use Rattle.rules.specs.Refusal.{request_good}
 use Rattle.laws.specs.Scripts.{Searched}
@@ -7,7 +6,4 @@ use Rattle.requests.specs.Requests.{Kept}
 use Rattle.requests.proofs.script_refusal.Given as goal
 
 abbrev pub invariant-loop-i : goal.invariant-loop-i
-invariant-loop-i l = Searched (sheet_in l.s) 7 (request_good (sheet_in l.s)) l.r l.i l.end × Kept (sheet_in l.s) l.r l.i l.starts l.ends
-
-abbrev pub decreases-loop-i : goal.decreases-loop-i
-decreases-loop-i l = l.end - l.i
+invariant-loop-i l = Searched (sheet_in l.s) 7 (request_good (sheet_in l.s)) l.r l.i l.i-end × Kept (sheet_in l.s) l.r l.i l.starts l.ends

@@ -16,9 +16,3 @@ returns c =
           (ap (λ (k : ℕ). op_in bs (k + op_size * a.i)) there ∙ op_by bs a.i (P_in bs) p.1 refl),
       omega arith,
     )
-
-pub overflow_mul-result : goal.overflow_mul-result
-overflow_mul-result c = omega arith
-
-pub overflow_add-result : goal.overflow_add-result
-overflow_add-result c = omega arith

@@ -1,0 +1,104 @@
+-- What a result of the code says of a refusal (rules' Refusal): Ok that nothing is refused, an error which number is told and at which
+-- place. Assumes nothing.
+--   number_of                 the number that a rule is refused with
+--   Told                      the answer tells the result
+--   Refuses                   the result is that refusal
+--   KeptOr                    a rule is kept, or the result is its refusal
+--   Tests                     what a closure answers of an index, from one to before another, is a rule's test of it
+--   passed_on, told_by        what `?` passes on
+--   chain_stops, chain_goes_on, accepts   of refusals in their order
+use Rattle.std.specs.Prelude.{◌≡◌, refl, Bool, true, false, ℕ, ◌<◌, ◌≤◌, Result, Ok, Err, MatchResult, IsErrAnd}
+use Rattle.std.proofs.Common.{sym, subst₂, arith}
+use Rattle.rules.specs.Refusal.{Refusal, or_else, first_broken}
+use Rattle.rules.specs.Service.{Answers}
+use Rattle.laws.specs.Answers.{answers_number, or_else_told, or_else_next}
+use Rattle.sheet.specs.declared.Answer.{Answer}
+use Rattle.sheet.specs.declared.refusal.Refusal.{Refusal as Refused}
+use Rattle.sheet.specs.declared.refusal.Rule.{Rule}
+use Rattle.sheet.specs.declared.refusal.Rule.TheVariants.{Header, Sizes, Layout, Crc, Boards, Fields, Requests, Rooms, Order}
+use Rattle.sheet.specs.declared.refusal.Rule.TheVariants.{AnySource, ReadySend, AttachedBuffer, Query, StandardRoom}
+
+abbrev pub number_of : Rule → ℕ
+number_of Header = 1
+number_of Sizes = 2
+number_of Layout = 3
+number_of Crc = 4
+number_of Boards = 5
+number_of Fields = 6
+number_of Requests = 7
+number_of Rooms = 8
+number_of Order = 9
+number_of AnySource = 20
+number_of ReadySend = 21
+number_of AttachedBuffer = 22
+number_of Query = 23
+number_of StandardRoom = 24
+
+-- what a service tells of a result
+abbrev pub number_told : Result Unit Refused → ℕ
+number_told (Ok u) = 0
+number_told (Err e) = number_of e.rule
+
+abbrev pub place_told : Result Unit Refused → ℕ
+place_told (Ok u) = 0
+place_told (Err e) = e.place
+
+abbrev pub Told : Result Unit Refused → Answer → Type 0
+Told r a = (a.number ≡ number_told r) × (a.place ≡ place_told r)
+
+abbrev pub Refuses : Refusal → Result Unit Refused → Type 0
+Refuses f r = Answers f (number_told r) (place_told r)
+
+abbrev pub KeptOr : (kept : Bool) → Rule → (place : ℕ) → Result Unit Refused → Type 0
+KeptOr kept rule place r = MatchResult r (λ u. kept ≡ true) (λ e. (kept ≡ false) × (e.rule ≡ rule) × (e.place ≡ place))
+
+abbrev pub Tests : (post : ℕ → Bool → Type 0) → (from end : ℕ) → (ℕ → Bool) → Type 0
+Tests post from end f = (i : ℕ) → from ≤ i → i < end → (b : Bool) → post i b → b ≡ f i
+
+-- no rule is refused with 0
+pub refuses : (r : Rule) → number_of r ≡ 0 → ⊥
+refuses Header e = absurd (omega arith)
+refuses Sizes e = absurd (omega arith)
+refuses Layout e = absurd (omega arith)
+refuses Crc e = absurd (omega arith)
+refuses Boards e = absurd (omega arith)
+refuses Fields e = absurd (omega arith)
+refuses Requests e = absurd (omega arith)
+refuses Rooms e = absurd (omega arith)
+refuses Order e = absurd (omega arith)
+refuses AnySource e = absurd (omega arith)
+refuses ReadySend e = absurd (omega arith)
+refuses AttachedBuffer e = absurd (omega arith)
+refuses Query e = absurd (omega arith)
+refuses StandardRoom e = absurd (omega arith)
+
+-- BY `?`: a result r that is passed on is the error e that was given
+module _ (r : Result Unit Refused) (e : Refused) (passed : IsErrAnd r (λ y. y ≡ e)) where
+  pub passed_on : (f : Refusal) → Refuses f (Err e) → Refuses f r
+  passed_on f t = go r passed
+    where
+      go : (z : Result Unit Refused) → IsErrAnd z (λ y. y ≡ e) → Refuses f z
+      go (Ok u) q = absurd q
+      go (Err y) q = rw q t
+
+  -- by `ensure`: the number and the place that it was given
+  pub told_by : (f : Refusal) {kept : Bool} (rule : Rule) (place : ℕ) → KeptOr kept rule place (Err e) → Answers f (number_of rule) place
+      → Refuses f r
+  told_by f rule place k t = passed_on f (rw (k.1, k.2) t)
+
+  -- of a chain: the first refusal that is an error is the chain's
+  pub chain_stops : (a b : Refusal) → Refuses a (Err e) → Refuses (or_else a b) r
+  chain_stops a b t = passed_on (or_else a b) (or_else_told a b (number_of e.rule) e.place t (refuses e.rule))
+
+-- behind one that accepts, the chain is what is left of it
+module _ (a b : Refusal) (accepted : Refuses a (Ok tt)) where
+  pub accepts : a.number ≡ 0
+  accepts = sym (answers_number a 0 0 accepted)
+
+  pub chain_goes_on : (r : Result Unit Refused) → Refuses b r → Refuses (or_else a b) r
+  chain_goes_on r t = or_else_next a b 0 0 accepted refl (number_told r) (place_told r) t
+
+-- a search is the same from the same place on, over as many
+pub same_search : (n : ℕ) (f : ℕ → Bool) (r : Result Unit Refused) {left i k j : ℕ} → left ≡ k → i ≡ j
+    → Refuses (first_broken n f left i) r → Refuses (first_broken n f k j) r
+same_search n f r e d t = subst₂ (λ (x y : ℕ). Refuses (first_broken n f x y) r) e d t
