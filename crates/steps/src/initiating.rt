@@ -1,25 +1,14 @@
 // Initiating steps (document 01, "How a board steps"): a receive takes the earliest-arrived pending message that fits, a send the
 // earliest-posted pending receive; where none fits the receive is pending, and a send goes by its mode.
 ghost use Rattle.std.specs.Prelude.{◌≡◌};
-ghost use Rattle.rules.specs.Step.{initiated, initiating, pend_receive};
+ghost use Rattle.rules.specs.Step.{initiating};
 ghost use Rattle.simulation.specs.Simulates.{Holds, Simulates};
-ghost use Rattle.steps.specs.Pairing.{Unentered, searched as pairing_searched};
+ghost use Rattle.steps.specs.Pairing.{searched as pairing_searched};
 ghost use Rattle.steps.specs.Initiate.{Begins};
 
 use crate::{matching, parts, sends};
 use sheet::ops;
-use state::{Control, Queue, State, changes};
-
-// Nothing fits receive i of board r: it is pending.
-fn post(s: &[u8], c: &mut [u8], t: Control, r: usize, i: usize) -> Control
-    requires { Holds s.now c.old t (Unentered r i) }
-    ensures { Simulates s.entry.now c.old t c.new result (Unentered r i)
-        (λ s x. initiated s r i (pend_receive i x)) }
-{
-    let u = changes::pend(c, t, Queue::Receives, i, State::Pending);
-    parts::initiate(s, c, u, r, i);
-    u
-}
+use state::{Control, Queue, State};
 
 // The list that an operation searches: a receive the pending messages, a send the posted receives.
 #[tactic(auto, unfolding(crate::specs::Pairing::searched))]
@@ -43,7 +32,7 @@ pub fn begin(s: &[u8], c: &mut [u8], t: Control, r: usize, i: usize) -> Control
     let list = searched(receives);
     match search::find(s, c, list, t.count(list), i) {
         Some(k) => matching::pair(s, c, t, list, r, i, k),
-        None if receives => post(s, c, t, r, i),
+        None if receives => parts::pend(s, c, t, Queue::Receives, r, i, State::Pending),
         None => sends::leave(s, c, t, r, i),
     }
 }

@@ -2,10 +2,9 @@
 // board's room or waits (document 02, K6), buffered is kept in the attached buffer or overflows, ready stops the job.
 ghost use Rattle.std.specs.Prelude.{◌≡◌, ◌<◌};
 ghost use Rattle.rules.specs.Sheet.{sheet_in, P_of, N_of};
-ghost use Rattle.rules.specs.Step.{initiated, pend_message, unmatched};
+ghost use Rattle.rules.specs.Step.{unmatched};
 ghost use Rattle.laws.specs.Laid.{Laid};
 ghost use Rattle.account.specs.Stores.{stands_for};
-ghost use Rattle.state.specs.Numbers.{state_number};
 ghost use Rattle.simulation.specs.Simulates.{Holds, Simulates};
 ghost use Rattle.steps.specs.Pairing.{Unentered};
 ghost use Rattle.steps.specs.Unmatched.{buffered_or_stopped, roomed_or_pending, has_room};
@@ -15,17 +14,6 @@ use crate::parts;
 use account::Store;
 use sheet::{boards, ops, stores};
 use state::{Control, Queue, State, StopVerdict, changes};
-
-// Send i waits in a state: pending, not complete, or buffered, complete.
-fn pend(s: &[u8], c: &mut [u8], t: Control, r: usize, i: usize, state: State) -> Control
-    requires { Holds s.now c.old t (Unentered r i) }
-    ensures { Simulates s.entry.now c.old t c.new result (Unentered r i)
-        (λ s x. initiated s r i (pend_message i (state_number state) x)) }
-{
-    let u = changes::pend(c, t, Queue::Messages, i, state);
-    parts::initiate(s, c, u, r, i);
-    u
-}
 
 // Send i is charged to a store of its board r where its charge fits beside what is in use there; the answer says whether.
 fn keep(s: &[u8], c: &mut [u8], t: Control, w: Store, r: usize, i: usize) -> bool
@@ -44,7 +32,7 @@ fn buffer_or_stop(s: &[u8], c: &mut [u8], t: Control, r: usize, i: usize) -> Con
     if !keep(s, c, t, Store::Attached, r, i) {
         return t.halting(StopVerdict::Overflow, r, i);
     }
-    pend(s, c, t, r, i, State::Buffered)
+    parts::pend(s, c, t, Queue::Messages, r, i, State::Buffered)
 }
 
 // Send i is a standard one, and its board r has a room: where it has none, nothing is kept, not even an empty message.
@@ -62,9 +50,9 @@ fn keep_or_pend(s: &[u8], c: &mut [u8], t: Control, r: usize, i: usize) -> Contr
         (λ s x. roomed_or_pending s r i x) }
 {
     if has_room(s, r, i) && keep(s, c, t, Store::Room, r, i) {
-        return pend(s, c, t, r, i, State::Buffered);
+        return parts::pend(s, c, t, Queue::Messages, r, i, State::Buffered);
     }
-    pend(s, c, t, r, i, State::Pending)
+    parts::pend(s, c, t, Queue::Messages, r, i, State::Pending)
 }
 
 // By mode.

@@ -3,10 +3,10 @@ use Rattle.std.proofs.Common.{Bool, None, Option, Some, ap, arith, false, length
 use mathlib.Core.Option.{none, some}
 use Rattle.rules.specs.Sheet.{Sheet, sheet_in, two}
 use Rattle.rules.specs.Job.{Job}
-use Rattle.rules.specs.Step.{first_by, initiated, initiating}
+use Rattle.rules.specs.Step.{first_by, initiated, initiating, pend_receive}
 use Rattle.state.specs.declared.Queue.{Queue}
 use Rattle.state.specs.Layout.{word_at}
-use Rattle.state.specs.Queues.{base_of, count_of, list_of}
+use Rattle.state.specs.Queues.{base_of, count_of, list_of, with_list, pended}
 use Rattle.state.specs.Decodes.{Decodes}
 use Rattle.state.proofs.Decodes.{list_length}
 use Rattle.search.specs.Search.{Listed, FirstBelow, First, pair_fits}
@@ -96,16 +96,17 @@ returns-in-Some c =
           (met.ensures.after x d (begins_pairs c.requires.valid b (list z) k (within z k c.in-Some.is x d)));
     }
 
-pub post-requires : goal.post-requires
-post-requires c =
+pub pend-requires : goal.pend-requires
+pend-requires c =
     let p = c.requires in
     holds_for p (begins_unentered p.valid p.fine)
 
 pub returns-in-None : goal.returns-in-None
+unfolding pended pend_receive with_list list_of
 returns-in-None c =
     let a = c.args in
     let z = (goal.at.returns-in-None c).After-find in
-    let posted = c.post in
+    let posted = c.pend in
     let is = c.if-receives.true in
     record {
       after =

@@ -1,6 +1,8 @@
 -- `steps::sends::buffer_or_stop` meets its contract: kept where the attached buffer has room, else stopped. Assumes nothing.
 use Rattle.std.proofs.Common.{sym, ◌∙◌}
 use Rattle.rules.specs.Sheet.{sheet_in}
+use Rattle.rules.specs.Step.{pend_message}
+use Rattle.state.specs.Queues.{list_of, with_list, pended}
 use Rattle.account.specs.Stores.{stands_for}
 use Rattle.state.specs.declared.StopVerdict.TheVariants.{Overflow}
 use Rattle.simulation.specs.Simulates.{simulates_told}
@@ -21,7 +23,7 @@ pub pend-requires : goal.pend-requires
 pend-requires c = kept_holds c.keep.ensures (c.if-not-keep.false) c.requires
 
 pub returns : goal.returns
-unfolding stands_for
+unfolding stands_for pended pend_message with_list list_of
 returns c =
     let a = c.args in
     let k = c.keep.ensures in

@@ -1,6 +1,8 @@
 -- `steps::sends::keep_or_pend` meets its contract: kept where there is a room and it fits there, else pending. Assumes nothing.
 use Rattle.std.proofs.Common.{List, subst, sym, ℕ, ◌∙◌}
 use Rattle.rules.specs.Sheet.{sheet_in}
+use Rattle.rules.specs.Step.{pend_message}
+use Rattle.state.specs.Queues.{list_of, with_list, pended}
 use Rattle.account.specs.Stores.{stands_for}
 use Rattle.simulation.specs.Simulates.{Holds, simulates_as, simulates_told, simulates_from}
 use Rattle.steps.specs.Pairing.{Unentered}
@@ -13,7 +15,7 @@ pub pend-requires : goal.pend-requires
 pend-requires c = kept_holds c.keep.ensures c.if-keep.true c.requires
 
 pub returns-then-keep : goal.returns-then-keep
-unfolding stands_for
+unfolding stands_for pended pend_message with_list list_of
 returns-then-keep c =
     let a = c.args in
     let k = c.keep.ensures in
@@ -31,7 +33,7 @@ pend-requires-2 c =
     ]
 
 pub returns : goal.returns
-unfolding stands_for
+unfolding stands_for pended pend_message with_list list_of
 returns c =
     let a = c.args in
     elim c.else-has_room.branch [
