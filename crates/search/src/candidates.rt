@@ -7,8 +7,8 @@ ghost use Rattle.search.specs.Search.{Readable};
 ghost use Rattle.search.specs.Candidates.{Asks, sides_fit, message_beside, receive_beside, candidate_fits};
 
 use limits::ANY;
-use sheet::ops;
-use state::{Queue, ranks};
+use sheet::Sheet;
+use state::{Queue, Scratch};
 
 // What an operation asks of those that wait: its own rank, whom it names, its communicator and its tag.
 #[derive(Clone, Copy)]
@@ -20,43 +20,43 @@ pub struct Asked {
 }
 
 // What operation i asks for.
-pub fn asked_by(s: &[u8], c: &[u8], i: usize) -> Asked
+pub fn asked_by(s: &Sheet, c: &Scratch, i: usize) -> Asked
     requires { Readable s.now c.now × (i < N_of (sheet_in s.now)) }
     ensures { Asks (sheet_in s.now) i result }
 {
     Asked {
-        rank: ranks::rank_at(c, i),
-        peer: ops::peer(s, i),
-        communicator: ops::comm(s, i),
-        tag: ops::tag(s, i),
+        rank: c.rank_at(i),
+        peer: s.peer(i),
+        communicator: s.comm(i),
+        tag: s.tag(i),
     }
 }
 
 // Message m fits a receive.
-fn message_fits(s: &[u8], c: &[u8], a: Asked, m: usize) -> bool
+fn message_fits(s: &Sheet, c: &Scratch, a: Asked, m: usize) -> bool
     requires { Readable s.now c.now × (m < N_of (sheet_in s.now)) }
     ensures { result ≡ sides_fit (message_beside (sheet_in s.now) a m) }
 {
-    (a.peer == ANY || a.peer == ranks::rank_at(c, m))
-        && ops::peer(s, m) == a.rank
-        && (a.tag == ANY || a.tag == ops::tag(s, m))
-        && ops::comm(s, m) == a.communicator
+    (a.peer == ANY || a.peer == c.rank_at(m))
+        && s.peer(m) == a.rank
+        && (a.tag == ANY || a.tag == s.tag(m))
+        && s.comm(m) == a.communicator
 }
 
 // Posted receive q fits a send.
-fn receive_fits(s: &[u8], c: &[u8], a: Asked, q: usize) -> bool
+fn receive_fits(s: &Sheet, c: &Scratch, a: Asked, q: usize) -> bool
     requires { Readable s.now c.now × (q < N_of (sheet_in s.now)) }
     ensures { result ≡ sides_fit (receive_beside (sheet_in s.now) a q) }
 {
-    a.peer == ranks::rank_at(c, q)
-        && waiting::asks_for(ops::tag(s, q), a.tag)
-        && waiting::asks_for(ops::peer(s, q), a.rank)
-        && a.communicator == ops::comm(s, q)
+    a.peer == c.rank_at(q)
+        && waiting::asks_for(s.tag(q), a.tag)
+        && waiting::asks_for(s.peer(q), a.rank)
+        && a.communicator == s.comm(q)
 }
 
 // Operation j of a list fits.
 #[tactic(auto, unfolding(crate::specs::Candidates::candidate_fits))]
-pub fn candidate_fits(s: &[u8], c: &[u8], list: Queue, a: Asked, j: usize) -> bool
+pub fn candidate_fits(s: &Sheet, c: &Scratch, list: Queue, a: Asked, j: usize) -> bool
     requires { Readable s.now c.now × (j < N_of (sheet_in s.now)) }
     ensures { result ≡ candidate_fits list (sheet_in s.now) a j }
 {

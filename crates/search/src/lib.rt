@@ -7,12 +7,13 @@ ghost use Rattle.state.specs.Layout.{word_at};
 ghost use Rattle.state.specs.Queues.{base_of};
 ghost use Rattle.search.specs.Search.{Readable, Listed, First, pair_fits};
 
-use state::{Queue, lists};
+use sheet::Sheet;
+use state::{Queue, Scratch};
 
 mod candidates;
 
 // Where the first of `count` operations of a waiting list stands that operation i fits.
-pub fn find(s: &[u8], c: &[u8], list: Queue, count: usize, i: usize) -> Option<usize>
+pub fn find(s: &Sheet, c: &Scratch, list: Queue, count: usize, i: usize) -> Option<usize>
     requires { Readable s.now c.now × Listed s.now c.now list count × (i < N_of (sheet_in s.now)) }
     ensures { First (λ j. pair_fits list (sheet_in s.now) i (two c.now (word_at (base_of list) j)))
         count result }
@@ -20,7 +21,7 @@ pub fn find(s: &[u8], c: &[u8], list: Queue, count: usize, i: usize) -> Option<u
     let asked = candidates::asked_by(s, c, i);
     let base = list.base();
     for k in 0..count {
-        if candidates::candidate_fits(s, c, list, asked, lists::word_of(c, base, k)) {
+        if candidates::candidate_fits(s, c, list, asked, c.word_of(base, k)) {
             return Some(k);
         }
     }

@@ -37,10 +37,10 @@ rank_at-source-requires c =
     omega (arith, inside c, p.decodes.few_ops, p.decodes.roomy)
 
 pub tag-requires : goal.tag-requires
-tag-requires c = (c.requires.0.laid, inside (goal.at.tag-requires c).After-word_of-m)
+tag-requires c = inside (goal.at.tag-requires c).After-word_of-m
 
 pub long-requires : goal.long-requires
-long-requires c = (c.requires.0.laid, inside (goal.at.long-requires c).After-word_of-m)
+long-requires c = inside (goal.at.long-requires c).After-word_of-m
 
 pub returns : goal.returns
 returns c =
