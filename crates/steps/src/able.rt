@@ -7,40 +7,40 @@ ghost use Rattle.rules.specs.Step.{able};
 ghost use Rattle.simulation.specs.Represents.{Represents, Represented};
 ghost use Rattle.steps.specs.Able.{Next, RepresentedNext, can_go_on};
 
-use sheet::{boards, header, ops};
-use state::{Control, places, rows, waits};
+use sheet::Sheet;
+use state::{Control, Scratch};
 
 // Operation i is the next of board r: an initiating step, or a waiting half that can end.
-fn next_is_able(s: &[u8], c: &[u8], t: Control, r: usize, i: usize) -> bool
+fn next_is_able(s: &Sheet, c: &Scratch, t: Control, r: usize, i: usize) -> bool
     requires { RepresentedNext s.now c.now t r i }
     ensures { (lent : List ℕ) (x : Job) → Represents s.now lent c.now t x →
         Next (sheet_in s.now) x r i → result ≡ can_go_on (sheet_in s.now) x r i }
 {
-    if !(places::waiting_of(c, r) | ops::is_only_half(s, i)) {
+    if !(c.waiting_of(r) | s.is_only_half(i)) {
         return true;
     }
-    if ops::tells(s, i) {
+    if s.tells(i) {
         return telling::can_end(s, c, t, i);
     }
-    if ops::frees_slot(s, i) {
-        return rows::is_complete(c, waits::waited_at(c, i));
+    if s.frees_slot(i) {
+        return c.is_complete(c.waited_at(i));
     }
-    rows::is_complete(c, i)
+    c.is_complete(i)
 }
 
 // Board r is able.
-pub fn is_able(s: &[u8], c: &[u8], t: Control, r: usize) -> bool
+pub fn is_able(s: &Sheet, c: &Scratch, t: Control, r: usize) -> bool
     requires { Represented s.now c.now t }
     ensures { (lent : List ℕ) (x : Job) → Represents s.now lent c.now t x →
         result ≡ able (sheet_in s.now) x r }
 {
-    if t.stop.is_some() || header::boards(s) <= r {
+    if t.stop.is_some() || s.boards() <= r {
         return false;
     }
-    let done = places::finished_of(c, r);
-    if boards::count(s, r) <= done {
+    let done = c.finished_of(r);
+    if s.count(r) <= done {
         return false;
     }
-    let i = boards::first(s, r) + done;
+    let i = s.first(r) + done;
     next_is_able(s, c, t, r, i)
 }

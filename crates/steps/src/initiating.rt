@@ -7,8 +7,8 @@ ghost use Rattle.steps.specs.Pairing.{searched as pairing_searched};
 ghost use Rattle.steps.specs.Initiate.{Begins};
 
 use crate::{matching, parts, sends};
-use sheet::ops;
-use state::{Control, Queue, State};
+use sheet::Sheet;
+use state::{Control, Queue, Scratch, State};
 
 // The list that an operation searches: a receive the pending messages, a send the posted receives.
 #[tactic(auto, unfolding(crate::specs::Pairing::searched))]
@@ -23,12 +23,12 @@ fn searched(receives: bool) -> Queue
 }
 
 // Operation i is the next of board r, and its initiating step is before it.
-pub fn begin(s: &[u8], c: &mut [u8], t: Control, r: usize, i: usize) -> Control
+pub fn begin(s: &Sheet, c: &mut Scratch, t: Control, r: usize, i: usize) -> Control
     requires { Holds s.now c.old t (Begins r i) }
     ensures { Simulates s.entry.now c.old t c.new result (Begins r i)
         (λ s x. initiating s r i x) }
 {
-    let receives = ops::is_receive(s, i);
+    let receives = s.is_receive(i);
     let list = searched(receives);
     match search::find(s, c, list, t.count(list), i) {
         Some(k) => matching::pair(s, c, t, list, r, i, k),

@@ -9,43 +9,41 @@ ghost use Rattle.simulation.specs.Simulates.{Holds, Simulates};
 ghost use Rattle.steps.specs.Pairing.{Both, message_of, receive_of, matched_with, Pairs};
 
 use crate::parts;
-use sheet::{ops, stores};
-use state::{Control, Queue, State, changes, lists, ranks, rows};
+use sheet::Sheet;
+use state::{Control, Queue, Scratch, State};
 
 // A buffered message's charge goes when it is matched, from the store that it is kept in.
-fn release_charge(s: &[u8], c: &mut [u8], t: Control, m: usize)
+fn release_charge(s: &Sheet, c: &mut Scratch, t: Control, m: usize)
     requires { Holds s.now c.old t (λ s x. m < N_of s) }
     ensures { Simulates s.entry.now c.old t c.new t (λ s x. m < N_of s)
         (λ s x. release s m x) }
 {
-    if rows::is_in(c, m, State::Buffered) {
-        let sender = ranks::rank_at(c, m);
-        let w = stores::store_of(s, m);
-        changes::release(
-            c,
-            sender,
+    if c.is_in(m, State::Buffered) {
+        let sender = c.rank_at(m);
+        let w = s.store_of(m);
+        c.release(sender,
             w,
-            stores::size(s, w, sender),
-            stores::charge(s, w, m),
+            s.size(w, sender),
+            s.charge(w, m),
         );
     }
 }
 
 // Both rows of a match of message m and receive q: the receive's tells source, tag and length, and whether it is cut.
-fn put_rows(s: &[u8], c: &mut [u8], t: Control, m: usize, q: usize)
+fn put_rows(s: &Sheet, c: &mut Scratch, t: Control, m: usize, q: usize)
     requires { Holds s.now c.old t (Both m q) }
     ensures { Simulates s.entry.now c.old t c.new t (Both m q)
         (λ s x. matched_rows s m q x) }
 {
-    let tag = ops::tag(s, m);
-    let long = ops::long(s, m);
-    let cut = ops::long(s, q) < long;
-    let source = ranks::rank_at(c, m);
-    changes::match_rows(c, m, q, cut, source, tag, long);
+    let tag = s.tag(m);
+    let long = s.long(m);
+    let cut = s.long(q) < long;
+    let source = c.rank_at(m);
+    c.match_rows(m, q, cut, source, tag, long);
 }
 
 // The rows of a match, with the charge that goes.
-fn match_rows(s: &[u8], c: &mut [u8], t: Control, m: usize, q: usize)
+fn match_rows(s: &Sheet, c: &mut Scratch, t: Control, m: usize, q: usize)
     requires { Holds s.now c.old t (Both m q) }
     ensures { Simulates s.entry.now c.old t c.new t (Both m q)
         (λ s x. matched_rows s m q (release s m x)) }
@@ -67,8 +65,8 @@ fn sides(list: Queue, i: usize, j: usize) -> (usize, usize)
 
 // Operation i of board r is matched with the k-th of a waiting list.
 pub fn pair(
-    s: &[u8],
-    c: &mut [u8],
+    s: &Sheet,
+    c: &mut Scratch,
     t: Control,
     list: Queue,
     r: usize,
@@ -79,10 +77,10 @@ pub fn pair(
     ensures { Simulates s.entry.now c.old t c.new result (Pairs list r i k)
         (λ s x. initiated s r i (matched_with list s i (two c.old (word_at (base_of list) k)) x)) }
 {
-    let j = lists::word_of(c, list.base(), k);
+    let j = c.word_of(list.base(), k);
     let (m, q) = sides(list, i, j);
     match_rows(s, c, t, m, q);
-    let u = changes::take(c, t, list, k);
+    let u = c.take(t, list, k);
     parts::initiate(s, c, u, r, i);
     u
 }

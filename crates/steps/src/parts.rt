@@ -9,26 +9,26 @@ ghost use Rattle.simulation.specs.Simulates.{Holds, Simulates};
 ghost use Rattle.steps.specs.Parts.{Ends};
 ghost use Rattle.steps.specs.Pairing.{Unentered};
 
-use sheet::ops;
-use state::{Control, Queue, State, changes};
+use sheet::Sheet;
+use state::{Control, Queue, Scratch, State};
 
 // After the initiating step of operation i: without a waiting half it is finished, else it is in its waiting half.
-pub fn initiate(s: &[u8], c: &mut [u8], t: Control, r: usize, i: usize)
+pub fn initiate(s: &Sheet, c: &mut Scratch, t: Control, r: usize, i: usize)
     requires { Holds s.now c.old t (CanFinish r) × (i < N_of (sheet_in s.now)) }
     ensures { Simulates s.entry.now c.old t c.new t (CanFinish r)
         (λ s x. initiated s r i x) }
 {
-    if ops::has_no_half(s, i) {
-        changes::finish_one(c, r);
+    if s.has_no_half(i) {
+        c.finish_one(r);
     } else {
-        changes::start_waiting(c, r);
+        c.start_waiting(r);
     }
 }
 
 // Operation i of board r waits in a list, in a state, and its board goes on.
 pub fn pend(
-    s: &[u8],
-    c: &mut [u8],
+    s: &Sheet,
+    c: &mut Scratch,
     t: Control,
     list: Queue,
     r: usize,
@@ -39,19 +39,19 @@ pub fn pend(
     ensures { Simulates s.entry.now c.old t c.new result (Unentered r i)
         (λ s x. initiated s r i (pended list i (state_number state) x)) }
 {
-    let u = changes::pend(c, t, list, i, state);
+    let u = c.pend(t, list, i, state);
     initiate(s, c, u, r, i);
     u
 }
 
 // A waiting half ends operation i of board r; the row of one that is only a waiting half then says so.
-pub fn end_half(s: &[u8], c: &mut [u8], t: Control, r: usize, i: usize)
+pub fn end_half(s: &Sheet, c: &mut Scratch, t: Control, r: usize, i: usize)
     requires { Holds s.now c.old t (Ends r i) }
     ensures { Simulates s.entry.now c.old t c.new t (Ends r i)
         (λ s x. ended s r i x) }
 {
-    if ops::is_only_half(s, i) {
+    if s.is_only_half(i) {
         telling::put_half_row(s, c, t, i);
     }
-    changes::finish_one(c, r);
+    c.finish_one(r);
 }

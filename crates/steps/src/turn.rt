@@ -9,16 +9,16 @@ ghost use Rattle.steps.specs.Initiate.{AbleBoard};
 ghost use Rattle.steps.specs.Turn.{moved};
 
 use crate::{initiating, parts};
-use sheet::{boards, ops};
-use state::{Control, places};
+use sheet::Sheet;
+use state::{Control, Scratch};
 
 // The step of board r, before it is counted.
-fn uncounted(s: &[u8], c: &mut [u8], t: Control, r: usize) -> Control
+fn uncounted(s: &Sheet, c: &mut Scratch, t: Control, r: usize) -> Control
     requires { Holds s.now c.old t (AbleBoard r) }
     ensures { Simulates s.entry.now c.old t c.new result (AbleBoard r) (λ s x. moved s r x) }
 {
-    let i = boards::first(s, r) + places::finished_of(c, r);
-    if places::waiting_of(c, r) | ops::is_only_half(s, i) {
+    let i = s.first(r) + c.finished_of(r);
+    if c.waiting_of(r) | s.is_only_half(i) {
         parts::end_half(s, c, t, r, i);
         return t;
     }
@@ -26,7 +26,7 @@ fn uncounted(s: &[u8], c: &mut [u8], t: Control, r: usize) -> Control
 }
 
 // The step of board r.
-pub fn take(s: &[u8], c: &mut [u8], t: Control, r: usize) -> Control
+pub fn take(s: &Sheet, c: &mut Scratch, t: Control, r: usize) -> Control
     requires { RepresentedAble s.now c.old t r }
     ensures { (lent : List ℕ) (x : Job) → Represents s.now lent c.old t x →
         able (sheet_in s.now) x r ≡ true →

@@ -13,8 +13,7 @@ inside : {bs c : List ℕ} {t : Control} {r i : ℕ} (q : RepresentedNext bs c t
 inside {bs} {c} {t} {r} {i} q = next_below bs q.lent c t q.job q.represents r i q.next
 
 pub is_only_half-requires : goal.is_only_half-requires
-is_only_half-requires c =
-    (c.requires.represents.laid, inside c.requires)
+is_only_half-requires c = inside c.requires
 
 pub returns-then-not-waiting_of-is_only_half : goal.returns-then-not-waiting_of-is_only_half
 returns-then-not-waiting_of-is_only_half c =
@@ -26,7 +25,7 @@ returns-then-not-waiting_of-is_only_half c =
     ∙ c.if-not-waiting_of-is_only_half.true)
 
 pub tells-requires : goal.tells-requires
-tells-requires c = let q = c.requires in (q.represents.laid, inside q)
+tells-requires c = inside c.requires
 
 pub can_end-requires : goal.can_end-requires
 can_end-requires c =
@@ -57,7 +56,7 @@ returns-then-tells c =
     ∙ c.if-not-waiting_of-is_only_half.false)
 
 pub frees_slot-requires : goal.frees_slot-requires
-frees_slot-requires c = let q = c.requires in (q.represents.laid, inside q)
+frees_slot-requires c = inside c.requires
 
 pub waited_at-requires : goal.waited_at-requires
 waited_at-requires c = let q = c.requires in omega (arith, inside q, q.represents.decodes.few_ops, q.represents.decodes.roomy)

@@ -18,7 +18,7 @@ use Rattle.steps.proofs.initiating.begin.Goals as goal
 use Rattle.steps.proofs.initiating.begin.Goals.{After-find}
 
 pub is_receive-receives-requires : goal.is_receive-receives-requires
-is_receive-receives-requires c = let p = c.requires in (p.laid, (begins_unentered p.valid p.fine).inside)
+is_receive-receives-requires c = let p = c.requires in (begins_unentered p.valid p.fine).inside
 
 pub find-requires : goal.find-requires
 find-requires c =

@@ -44,7 +44,6 @@ take-u-requires c =
       c.requires.1,
       few_listed (sheet_in a.s.now) a.c.now a.t p.job p.decodes
           a.list,
-      omega (arith, p.decodes.roomy),
     )
 
 -- the match, once the one found has left its list
@@ -58,7 +57,7 @@ module _ (c : After-take-u) where
   abbrev q : ℕ
   q = c.sides-m.result.1
 
-  paired : Simulates c.args.s.now c.args.c.now c.args.t c.take-u.new.c c.take-u.result
+  paired : Simulates c.args.s.now c.args.c.now c.args.t c.take-u.new.self c.take-u.result
       (Pairs c.args.list c.args.r c.args.i c.args.k) (λ s x. matched_with c.args.list s c.args.i j x)
   paired =
       let s = sheet_in c.args.s.now in
@@ -70,7 +69,7 @@ module _ (c : After-take-u) where
             both_read c.args.list c.args.i j m q s x c.sides-m.ensures.0
             c.sides-m.ensures.1 o.unentered.inside
             (inside (goal.at.After-take-u c).After-word_of-j x d o) in
-            matched_read c.args.list s c.args.i j m q x c.take-u.new.c c.take-u.result c.sides-m.ensures.0
+            matched_read c.args.list s c.args.i j m q x c.take-u.new.self c.take-u.result c.sides-m.ensures.0
             c.sides-m.ensures.1 o.unentered.not_listed
             (c.take-u.ensures j s y (c.match_rows.ensures.after x d both)
             (first_at_as (list_of c.args.list x) (list_of c.args.list y) c.args.k j (rows_list s m q x c.args.list)

@@ -13,7 +13,7 @@ pub size-requires : goal.size-requires
 size-requires c =
     let p = c.requires in
     let m = c.args.m in
-    (p.laid, omega (arith, c.rank_at-sender.ensures.is, p.decodes.indexed.rank_is m p.fine, p.valid.rank_small m p.fine))
+    omega (arith, c.rank_at-sender.ensures.is, p.decodes.indexed.rank_is m p.fine, p.valid.rank_small m p.fine)
 
 pub release-requires : goal.release-requires
 release-requires c =
@@ -21,7 +21,7 @@ release-requires c =
     let m = c.args.m in
     let rank = p.decodes.indexed.rank_is m p.fine in
     let low = p.valid.rank_small m p.fine in
-    (omega (arith, c.rank_at-sender.ensures.is, rank, low, p.valid.boards_few), omega (arith, p.decodes.roomy))
+    omega (arith, c.rank_at-sender.ensures.is, rank, low, p.valid.boards_few)
 
 pub returns-then-is_in : goal.returns-then-is_in
 returns-then-is_in c =
@@ -38,7 +38,7 @@ returns-then-is_in c =
           λ x d o.
           let rank = sender.ensures.is ∙ d.indexed.rank_is a.m o in
           let read = state.ensures ∙ ap (λ (e : Entry). eqb e.state 2) (entry_is s a.c.now a.t x d a.m o) in
-          subst (λ (y : Job). Decodes s freed.new.c a.t y)
+          subst (λ (y : Job). Decodes s freed.new.self a.t y)
           (release_charged s a.m sender.result n.result (stands_for store.result) x
           (eqb-true _ 2 (sym read ∙ c.if-is_in.true)) rank store.ensures n.ensures.is)
           (freed.ensures a.t s x d (omega (arith, rank, p.valid.rank_small a.m o)));

@@ -20,7 +20,7 @@ returns c =
                 λ x d o.
                 let y : Job = with_row a.i (half_row s x a.i) x in
                 let rowed = decodes_as s c.if-is_only_half.c w.put_half_row.new.c a.t a.t y w.c-is refl (w.put_half_row.ensures.after x d o.looks) in
-                subst (λ (z : Job). Decodes s c.finish_one.new.c a.t z)
+                subst (λ (z : Job). Decodes s c.finish_one.new.self a.t z)
                 (ended_only s a.r a.i x (sym c.is_only_half.ensures ∙ w.if-is_only_half.true))
                 (c.finish_one.ensures a.t s y rowed (row_can_finish s a.r a.i (half_row s x a.i) x o.can_finish));
           }
@@ -28,7 +28,7 @@ returns c =
           record {
             after =
                 λ x d o.
-                subst (λ (z : Job). Decodes s c.finish_one.new.c a.t z)
+                subst (λ (z : Job). Decodes s c.finish_one.new.self a.t z)
                 (ended_other s a.r a.i x (sym c.is_only_half.ensures ∙ w.if-is_only_half.false))
                 (c.finish_one.ensures a.t s x (decodes_as s c.if-is_only_half.c a.c.now a.t a.t x w.c-is refl d) o.can_finish);
           }

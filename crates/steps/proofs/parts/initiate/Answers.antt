@@ -13,7 +13,7 @@ returns-then-has_no_half c =
     record {
       after =
           λ x d o.
-          subst (λ (y : Job). Decodes s c.finish_one.new.c a.t y)
+          subst (λ (y : Job). Decodes s c.finish_one.new.self a.t y)
           (initiated_finished s a.r a.i x (sym c.has_no_half.ensures ∙ c.if-has_no_half.true))
           (c.finish_one.ensures a.t s x d o);
     }
@@ -25,7 +25,7 @@ returns-else-has_no_half c =
     record {
       after =
           λ x d o.
-          subst (λ (y : Job). Decodes s c.start_waiting.new.c a.t y)
+          subst (λ (y : Job). Decodes s c.start_waiting.new.self a.t y)
           (initiated_waiting s a.r a.i x (sym c.has_no_half.ensures ∙ c.if-has_no_half.false))
           (c.start_waiting.ensures a.t s x d o.there);
     }

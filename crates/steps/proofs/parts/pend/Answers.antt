@@ -8,7 +8,7 @@ pub pend-u-requires : goal.pend-u-requires
 pend-u-requires c =
     let p = c.requires in
     let e = enters c.args.list p in
-    (e.few, e.room, omega (arith, p.decodes.roomy))
+    (e.few, e.room)
 
 pub initiate-requires : goal.initiate-requires
 initiate-requires c =

@@ -15,7 +15,7 @@ use Rattle.steps.proofs.turn.uncounted.Goals as goal
 use Rattle.steps.proofs.turn.uncounted.Goals.{After-waiting_of, Start}
 
 pub first-requires : goal.first-requires
-first-requires c = let p = c.requires in (p.laid, (able_can_finish p.valid p.fine).there)
+first-requires c = let p = c.requires in (able_can_finish p.valid p.fine).there
 
 pub finished_of-requires : goal.finished_of-requires
 finished_of-requires c =
@@ -66,7 +66,7 @@ module _ (c : After-waiting_of) where
     waits = c.waiting_of.ensures ∙ ap (λ (q : Place). q.waiting) at
 
 pub is_only_half-requires : goal.is_only_half-requires
-is_only_half-requires c = let p = c.requires in (p.laid, inside c p.job p.decodes p.fine)
+is_only_half-requires c = let p = c.requires in inside c p.job p.decodes p.fine
 
 pub end_half-requires : goal.end_half-requires
 end_half-requires c =
