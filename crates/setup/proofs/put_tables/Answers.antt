@@ -1,5 +1,5 @@
--- `setup::put_tables` meets its contract. The loop's invariant: the tables are right below board r's script. The measure
--- is how many boards are left. Assumes nothing.
+-- `setup::put_tables` meets its contract. The loop's invariant: the tables are right below board r's script. Assumes
+-- nothing.
 use Rattle.std.proofs.Common.{ap, arith, subst, sym, ℕ, ◌∙◌, ◌≡◌}
 use Rattle.rules.specs.Sheet.{sheet_in, P_of, counts_before}
 use Rattle.laws.specs.Ranks.{counts_none}
