@@ -238,6 +238,7 @@ struct Counts {
 }
 
 // The three of them, in one pass over the rows.
+#[tactic(auto, using(crate::specs::ReportCounts::counted_none))]
 fn count_rows(s: &[u8], c: &[u8]) -> Counts
     requires { Laid s.now × (scratch_size ≤ length c.now) }
     ensures { RowsCounted (sheet_in s.now) c.now result.messages result.receives result.cut }
