@@ -1,11 +1,12 @@
 -- Accounts of stores (document 01, "How a board steps"; document 02, K6). What a charge and a release leave is what rules' `charged`
 -- and `released` leave of a store's figures. Assumes nothing.
-use Rattle.std.specs.Prelude.{◌≡◌, Bool, true, false, cond, ℕ, ◌+◌, ◌-◌, ◌<◌, ◌≤◌, max, leb}
+use Rattle.std.specs.Prelude.{◌≡◌, Option, None, Some, Bool, true, false, cond, ℕ, ◌+◌, ◌-◌, ◌<◌, ◌≤◌, max, leb}
 use Rattle.std.proofs.Math.Path.{refl}
 use Rattle.std.proofs.Common.{sym, ap, arith, le-leb, leb-true}
 use Rattle.rules.specs.Job.{Figures, figures}
 use Rattle.rules.specs.Step.{charged, released}
 use Rattle.std.proofs.lemmas.Bool.{lt-leb}
+use Rattle.std.proofs.lemmas.Option.{cond_some, none-some}
 use Rattle.laws.specs.Tests.{same_test}
 use Rattle.account.specs.declared.Account.{Account}
 
@@ -73,6 +74,23 @@ module _ (s n : ℕ) (q : Figures) where
   pub released_is : released n q ≡ figures_of (given_back (account s q.in_use q.peak) n)
   unfolding released given_back account_of figures_of figures
   released_is = refl
+
+-- WHAT A CHARGE ANSWERS: the account with the charge where there is room, else none, and then the account is as `taken` leaves it
+unfoldable pub taken_or_none : Account → (n : ℕ) → Option Account
+taken_or_none a n = cond (has_room a n) (Some (taken a n)) None
+
+module _ (a : Account) (n : ℕ) where
+  pub answered_some : (b : Account) → taken_or_none a n ≡ Some b → (has_room a n ≡ true) × (taken a n ≡ b)
+  unfolding taken_or_none
+  answered_some b e = cond_some (has_room a n) (taken a n) b e
+
+  pub answered_none : taken_or_none a n ≡ None → (has_room a n ≡ false) × (taken a n ≡ a)
+  unfolding taken_or_none has_room
+  answered_none e = go (has_room a n) refl e
+    where
+      go : (b : Bool) → has_room a n ≡ b → cond b (Some (taken a n)) None ≡ None → (has_room a n ≡ false) × (taken a n ≡ a)
+      go true t f = absurd (none-some (taken a n) (sym f))
+      go false t f = (t, taken_full a.size a.in_use a.peak n t)
 
 -- WHAT THE CODE SHOWS: a test by a difference, the difference that is left, a charge by what the test said
 pub room_within : (a : Account) (n : ℕ) → n ≤ a.size → leb a.in_use (a.size - n) ≡ has_room a n

@@ -1,11 +1,10 @@
 // The account of one of a board's two stores, its attached buffer (document 01, "How a board steps"; MPI buffered mode) or its
-// standard room (document 02, K6): its size, the bytes in use and the most that were in use. The rules stand in two functions
-// over accounts by value. `charge` and `release` take the account by `&mut` and change it where it stands. `charging` and
-// `releasing` lend an account of their own, for callers that have plain numbers, as the engine has.
+// standard room (document 02, K6): its size, the bytes in use and the most that were in use. The rules stand in two methods of an
+// account by value, `take` and `give_back`. `charge` and `release` take the account by `&mut` and change it where it stands.
 #![tactic(auto)]
 
-ghost use Rattle.std.specs.Prelude.{◌≡◌, max};
-ghost use Rattle.account.specs.Accounts.{account, has_room, taken, given_back};
+ghost use Rattle.std.specs.Prelude.{◌≡◌};
+ghost use Rattle.account.specs.Accounts.{has_room, taken, taken_or_none, given_back};
 
 // Whose account it is: of the attached buffer, or of the standard room. What each stands for in rules: specs/Stores.
 #[derive(Clone, Copy)]
@@ -22,107 +21,53 @@ pub struct Account {
     pub peak: usize,
 }
 
-// What a charge leaves, and whether it was taken.
-#[derive(Clone, Copy)]
-pub struct Outcome {
-    pub account: Account,
-    pub ok: bool,
-}
-
-// There is room for n bytes: in use plus n is at most the size.
-pub fn room(a: Account, n: usize) -> bool
-    ensures { result ≡ has_room a n }
-{
-    if n <= a.size {
-        a.in_use <= a.size - n
-    } else {
-        false
+impl Account {
+    // There is room for n bytes: in use plus n is at most the size.
+    pub fn has_room(self, n: usize) -> bool
+        ensures { result ≡ has_room self n }
+    {
+        n <= self.size && self.in_use <= self.size - n
     }
-}
 
-// The larger of two numbers.
-fn larger(x: usize, y: usize) -> usize
-    ensures { result ≡ max x y }
-{
-    if x < y { y } else { x }
-}
+    // The account with a charge of n bytes, where there is room.
+    pub fn take(self, n: usize) -> Option<Account>
+        ensures { result ≡ taken_or_none self n }
+    {
+        if !self.has_room(n) {
+            return None;
+        }
+        let in_use = self.in_use + n;
+        let peak = self.peak.max(in_use);
+        Some(Account {
+            in_use,
+            peak,
+            ..self
+        })
+    }
 
-// A charge of n bytes is taken where there is room; else the account is as it was, and the answer says so.
-pub fn take(a: Account, n: usize) -> Outcome
-    ensures { (result.account ≡ taken a n) × (result.ok ≡ has_room a n) }
-{
-    if room(a, n) {
-        let used = a.in_use + n;
-        let most = larger(a.peak, used);
-        let after = Account {
-            size: a.size,
-            in_use: used,
-            peak: most,
+    // A buffered message is matched: its charge of n bytes goes, the peak stays.
+    pub fn give_back(self, n: usize) -> Account
+        ensures { result ≡ given_back self n }
+    {
+        let in_use = self.in_use.saturating_sub(n);
+        Account { in_use, ..self }
+    }
+
+    // The account is charged n bytes where it stands, if it has room; the answer says whether.
+    pub fn charge(&mut self, n: usize) -> bool
+        ensures { (self.new ≡ taken self.old n) × (result ≡ has_room self.old n) }
+    {
+        let Some(after) = self.take(n) else {
+            return false;
         };
-        return Outcome {
-            account: after,
-            ok: true,
-        };
+        *self = after;
+        true
     }
-    Outcome {
-        account: a,
-        ok: false,
+
+    // A charge of n bytes goes from the account where it stands.
+    pub fn release(&mut self, n: usize)
+        ensures { self.new ≡ given_back self.old n }
+    {
+        *self = self.give_back(n);
     }
-}
-
-// A buffered message is matched: its charge of n bytes goes, the peak stays.
-pub fn give_back(a: Account, n: usize) -> Account
-    ensures { result ≡ given_back a n }
-{
-    let left = if n <= a.in_use { a.in_use - n } else { 0 };
-    Account {
-        size: a.size,
-        in_use: left,
-        peak: a.peak,
-    }
-}
-
-// The account is charged n bytes where it stands, if it has room; the answer says whether.
-pub fn charge(account: &mut Account, n: usize) -> bool
-    ensures { (account.new ≡ taken account.old n) × (result ≡ has_room account.old n) }
-{
-    let c = take(*account, n);
-    *account = c.account;
-    c.ok
-}
-
-// A charge of n bytes goes from the account where it stands.
-pub fn release(account: &mut Account, n: usize)
-    ensures { account.new ≡ given_back account.old n }
-{
-    *account = give_back(*account, n);
-}
-
-// The account of plain numbers after n bytes were charged to it where there is room, and whether they were.
-pub fn charging(size: usize, in_use: usize, peak: usize, n: usize) -> Outcome
-    ensures { (result.account ≡ taken (account size in_use peak) n) × (result.ok ≡ has_room (account size in_use peak) n) }
-{
-    let mut own = Account {
-        size: size,
-        in_use: in_use,
-        peak: peak,
-    };
-    let ok = charge(&mut own, n);
-    Outcome {
-        account: own,
-        ok: ok,
-    }
-}
-
-// The account of plain numbers after a charge of n bytes went from it.
-pub fn releasing(size: usize, in_use: usize, peak: usize, n: usize) -> Account
-    ensures { result ≡ given_back (account size in_use peak) n }
-{
-    let mut own = Account {
-        size: size,
-        in_use: in_use,
-        peak: peak,
-    };
-    release(&mut own, n);
-    own
 }

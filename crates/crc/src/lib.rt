@@ -1,13 +1,12 @@
 // CRC-16 by a constant table of all 256 remainders (document 01, "The sheet, byte by byte").
 #![tactic(auto)]
 
-ghost use Rattle.std.specs.Prelude.{◌≡◌, ◌<◌, length, get_or};
+ghost use Rattle.std.specs.Prelude.{◌≡◌, ◌<◌, length};
 ghost use Rattle.rules.specs.Crc.{crc_from, crc};
 ghost use Rattle.crc.specs.Remainders.{Remainders};
-ghost use Rattle.words.specs.Read.{Word};
 
 // Where every CRC starts.
-const START: usize = 0xffff;
+const START: u16 = 0xffff;
 
 // Where the header's own CRC stands, which is left out.
 pub const CRC_AT: usize = 14;
@@ -38,41 +37,25 @@ const REMAINDERS: [u16; 256] = [
     0x2e93, 0x3eb2, 0x0ed1, 0x1ef0,
 ];
 
-// An entry of the table.
-fn entry(table: &[u16; 256], k: usize) -> usize
-    requires { k < 256 }
-    ensures { Word (get_or table.now k 0) result }
+// The CRC `start`, carried on over the bytes of s.
+fn crc_over(table: &[u16; 256], start: u16, s: &[u8]) -> u16
+    requires { Remainders table.now }
+    ensures { result ≡ crc_from start s.now }
 {
-    wide16(table[k])
-}
-
-fn wide16(x: u16) -> usize
-    ensures { Word x result }
-{
-    x as usize
-}
-
-// The CRC c, carried on over the bytes of s.
-fn crc_over(table: &[u16; 256], c: usize, s: &[u8]) -> usize
-    requires { (c < 65536) × Remainders table.now }
-    ensures { Word (crc_from c s.now) result }
-{
-    let mut crc = c;
-    let mut i = 0;
-    while i < s.len() {
-        let k = (crc / 256) ^ words::wide(s[i]);
-        crc = (crc % 256 * 256) ^ entry(table, k);
-        i += 1;
+    let mut crc = start;
+    for &b in s {
+        let k = usize::from(crc / 256) ^ usize::from(b);
+        crc = (crc % 256 * 256) ^ table[k];
     }
     crc
 }
 
 // The CRC of a sheet's two parts: bytes 0 to 13, then 16 to the end.
-fn crc_by(table: &[u16; 256], s: &[u8]) -> usize
+fn crc_by(table: &[u16; 256], s: &[u8]) -> u16
     requires { (15 < length s.now) × Remainders table.now }
-    ensures { Word (crc s.now) result }
+    ensures { result ≡ crc s.now }
 {
-    let head = crc_over(table, START, &s[0..CRC_AT]);
+    let head = crc_over(table, START, &s[..CRC_AT]);
     crc_over(table, head, &s[limits::HEADER_SIZE..])
 }
 
@@ -84,31 +67,31 @@ fn remainders() -> [u16; 256]
 }
 
 // The CRC of a list of bytes, as published vectors have it.
-pub fn crc_of_bytes(s: &[u8]) -> usize
-    ensures { Word (crc_from 65535 s.now) result }
+pub fn crc_of_bytes(s: &[u8]) -> u16
+    ensures { result ≡ crc_from 65535 s.now }
 {
     let table = remainders();
     crc_over(&table, START, s)
 }
 
 // The CRC of a sheet.
-pub fn crc_of(s: &[u8]) -> usize
+pub fn crc_of(s: &[u8]) -> u16
     requires { 15 < length s.now }
-    ensures { Word (crc s.now) result }
+    ensures { result ≡ crc s.now }
 {
     let table = remainders();
     crc_by(&table, s)
 }
 
 // The same of bytes that end before a header does: of bytes 0 to 13 what there is.
-fn crc_of_short(s: &[u8]) -> usize
+fn crc_of_short(s: &[u8]) -> u16
     requires { length s.now < 16 }
-    ensures { Word (crc s.now) result }
+    ensures { result ≡ crc s.now }
 {
     if s.len() < CRC_AT {
         return crc_of_bytes(s);
     }
-    crc_of_bytes(&s[0..CRC_AT])
+    crc_of_bytes(&s[..CRC_AT])
 }
 
 // The CRC that a sheet of these bytes has to carry, whatever their number.
@@ -116,7 +99,7 @@ pub fn crc_of_any(s: &[u8]) -> u16
     ensures { result ≡ crc s.now }
 {
     if s.len() < limits::HEADER_SIZE {
-        return crc_of_short(s) as u16;
+        return crc_of_short(s);
     }
-    crc_of(s) as u16
+    crc_of(s)
 }

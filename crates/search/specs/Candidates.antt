@@ -1,17 +1,19 @@
 -- A candidate of a search, an operation of a waiting list, beside what the searching operation asks for.
 --   Asks             the numbers that were read of an operation before its search
 --   sides_fit        rules' fit of a message and a receive, over plain numbers
---   other-..         the first part that fails decides
---   by_communicator  with all others as asked, the communicators decide
+--   ..-order         its parts in the order in which the code tests them
+--   read-..          a source or a tag that is asked for
+--   and-..           a test that is made where the one before it holds
 --   candidate_read   so a candidate fits what was read exactly where rules' fit says so
 -- Assumes nothing.
 use Rattle.std.specs.Prelude.{◌≡◌, Bool, ◌&&◌, ℕ, eqb}
 use Rattle.std.proofs.Math.Path.{refl}
-use Rattle.std.proofs.Common.{sym, ◌∙◌, ap, eq-eqb, ne_eqb}
+use Rattle.std.proofs.Common.{sym, ◌∙◌, ap, arith, eq-eqb}
 use Rattle.std.proofs.Math.Bool.{true, false}
+use Rattle.rules.specs.Limits.{any}
 use Rattle.rules.specs.Sheet.{Sheet, op, rank_of}
 use Rattle.waiting.specs.Envelopes.{is_asked, envelope_fits}
-use Rattle.waiting.proofs.Envelopes.{other_source, other_tag, same_but_context}
+use Rattle.waiting.proofs.Envelopes.{any_is_asked, named_is_asked}
 use Rattle.state.specs.declared.Queue.{Queue}
 use Rattle.state.specs.declared.Queue.TheVariants.{Messages, Receives}
 use Rattle.search.specs.declared.candidates.Asked.{Asked}
@@ -38,28 +40,47 @@ pub record Sides : Type 0 where
 unfoldable pub sides_fit : Sides → Bool
 sides_fit x = eqb x.destination x.board && envelope_fits x.sender x.context x.mark x.source x.communicator x.tag
 
+-- the parts of a fit in the order in which they are tested, of a message and of a posted receive
 module _ (x : Sides) where
-  no_envelope : false ≡ envelope_fits x.sender x.context x.mark x.source x.communicator x.tag → false ≡ sides_fit x
-  unfolding sides_fit
-  no_envelope e = go (eqb x.destination x.board) (envelope_fits x.sender x.context x.mark x.source x.communicator x.tag) e
+  abbrev board_fits : Bool
+  board_fits = eqb x.destination x.board
+
+  abbrev source_fits : Bool
+  source_fits = is_asked x.source x.sender
+
+  abbrev tag_fits : Bool
+  tag_fits = is_asked x.tag x.mark
+
+  abbrev communicator_fits : Bool
+  communicator_fits = eqb x.context x.communicator
+
+  pub message_order : (((source_fits && board_fits) && tag_fits) && communicator_fits) ≡ sides_fit x
+  unfolding sides_fit envelope_fits
+  message_order = go source_fits board_fits tag_fits communicator_fits
     where
-      go : (a b : Bool) → false ≡ b → false ≡ (a && b)
-      go true b h = h
-      go false b h = refl
+      go : (s d t c : Bool) → (((s && d) && t) && c) ≡ (d && (c && (s && t)))
+      go s d t c = grind arith
 
-  pub other_board : (x.destination ≡ x.board → ⊥) → false ≡ sides_fit x
-  unfolding sides_fit
-  other_board e = rw (ne_eqb x.destination x.board e) refl
+  pub receive_order : (((board_fits && tag_fits) && source_fits) && communicator_fits) ≡ sides_fit x
+  unfolding sides_fit envelope_fits
+  receive_order = go source_fits board_fits tag_fits communicator_fits
+    where
+      go : (s d t c : Bool) → (((d && t) && s) && c) ≡ (d && (c && (s && t)))
+      go s d t c = grind arith
 
-  pub other_sender : is_asked x.source x.sender ≡ false → false ≡ sides_fit x
-  other_sender e = no_envelope (other_source x.sender x.context x.mark x.source x.communicator x.tag e)
+-- any source or tag is asked for, or one that is told by a number that was read
+pub read_any : {v : Bool} {asked : ℕ} (told : ℕ) → asked ≡ any → v ≡ eqb asked any → v ≡ is_asked asked told
+read_any {v} {asked} told e f = f ∙ eq-eqb asked any e ∙ any_is_asked asked told e
 
-  pub other_mark : is_asked x.tag x.mark ≡ false → false ≡ sides_fit x
-  other_mark e = no_envelope (other_tag x.sender x.context x.mark x.source x.communicator x.tag e)
+pub read_named : {v : Bool} {asked told n : ℕ} → (asked ≡ any → ⊥) → n ≡ told → v ≡ eqb asked n → v ≡ is_asked asked told
+read_named {v} {asked} {told} {n} e f h = h ∙ ap (λ (k : ℕ). eqb asked k) f ∙ named_is_asked asked told e
 
-  pub by_communicator : x.destination ≡ x.board → is_asked x.source x.sender ≡ true → is_asked x.tag x.mark ≡ true → eqb x.context x.communicator ≡ sides_fit x
-  unfolding sides_fit
-  by_communicator e f g = rw (eq-eqb x.destination x.board e) (same_but_context x.sender x.context x.mark x.source x.communicator x.tag f g)
+-- a test that is made where the one before it holds, and one that is not made
+pub and_then : {a b w : Bool} → a ≡ true → w ≡ b → w ≡ (a && b)
+and_then e f = rw e f
+
+pub and_stop : {a w : Bool} (b : Bool) → a ≡ false → w ≡ a → w ≡ (a && b)
+and_stop b e f = rw e (f ∙ e)
 
 -- message m beside a receive that asks for a
 abbrev pub message_beside : Sheet → Asked → (m : ℕ) → Sides

@@ -4,7 +4,7 @@
 --   listed_op, listed_in     an operation in a list is one of the sheet
 --   found_is, missing_is     what was found
 -- Assumes nothing.
-use Rattle.std.specs.Prelude.{◌≡◌, List, ℕ, ◌<◌, ◌≤◌, length, get_or}
+use Rattle.std.specs.Prelude.{◌≡◌, None, List, ℕ, ◌<◌, length, get_or}
 use Rattle.std.proofs.Common.{sym, ◌∙◌, ap, subst, arith}
 use Rattle.std.proofs.Math.Option.{none, some}
 use Rattle.rules.specs.Sheet.{Sheet, sheet_in, N_of, two}
@@ -21,7 +21,7 @@ use Rattle.state.specs.Queues.{base_of, count_of, list_of}
 use Rattle.state.specs.Decodes.{Decodes}
 use Rattle.state.proofs.Decodes.{list_are, few_listed, list_is, list_length}
 use Rattle.simulation.specs.Simulates.{Holds}
-use Rattle.search.specs.Search.{Readable, Listed, First, pair_fits, first_found, first_missing}
+use Rattle.search.specs.Search.{Readable, Listed, FirstBelow, First, pair_fits, first_found, first_missing}
 
 -- what is held can be read
 pub holds_reads : {bs c : List ℕ} {t : Control} {ok : Sheet → Job → Type 0} → Holds bs c t ok → Readable bs c
@@ -56,13 +56,15 @@ module _ (bs c : List ℕ) (t : Control) (x : Job) (d : Decodes (sheet_in bs) c 
       }
 
   -- what the search over scratch found is what rules' search over the list finds
-  module _ (i k : ℕ) (h : First (λ j. pair_fits list s i (two c (word_at (base_of list) j))) (count_of list t) k) where
-    pub found_is : k < count_of list t → first_by (λ j. pair_fits list s i j) (list_of list x) ≡ some (two c (word_at (base_of list) k))
-    found_is l =
+  module _ (i : ℕ) where
+    pub found_is : (k : ℕ) → FirstBelow (λ j. pair_fits list s i (two c (word_at (base_of list) j))) (count_of list t) k →
+        first_by (λ j. pair_fits list s i j) (list_of list x) ≡ some (two c (word_at (base_of list) k))
+    found_is k h =
         ap (λ (js : List ℕ). first_by (λ j. pair_fits list s i j) js) (list_are s c t x d list)
-        ∙ first_found (λ j. pair_fits list s i j) c (base_of list) (count_of list t) k h l
+        ∙ first_found (λ j. pair_fits list s i j) c (base_of list) (count_of list t) k h
 
-    pub missing_is : count_of list t ≤ k → first_by (λ j. pair_fits list s i j) (list_of list x) ≡ none
-    missing_is l =
+    pub missing_is : First (λ j. pair_fits list s i (two c (word_at (base_of list) j))) (count_of list t) None →
+        first_by (λ j. pair_fits list s i j) (list_of list x) ≡ none
+    missing_is h =
         ap (λ (js : List ℕ). first_by (λ j. pair_fits list s i j) js) (list_are s c t x d list)
-        ∙ first_missing (λ j. pair_fits list s i j) c (base_of list) (count_of list t) k h (omega (arith, h.within))
+        ∙ first_missing (λ j. pair_fits list s i j) c (base_of list) (count_of list t) h

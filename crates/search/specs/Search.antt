@@ -1,6 +1,6 @@
 -- The earliest that fits: what a search over a waiting list in scratch has found is what rules' searches find (document 01,
 -- "How a board steps"). Assumes nothing.
-use Rattle.std.specs.Prelude.{◌≡◌, Bool, true, ◌&&◌, List, eqb, length}
+use Rattle.std.specs.Prelude.{◌≡◌, Option, None, Some, Bool, true, ◌&&◌, List, eqb, length}
 use Rattle.std.proofs.Math.Path.{refl, ap, subst}
 use Rattle.std.proofs.Common.{sym, ◌∙◌, zero-add}
 use Rattle.std.proofs.Math.Bool.{false}
@@ -47,20 +47,16 @@ pub record Listed (bs c : List ℕ) (list : Queue) (count : ℕ) : Type 0 where
   pub short : count ≤ most_ops
   pub members : (k : ℕ) → k < count → two c (word_at (base_of list) k) < N_of (sheet_in bs)
 
--- k is the first index below `count` at which a test passes, or `count` where none does
-pub record First (f : ℕ → Bool) (count k : ℕ) : Type 0 where
-  pub within : k ≤ count
+-- k is the first index below `count` at which a test passes
+pub record FirstBelow (f : ℕ → Bool) (count k : ℕ) : Type 0 where
+  pub inside : k < count
   pub before : (j : ℕ) → j < k → f j ≡ false
-  pub found : k < count → f k ≡ true
+  pub found : f k ≡ true
 
--- a search that has passed k indices
-pub first_past : (f : ℕ → Bool) (count k : ℕ) → count ≤ k → k ≤ count → ((j : ℕ) → j < k → f j ≡ false) → First f count k
-first_past f count k l u b =
-    record {
-      within = u;
-      before = b;
-      found = λ h. absurd (omega arith);
-    }
+-- the first index below `count` at which a test passes, or none where none does
+abbrev pub First : (ℕ → Bool) → (count : ℕ) → Option ℕ → Type 0
+First f count None = (j : ℕ) → j < count → f j ≡ false
+First f count (Some k) = FirstBelow f count k
 
 module _ (f : ℕ → Bool) (g : ℕ → ℕ) where
   tab_first : (i n k : ℕ) → k < n → ((j : ℕ) → j < k → f (g (i + j)) ≡ false) → f (g (i + k)) ≡ true → first_by f (tab g i n) ≡ some (g (i + k))
@@ -84,16 +80,16 @@ module _ (f : ℕ → Bool) (g : ℕ → ℕ) where
       ∙ tab_first_none (suc i) n (λ j h. subst (λ (m : ℕ). f (g m) ≡ false) (omega arith) (b (suc j) (omega arith)))
 
 -- the first that passes, of the list that stands at base
-module _ (f : ℕ → Bool) (c : List ℕ) (base count k : ℕ) (h : First (λ j. f (two c (word_at base j))) count k) where
-  pub first_found : k < count → first_by f (words_in c base count) ≡ some (two c (word_at base k))
+module _ (f : ℕ → Bool) (c : List ℕ) (base count : ℕ) where
+  pub first_found : (k : ℕ) → FirstBelow (λ j. f (two c (word_at base j))) count k → first_by f (words_in c base count) ≡ some (two c (word_at base k))
   unfolding words_in
-  first_found l =
+  first_found k h =
       let g : ℕ → ℕ = λ j. two c (word_at base j) in
-      tab_first f g 0 count k l (λ j q. subst (λ (m : ℕ). f (g m) ≡ false) (sym (zero-add j)) (h.before j q)) (subst (λ (m : ℕ). f (g m) ≡ true) (sym (zero-add k)) (h.found l))
+      tab_first f g 0 count k h.inside (λ j q. subst (λ (m : ℕ). f (g m) ≡ false) (sym (zero-add j)) (h.before j q)) (subst (λ (m : ℕ). f (g m) ≡ true) (sym (zero-add k)) h.found)
       ∙ ap (λ (m : ℕ). some (g m)) (zero-add k)
 
-  pub first_missing : k ≡ count → first_by f (words_in c base count) ≡ none
+  pub first_missing : First (λ j. f (two c (word_at base j))) count None → first_by f (words_in c base count) ≡ none
   unfolding words_in
-  first_missing e =
+  first_missing h =
       let g : ℕ → ℕ = λ j. two c (word_at base j) in
-      tab_first_none f g 0 count (λ j q. subst (λ (m : ℕ). f (g m) ≡ false) (sym (zero-add j)) (h.before j (omega arith)))
+      tab_first_none f g 0 count (λ j q. subst (λ (m : ℕ). f (g m) ≡ false) (sym (zero-add j)) (h j q))

@@ -1,12 +1,8 @@
 // An operation that waits, beside what the operation that searches its list asks for (document 01, "How a board steps"; 004). What
 // is asked for is read once, before the search. Of a candidate those fields are read that decide, in this order: its board, which
 // is another in most; whom it is addressed to, or its tag; its communicator, of which there are few.
-ghost use Rattle.std.specs.Prelude.{◌≡◌, ◌<◌, ◌≤◌, length, get_or};
-ghost use Rattle.rules.specs.Limits.{most_ops, scratch_size};
-ghost use Rattle.rules.specs.Sheet.{sheet_in, op, N_of};
-ghost use Rattle.laws.specs.Laid.{Laid};
-ghost use Rattle.waiting.specs.Envelopes.{is_asked};
-ghost use Rattle.state.specs.Layout.{rank_at};
+ghost use Rattle.std.specs.Prelude.{◌≡◌, ◌<◌};
+ghost use Rattle.rules.specs.Sheet.{sheet_in, N_of};
 ghost use Rattle.search.specs.Search.{Readable};
 ghost use Rattle.search.specs.Candidates.{Asks, sides_fit, message_beside, receive_beside, candidate_fits};
 
@@ -36,43 +32,15 @@ pub fn asked_by(s: &[u8], c: &[u8], i: usize) -> Asked
     }
 }
 
-// Message m comes from the source that a receive asks for. Its rank is read only where one is named.
-fn source_asked(c: &[u8], source: usize, m: usize) -> bool
-    requires { (m < most_ops) × (scratch_size ≤ length c.now) }
-    ensures { result ≡ is_asked source (get_or c.now (rank_at m) 0) }
-{
-    if source == ANY {
-        return true;
-    }
-    source == ranks::rank_at(c, m)
-}
-
-// Message m has the tag that a receive asks for. Its tag is read only where one is named.
-fn tag_asked(s: &[u8], tag: usize, m: usize) -> bool
-    requires { Laid s.now × (m < N_of (sheet_in s.now)) }
-    ensures { result ≡ is_asked tag (op (sheet_in s.now) m).tag }
-{
-    if tag == ANY {
-        return true;
-    }
-    tag == ops::tag(s, m)
-}
-
 // Message m fits a receive.
 fn message_fits(s: &[u8], c: &[u8], a: Asked, m: usize) -> bool
     requires { Readable s.now c.now × (m < N_of (sheet_in s.now)) }
     ensures { result ≡ sides_fit (message_beside (sheet_in s.now) a m) }
 {
-    if !source_asked(c, a.peer, m) {
-        return false;
-    }
-    if ops::peer(s, m) != a.rank {
-        return false;
-    }
-    if !tag_asked(s, a.tag, m) {
-        return false;
-    }
-    ops::comm(s, m) == a.communicator
+    (a.peer == ANY || a.peer == ranks::rank_at(c, m))
+        && ops::peer(s, m) == a.rank
+        && (a.tag == ANY || a.tag == ops::tag(s, m))
+        && ops::comm(s, m) == a.communicator
 }
 
 // Posted receive q fits a send.
@@ -80,19 +48,14 @@ fn receive_fits(s: &[u8], c: &[u8], a: Asked, q: usize) -> bool
     requires { Readable s.now c.now × (q < N_of (sheet_in s.now)) }
     ensures { result ≡ sides_fit (receive_beside (sheet_in s.now) a q) }
 {
-    if a.peer != ranks::rank_at(c, q) {
-        return false;
-    }
-    if !waiting::asks_for(ops::tag(s, q), a.tag) {
-        return false;
-    }
-    if !waiting::asks_for(ops::peer(s, q), a.rank) {
-        return false;
-    }
-    a.communicator == ops::comm(s, q)
+    a.peer == ranks::rank_at(c, q)
+        && waiting::asks_for(ops::tag(s, q), a.tag)
+        && waiting::asks_for(ops::peer(s, q), a.rank)
+        && a.communicator == ops::comm(s, q)
 }
 
 // Operation j of a list fits.
+#[tactic(auto, unfolding(crate::specs::Candidates::candidate_fits))]
 pub fn candidate_fits(s: &[u8], c: &[u8], list: Queue, a: Asked, j: usize) -> bool
     requires { Readable s.now c.now × (j < N_of (sheet_in s.now)) }
     ensures { result ≡ candidate_fits list (sheet_in s.now) a j }

@@ -11,20 +11,18 @@ use state::{Queue, lists};
 
 mod candidates;
 
-// The first of `count` operations of a waiting list that operation i fits; `count` if there is none.
-pub fn find(s: &[u8], c: &[u8], list: Queue, count: usize, i: usize) -> usize
+// Where the first of `count` operations of a waiting list stands that operation i fits.
+pub fn find(s: &[u8], c: &[u8], list: Queue, count: usize, i: usize) -> Option<usize>
     requires { Readable s.now c.now × Listed s.now c.now list count × (i < N_of (sheet_in s.now)) }
     ensures { First (λ j. pair_fits list (sheet_in s.now) i (two c.now (word_at (base_of list) j)))
         count result }
 {
     let asked = candidates::asked_by(s, c, i);
-    let base = lists::base(list);
-    let mut k = 0;
-    while k < count {
+    let base = list.base();
+    for k in 0..count {
         if candidates::candidate_fits(s, c, list, asked, lists::word_of(c, base, k)) {
-            return k;
+            return Some(k);
         }
-        k += 1;
     }
-    k
+    None
 }

@@ -1,6 +1,6 @@
 -- The changes that steps are made of, in the words of rules' Step: what a function of src/changes leaves holds the job that the
 -- definition of its name makes. Assumes nothing.
-use Rattle.std.specs.Prelude.{◌≡◌, cond, ℕ, ◌+◌, ◌<◌, ◌≤◌, set}
+use Rattle.std.specs.Prelude.{◌≡◌, Bool, cond, ℕ, ◌+◌, ◌<◌, ◌≤◌, set}
 use Rattle.std.proofs.Math.Path.{refl, ap, subst}
 use Rattle.std.proofs.Common.{◌∙◌, arith}
 use mathlib.Core.List.{List, [], ◌∷◌, ◌++◌}
@@ -70,8 +70,8 @@ module _ (s : Sheet) (c : List ℕ) (t : Control) (x : Job) (d : Decodes s c t x
       q.inside)
 
   -- both rows of a match
-  pub rows_match : (m r cut source tag long : ℕ) (a b : List ℕ) → Status s m r cut source tag long →
-      a ≡ splice c (row_at m) (op_row (entry 3 0 r absent absent 0)) → b ≡ splice a (row_at r) (op_row (entry 3 cut m source tag long)) →
+  pub rows_match : (m r : ℕ) (cut : Bool) (source tag long : ℕ) (a b : List ℕ) → Status s m r cut source tag long →
+      a ≡ splice c (row_at m) (op_row (entry 3 0 r absent absent 0)) → b ≡ splice a (row_at r) (op_row (entry 3 (cond cut 1 0) m source tag long)) →
       Decodes s b t (matched_rows s m r x)
   unfolding matched_rows with_entries job entry
   rows_match m r cut source tag long a b q e f =
@@ -79,7 +79,7 @@ module _ (s : Sheet) (c : List ℕ) (t : Control) (x : Job) (d : Decodes s c t x
       let lm : m < N_of s = q.sent_inside in
       let lr : r < N_of s = q.received_inside in
       let sent : Entry = entry 3 0 r absent absent 0 in
-      let got : Entry = entry 3 cut m source tag long in
+      let got : Entry = entry 3 (cond cut 1 0) m source tag long in
       let y : Job = with_entries (set x.entries m sent) x in
       let one : Decodes s a t y =
       decodes_as s a (splice c (row_at m) (op_row sent)) t t y e refl

@@ -4,12 +4,13 @@ use Rattle.std.specs.Prelude.{◌≡◌, ℕ, ◌+◌, ◌-◌, ◌*◌, ◌<◌
 use Rattle.std.proofs.Math.Path.{refl, sym, ap}
 use Rattle.std.proofs.Common.{◌∙◌, subst}
 use mathlib.Core.List.{List, [], ◌∷◌, ◌++◌}
-use Rattle.std.proofs.Math.Option.{Option, some}
+use Rattle.std.specs.Prelude.{Option, None, Some}
+use Rattle.std.proofs.Math.Option.{Option as Maybe, none, some}
 use native.Mathlib.Omega.{arith}
 use Rattle.std.proofs.Math.ListN.{length, get_or, set}
 use Rattle.rules.specs.Limits.{most_ops, most_boards, scratch_size}
 use Rattle.rules.specs.Sheet.{Sheet, N_of, P_of, two}
-use Rattle.rules.specs.Job.{Job, Entry, Place, Stop, job, entry, bare_entry, first_place, entry_at, place_at, with_entries, with_places, with_messages, with_receives, with_memory, with_stop, with_steps}
+use Rattle.rules.specs.Job.{Job, Entry, Place, Stop as JobStop, job, entry, bare_entry, first_place, entry_at, place_at, with_entries, with_places, with_messages, with_receives, with_memory, with_stop, with_steps}
 use Rattle.rules.specs.Step.{splice, without, with_place, with_state, stopped}
 use Rattle.rules.specs.Report.{low_two, op_row, op_rows, entry_in}
 use Rattle.laws.specs.ReportRows.{FitsRow}
@@ -18,7 +19,10 @@ use Rattle.words.specs.Putting.{part_length}
 use Rattle.words.specs.Tab.{drop_at}
 use Rattle.state.specs.declared.Control.{Control}
 use Rattle.state.specs.declared.Queue.{Queue}
+use Rattle.state.specs.declared.Stop.{Stop}
+use Rattle.state.specs.declared.StopVerdict.{StopVerdict}
 use Rattle.state.specs.declared.Queue.TheVariants.{Messages, Receives}
+use Rattle.state.specs.Numbers.{verdict_number}
 use Rattle.state.specs.Layout.{row_at, seat_at, word_at, places_at, messages_at, receives_at, ranks_at}
 use Rattle.state.specs.Decoded.{entries_in, place_in, places_in, place_row, words_in, FitsPlace}
 use Rattle.state.specs.Rows.{row_length, entries_same, entries_put, entries_at, entries_length}
@@ -27,7 +31,7 @@ use Rattle.state.specs.Places.{seat_length, places_same, places_put, places_at_r
 use Rattle.state.specs.Lists.{behind, words_same, words_at, words_length, words_append, words_remove, FirstAt, without_at}
 use Rattle.state.proofs.Indexed.{indexed_kept}
 use Rattle.state.specs.Queues.{list_based, base_of, count_of, recounted, list_of, with_list}
-use Rattle.state.specs.Controls.{stop_of, stop_some, control, counted, stepped, halted}
+use Rattle.state.specs.Controls.{job_stop, stop_of, stop, control, counted, stepped, halted}
 use Rattle.state.specs.Decodes.{Decodes}
 
 -- the same bytes and numbers under other names
@@ -61,6 +65,13 @@ module _ (s : Sheet) (c : List ℕ) (t : Control) (x : Job) (d : Decodes s c t x
 
   pub list_length : (q : Queue) → length (list_of q x) ≡ count_of q t
   list_length q = ap length (list_are q) ∙ words_length c (base_of q) (count_of q t)
+
+  -- what stopped it, and that nothing did
+  pub job_stopped : (p : Stop) → t.stop ≡ Some p → x.stop ≡ some (job_stop p)
+  job_stopped p e = d.stop_is ∙ ap stop_of e
+
+  pub job_goes_on : t.stop ≡ None → x.stop ≡ none
+  job_goes_on e = d.stop_is ∙ ap stop_of e
 
 -- REGIONS: a splice outside a region leaves what the region decodes to
 module _ (c : List ℕ) (at : ℕ) (vs : List ℕ) (h : at + length vs ≤ length c) where
@@ -217,10 +228,10 @@ module _ (s : Sheet) (c : List ℕ) (t : Control) (x : Job) (d : Decodes s c t x
       ∙ (ap (λ (ms : List ℕ). drop_at k ms) (sym (list_are s c t x d q)) ∙ sym (without_at (list_of q x) k v f))))
 
   -- what is kept beside scratch, and the memory, which is kept nowhere
-  beside : (m : List ℕ) (o : Option Stop) (j k v r i : ℕ) → o ≡ stop_of v r i → j ≡ k → Decodes s c (control t.messages t.receives k v r i)
+  beside : (m : List ℕ) (o : Maybe JobStop) (j k : ℕ) (p : Option Stop) → o ≡ stop_of p → j ≡ k → Decodes s c (control t.messages t.receives k p)
       (job x.entries x.places x.messages x.receives m o j)
   unfolding job
-  beside m o j k v r i e f =
+  beside m o j k p e f =
       record {
         few_ops = d.few_ops;
         few_boards = d.few_boards;
@@ -239,20 +250,14 @@ module _ (s : Sheet) (c : List ℕ) (t : Control) (x : Job) (d : Decodes s c t x
 
   pub steps_put : (k : ℕ) → Decodes s c (stepped k t) (with_steps k x)
   unfolding with_steps
-  steps_put k = beside x.memory x.stop k k t.verdict t.rank t.op d.stop_is refl
+  steps_put k = beside x.memory x.stop k k t.stop d.stop_is refl
 
-  pub stop_put : (v r i : ℕ) → (v ≡ 0 → ⊥) → Decodes s c (halted v r i t) (stopped v r i x)
+  pub stop_put : (v : StopVerdict) (r i : ℕ) → Decodes s c (halted v r i t) (stopped (verdict_number v) r i x)
   unfolding stopped with_stop
-  stop_put v r i h =
-      beside x.memory
-      (some
-      (record {
-        verdict = v;
-        rank = r;
-        at_op = i;
-      }))
-      x.steps t.steps v r i (sym (stop_some v r i h)) d.steps_are
+  stop_put v r i =
+      let p = Some (stop v r i) in
+      beside x.memory (stop_of p) x.steps t.steps p refl d.steps_are
 
   pub memory_put : (m : List ℕ) → Decodes s c t (with_memory m x)
   unfolding with_memory
-  memory_put m = beside m x.stop x.steps t.steps t.verdict t.rank t.op d.stop_is d.steps_are
+  memory_put m = beside m x.stop x.steps t.steps t.stop d.stop_is d.steps_are

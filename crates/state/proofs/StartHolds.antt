@@ -16,7 +16,7 @@ use Rattle.state.specs.Rows.{row_length, row_put, entries_same}
 use Rattle.state.specs.Indexed.{Indexed}
 use Rattle.state.proofs.Indexed.{indexed_kept}
 use Rattle.state.specs.Written.{rows_length}
-use Rattle.state.specs.Controls.{stop_of, no_control}
+use Rattle.state.specs.Controls.{no_control}
 use Rattle.state.specs.Decodes.{Decodes}
 use Rattle.state.specs.Start.{bare_rows, Bare, started_bytes}
 
@@ -112,7 +112,7 @@ places_zero c p m h =
 
 pub started_decodes : (s : Sheet) (c inboxes : List ℕ) → N_of s ≤ most_ops → P_of s ≤ most_boards → scratch_size ≤ length c → Indexed s c → Decodes s (started_bytes c (P_of s) (N_of s))
     no_control (started s inboxes)
-unfolding splice started job stop_of words_in Rattle.words.specs.Tab.tab bare_entry entry
+unfolding splice started job words_in Rattle.words.specs.Tab.tab bare_entry entry
 started_decodes s c inboxes n p h x =
     let rows = filled_length (N_of s) (bare_entry 0) in
     let b = splice c 0 (bare_rows (N_of s)) in

@@ -1,6 +1,6 @@
 -- The changes that steps are made of, in the words of rules' Step: what a function of src/changes leaves holds the job that the
 -- definition of its name makes. That is proved in proofs/ChangesHold. Assumes nothing.
-use Rattle.std.specs.Prelude.{◌≡◌, Bool, true, false, cond, ℕ, suc, ◌+◌, ◌<◌}
+use Rattle.std.specs.Prelude.{◌≡◌, Bool, true, false, ℕ, suc, ◌+◌, ◌<◌}
 use mathlib.Core.List.{List}
 use Rattle.std.proofs.Math.Dec.{leb}
 use Rattle.rules.specs.Sheet.{Sheet, op, N_of, P_of, rank_of}
@@ -43,10 +43,10 @@ pub record Tellable (s : Sheet) (i source tag long : ℕ) : Type 0 where
   pub long_fits : long < 65536
 
 -- the figures of a matched receive's row: its status, that fits its bytes
-pub record Status (s : Sheet) (m r cut source tag long : ℕ) : Type 0 where
+pub record Status (s : Sheet) (m r : ℕ) (cut : Bool) (source tag long : ℕ) : Type 0 where
   pub sent_inside : m < N_of s
   pub received_inside : r < N_of s
-  pub cut_is : cut ≡ cond (is_cut s m r) 1 0
+  pub cut_is : cut ≡ is_cut s m r
   pub source_is : source ≡ rank_of s m
   pub tag_is : tag ≡ (op s m).tag
   pub long_is : long ≡ (op s m).long

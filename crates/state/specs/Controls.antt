@@ -1,45 +1,51 @@
--- The numbers of a job that are kept beside scratch, and each of them changed. Assumes nothing.
-use Rattle.std.specs.Prelude.{◌≡◌, refl, ℕ, zero, suc}
-use Rattle.std.proofs.Math.Option.{Option, none, some}
-use Rattle.rules.specs.Job.{Stop}
+-- What is kept of a job beside scratch, and each part of it changed. Assumes nothing.
+use Rattle.std.specs.Prelude.{ℕ, Option, None, Some}
+use Rattle.std.proofs.Math.Option.{Option as Maybe, none, some}
+use Rattle.rules.specs.Job.{Stop as JobStop}
 use Rattle.state.specs.declared.Control.{Control}
+use Rattle.state.specs.declared.Stop.{Stop}
+use Rattle.state.specs.declared.StopVerdict.{StopVerdict}
+use Rattle.state.specs.Numbers.{verdict_number}
 
--- verdict 0 while nothing stopped the job
-unfoldable pub stop_of : (verdict rank at_op : ℕ) → Option Stop
-stop_of zero r i = none
-stop_of (suc v) r i =
-    some
-    (record {
-      verdict = suc v;
+-- a stop as rules has it
+abbrev pub job_stop : Stop → JobStop
+job_stop p =
+    record {
+      verdict = verdict_number p.verdict;
+      rank = p.rank;
+      at_op = p.op;
+    }
+
+abbrev pub stop_of : Option Stop → Maybe JobStop
+stop_of None = none
+stop_of (Some p) = some (job_stop p)
+
+abbrev pub stop : StopVerdict → (rank at_op : ℕ) → Stop
+stop v r i =
+    record {
+      verdict = v;
       rank = r;
-      at_op = i;
-    })
+      op = i;
+    }
 
-pub stop_some : (v r i : ℕ) → (v ≡ 0 → ⊥) → stop_of v r i ≡ some (record { verdict = v; rank = r; at_op = i })
-unfolding stop_of
-stop_some zero r i h = absurd (h refl)
-stop_some (suc v) r i h = refl
-
-abbrev pub control : (messages receives steps verdict rank at_op : ℕ) → Control
-control m r k v q i =
+abbrev pub control : (messages receives steps : ℕ) → Option Stop → Control
+control m r k p =
     record {
       messages = m;
       receives = r;
       steps = k;
-      verdict = v;
-      rank = q;
-      op = i;
+      stop = p;
     }
 
 abbrev pub no_control : Control
-no_control = control 0 0 0 0 0 0
+no_control = control 0 0 0 None
 
 -- the lengths of the two waiting lists; the steps taken; the stop
 abbrev pub counted : (messages receives : ℕ) → Control → Control
-counted m r t = control m r t.steps t.verdict t.rank t.op
+counted m r t = control m r t.steps t.stop
 
 abbrev pub stepped : (steps : ℕ) → Control → Control
-stepped k t = control t.messages t.receives k t.verdict t.rank t.op
+stepped k t = control t.messages t.receives k t.stop
 
-abbrev pub halted : (verdict rank at_op : ℕ) → Control → Control
-halted v q i t = control t.messages t.receives t.steps v q i
+abbrev pub halted : StopVerdict → (rank at_op : ℕ) → Control → Control
+halted v r i t = control t.messages t.receives t.steps (Some (stop v r i))

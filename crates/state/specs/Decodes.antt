@@ -25,6 +25,6 @@ pub record Decodes (s : Sheet) (c : List ℕ) (t : Control) (x : Job) : Type 0 w
   pub places_are : x.places ≡ places_in c (P_of s)
   pub messages_are : x.messages ≡ words_in c messages_at t.messages
   pub receives_are : x.receives ≡ words_in c receives_at t.receives
-  pub stop_is : x.stop ≡ stop_of t.verdict t.rank t.op
+  pub stop_is : x.stop ≡ stop_of t.stop
   pub steps_are : x.steps ≡ t.steps
   pub indexed : Indexed s c

@@ -1,5 +1,6 @@
 -- A job in lent scratch.
 --   Layout   where each part stands
+--   Numbers  the numbers of states, and of verdicts that stop a job
 --   Decoded  what the bytes decode to
 --   Rows     operation rows put and read
 --   Written  the rows as they stand are the report's rows
@@ -13,6 +14,7 @@
 --   Charged  a store charged and released by its account
 --   Start    the start of a job
 pub mod Layout
+pub mod Numbers
 pub mod Decoded
 pub mod Rows
 pub mod Written

@@ -8,20 +8,21 @@ ghost use Rattle.rules.specs.Step.{splice, without, with_place, with_row, with_s
 ghost use Rattle.account.specs.Stores.{stands_for};
 ghost use Rattle.account.specs.Accounts.{figures_of as account_figures};
 ghost use Rattle.state.specs.Layout.{seat_at};
+ghost use Rattle.state.specs.Numbers.{state_number};
 ghost use Rattle.state.specs.Decoded.{place_row, place_of};
 ghost use Rattle.state.specs.Lists.{FirstAt};
 ghost use Rattle.state.specs.Queues.{count_of, list_of, with_list, pended};
 ghost use Rattle.state.specs.Changes.{Becomes, Changes, CanFinish, released_in, Charges, Tellable, Status};
 
-use crate::{BoardPlace, Control, Queue, StoreFigures, controls, lists, places, rows};
+use crate::{BoardPlace, Control, Queue, State, StoreFigures, lists, places, rows};
 use account::{Account, Store};
 
 // Operation i gets a state and neither partner nor status.
-pub fn set_state(c: &mut [u8], i: usize, v: u8)
+pub fn set_state(c: &mut [u8], i: usize, state: State)
     requires { (i < most_ops) × (scratch_size ≤ length c.old) }
-    ensures { Changes c.old c.new (λ s x. i < N_of s) (λ s x. with_state i v x) }
+    ensures { Changes c.old c.new (λ s x. i < N_of s) (λ s x. with_state i (state_number state) x) }
 {
-    rows::put_bare(c, i, v);
+    rows::put_bare(c, i, state);
 }
 
 // Operation i is finished, and its row tells a source, a tag and a length (document 02, K9).
@@ -34,19 +35,27 @@ pub fn set_told(c: &mut [u8], i: usize, source: usize, tag: usize, long: usize)
 }
 
 // Operation i becomes pending in a state: its row, and behind the others in its list.
-pub fn pend(c: &mut [u8], t: Control, q: Queue, i: usize, v: u8) -> Control
+pub fn pend(c: &mut [u8], t: Control, q: Queue, i: usize, state: State) -> Control
     requires { (i < most_ops) × (count_of q t < most_ops) × (scratch_size ≤ length c.old) }
-    ensures { Becomes c.old t c.new result (λ s x. i < N_of s) (λ s x. pended q i v x) }
+    ensures { Becomes c.old t c.new result (λ s x. i < N_of s) (λ s x. pended q i (state_number state) x) }
 {
-    let n = controls::count(t, q);
-    let base = lists::base(q);
-    rows::put_bare(c, i, v);
+    let n = t.count(q);
+    let base = q.base();
+    rows::put_bare(c, i, state);
     lists::append(c, base, n, i);
-    controls::recounting(t, q, n + 1)
+    t.recounting(q, n + 1)
 }
 
 // Both rows of a match of message m and receive r.
-pub fn match_rows(c: &mut [u8], m: usize, r: usize, cut: u8, source: usize, tag: usize, long: usize)
+pub fn match_rows(
+    c: &mut [u8],
+    m: usize,
+    r: usize,
+    cut: bool,
+    source: usize,
+    tag: usize,
+    long: usize,
+)
     requires { (m < most_ops) × (r < most_ops) × (scratch_size ≤ length c.old) }
     ensures { Changes c.old c.new (λ s x. Status s m r cut source tag long) (λ s x. matched_rows s m r x) }
 {
@@ -60,24 +69,23 @@ pub fn take(c: &mut [u8], t: Control, q: Queue, k: usize) -> Control
     ensures { (v : ℕ) → Becomes c.old t c.new result
         (λ s x. FirstAt (list_of q x) k v) (λ s x. with_list q (without v (list_of q x)) x) }
 {
-    let left = controls::count(t, q) - 1;
-    let base = lists::base(q);
-    lists::remove(c, base, left, k);
-    controls::recounting(t, q, left)
+    let left = t.count(q) - 1;
+    lists::remove(c, q.base(), left, k);
+    t.recounting(q, left)
 }
 
 // The place q of board r with a store's account a.
+#[tactic(auto, unfolding(account::specs::Accounts::figures_of))]
 fn put_account(c: &mut [u8], r: usize, q: BoardPlace, w: Store, a: Account)
     requires { (r < most_boards) × (scratch_size ≤ length c.old) }
     ensures { c.new ≡ splice c.old (seat_at r)
         (place_row (with_account (stands_for w) (account_figures a) (place_of q))) }
 {
-    let f = StoreFigures {
+    let figures = StoreFigures {
         in_use: a.in_use,
         peak: a.peak,
     };
-    let next = places::with_figures(q, w, f);
-    places::put_place(c, r, next);
+    places::put_place(c, r, q.with_figures(w, figures));
 }
 
 // A store of board r, of the size, is charged n bytes where it has room, and says whether: the account is lent and changed where
@@ -87,12 +95,9 @@ pub fn charge(c: &mut [u8], r: usize, w: Store, size: usize, n: usize) -> bool
     ensures { Charges (stands_for w) c.old c.new r size n result }
 {
     let q = places::place_of(c, r);
-    let f = places::figures_in(q, w);
-    let charged = account::charging(size, f.in_use, f.peak, n);
-    if !charged.ok {
+    let Some(after) = q.figures(w).account(size).take(n) else {
         return false;
-    }
-    let after = charged.account;
+    };
     put_account(c, r, q, w, after);
     true
 }
@@ -104,8 +109,7 @@ pub fn release(c: &mut [u8], r: usize, w: Store, size: usize, n: usize)
         (λ s x. with_place r (released_in (stands_for w) n (place_at x r)) x) }
 {
     let q = places::place_of(c, r);
-    let f = places::figures_in(q, w);
-    let left = account::releasing(size, f.in_use, f.peak, n);
+    let left = q.figures(w).account(size).give_back(n);
     put_account(c, r, q, w, left);
 }
 
@@ -116,7 +120,11 @@ pub fn finish_one(c: &mut [u8], r: usize)
         (λ s x. with_place r (one_finished (place_at x r)) x) }
 {
     let q = places::place_of(c, r);
-    let next = places::standing(q, q.finished + 1, false);
+    let next = BoardPlace {
+        finished: q.finished + 1,
+        waiting: false,
+        ..q
+    };
     places::put_place(c, r, next);
 }
 
@@ -127,6 +135,6 @@ pub fn start_waiting(c: &mut [u8], r: usize)
         (λ s x. with_place r (now_waiting (place_at x r)) x) }
 {
     let q = places::place_of(c, r);
-    let next = places::standing(q, q.finished, true);
+    let next = BoardPlace { waiting: true, ..q };
     places::put_place(c, r, next);
 }

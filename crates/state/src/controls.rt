@@ -1,82 +1,53 @@
-// The numbers kept beside scratch, by value: each function gives a control block with one part changed.
+// What is kept beside scratch, by value: each method gives a control block with one part changed.
 ghost use Rattle.std.specs.Prelude.{◌≡◌};
-ghost use Rattle.state.specs.Controls.{no_control, counted, stepped, halted};
+ghost use Rattle.state.specs.Controls.{halted};
+ghost use Rattle.state.specs.Numbers.{verdict_number};
 ghost use Rattle.state.specs.Queues.{count_of, recounted};
 
-use crate::{Control, Queue};
+use crate::{Control, Queue, Stop, StopVerdict};
 
-// The control block of a job at its start.
-pub fn none() -> Control
-    ensures { result ≡ no_control }
-{
-    Control {
-        messages: 0,
-        receives: 0,
-        steps: 0,
-        verdict: 0,
-        rank: 0,
-        op: 0,
+impl From<StopVerdict> for usize {
+    ghost from_gives = { λ v n. n ≡ verdict_number v };
+
+    fn from(verdict: StopVerdict) -> usize {
+        verdict as usize
     }
 }
 
-// How many a waiting list has.
-pub fn count(t: Control, q: Queue) -> usize
-    ensures { result ≡ count_of q t }
-{
-    match q {
-        Queue::Messages => t.messages,
-        Queue::Receives => t.receives,
+impl Control {
+    // How many a waiting list has.
+    #[tactic(auto, unfolding(crate::specs::Queues::count_of))]
+    pub fn count(self, q: Queue) -> usize
+        ensures { result ≡ count_of q self }
+    {
+        match q {
+            Queue::Messages => self.messages,
+            Queue::Receives => self.receives,
+        }
     }
-}
 
-// With n in a waiting list.
-pub fn recounting(t: Control, q: Queue, n: usize) -> Control
-    ensures { result ≡ recounted q n t }
-{
-    match q {
-        Queue::Messages => counting(t, n, t.receives),
-        Queue::Receives => counting(t, t.messages, n),
+    // With n in a waiting list.
+    #[tactic(auto, unfolding(crate::specs::Queues::recounted))]
+    pub fn recounting(self, q: Queue, n: usize) -> Control
+        ensures { result ≡ recounted q n self }
+    {
+        match q {
+            Queue::Messages => Control {
+                messages: n,
+                ..self
+            },
+            Queue::Receives => Control {
+                receives: n,
+                ..self
+            },
+        }
     }
-}
 
-// With m pending messages and r posted receives.
-fn counting(t: Control, m: usize, r: usize) -> Control
-    ensures { result ≡ counted m r t }
-{
-    Control {
-        messages: m,
-        receives: r,
-        steps: t.steps,
-        verdict: t.verdict,
-        rank: t.rank,
-        op: t.op,
-    }
-}
-
-// With k steps taken.
-pub fn stepping(t: Control, k: usize) -> Control
-    ensures { result ≡ stepped k t }
-{
-    Control {
-        messages: t.messages,
-        receives: t.receives,
-        steps: k,
-        verdict: t.verdict,
-        rank: t.rank,
-        op: t.op,
-    }
-}
-
-// Stopped with verdict v, by board r at operation i.
-pub fn halting(t: Control, v: usize, r: usize, i: usize) -> Control
-    ensures { result ≡ halted v r i t }
-{
-    Control {
-        messages: t.messages,
-        receives: t.receives,
-        steps: t.steps,
-        verdict: v,
-        rank: r,
-        op: i,
+    // Stopped with a verdict, by board `rank` at operation `op`.
+    pub fn halting(self, verdict: StopVerdict, rank: usize, op: usize) -> Control
+        ensures { result ≡ halted verdict rank op self }
+    {
+        let stop = Some(Stop { verdict, rank, op });
+        Control { stop, ..self }
     }
 }

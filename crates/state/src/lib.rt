@@ -3,7 +3,7 @@
 #![tactic(auto)]
 
 pub mod changes;
-pub mod controls;
+mod controls;
 pub mod lists;
 pub mod places;
 pub mod ranks;
@@ -25,16 +25,39 @@ const RANKS: usize = RECEIVES + 2 * limits::MOST_OPS;
 
 const WAITS: usize = RANKS + limits::MOST_OPS;
 
-// The control block: the numbers of a job that are kept beside scratch. Lengths of the two waiting lists, steps taken, and why
-// and where the job stopped (verdict 0 while nothing stopped it).
+// The state of an operation, with the number that its row tells (document 01, "The report"). Finished is a wait, a probe or a query.
 #[derive(Clone, Copy)]
+pub enum State {
+    NotEntered = 0,
+    Pending = 1,
+    Buffered = 2,
+    Matched = 3,
+    Finished = 5,
+}
+
+// A verdict that stops a job, with its number.
+#[derive(Clone, Copy)]
+pub enum StopVerdict {
+    Overflow = 3,
+    NotReady = 4,
+}
+
+// Why a job stopped, and where: the board's rank, and its operation.
+#[derive(Clone, Copy)]
+pub struct Stop {
+    pub verdict: StopVerdict,
+    pub rank: usize,
+    pub op: usize,
+}
+
+// The control block: what is kept of a job beside scratch. Lengths of the two waiting lists, steps taken, and what stopped the job.
+// The default is that of a job at its start.
+#[derive(Clone, Copy, Default)]
 pub struct Control {
     pub messages: usize,
     pub receives: usize,
     pub steps: usize,
-    pub verdict: usize,
-    pub rank: usize,
-    pub op: usize,
+    pub stop: Option<Stop>,
 }
 
 // One of the two waiting lists: pending messages in order of arrival, posted receives in order of posting.

@@ -1,5 +1,5 @@
 // The two waiting lists, two-byte operation numbers. How many there are is kept in the control block.
-ghost use Rattle.std.specs.Prelude.{◌≡◌, ◌+◌, ◌*◌, ◌<◌, ◌≤◌, length};
+ghost use Rattle.std.specs.Prelude.{◌≡◌, ◌+◌, ◌≤◌, length};
 ghost use Rattle.rules.specs.Sheet.{two};
 ghost use Rattle.rules.specs.Step.{splice};
 ghost use Rattle.rules.specs.Report.{low_two};
@@ -10,13 +10,16 @@ ghost use Rattle.state.specs.Queues.{Based, base_of};
 
 use crate::{MESSAGES, Queue, RECEIVES};
 
-// Where a list starts.
-pub fn base(q: Queue) -> usize
-    ensures { (result ≡ base_of q) × Based result }
-{
-    match q {
-        Queue::Messages => MESSAGES,
-        Queue::Receives => RECEIVES,
+impl Queue {
+    // Where the list starts.
+    #[tactic(auto, unfolding(crate::specs::Queues::base_of), using(crate::specs::Queues::list_based))]
+    pub fn base(self) -> usize
+        ensures { (result ≡ base_of self) × Based result }
+    {
+        match self {
+            Queue::Messages => MESSAGES,
+            Queue::Receives => RECEIVES,
+        }
     }
 }
 

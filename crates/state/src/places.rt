@@ -1,15 +1,16 @@
 // Places of boards: operations finished, whether the board is in a waiting half, and the figures of its two stores.
-ghost use Rattle.std.specs.Prelude.{◌≡◌, cond, ◌<◌, ◌≤◌, length};
+ghost use Rattle.std.specs.Prelude.{◌≡◌, ◌<◌, ◌≤◌, length};
 ghost use Rattle.rules.specs.Limits.{most_boards, scratch_size};
-ghost use Rattle.rules.specs.Job.{place, account, with_account};
+ghost use Rattle.rules.specs.Job.{account, with_account};
 ghost use Rattle.rules.specs.Step.{splice};
+ghost use Rattle.account.specs.Accounts.{account as account_with};
 ghost use Rattle.account.specs.Stores.{stands_for};
 ghost use Rattle.state.specs.Layout.{seat_at};
 ghost use Rattle.state.specs.Decoded.{figures_at, place_in, place_row, figures_of, place_of, FiguresRead, PlaceRead};
 ghost use Rattle.words.specs.Read.{Word};
 
 use crate::{BoardPlace, PLACES, SEAT_SIZE, StoreFigures};
-use account::Store;
+use account::{Account, Store};
 
 // How many operations board r has finished.
 pub fn finished_of(c: &[u8], r: usize) -> usize
@@ -28,6 +29,7 @@ pub fn waiting_of(c: &[u8], r: usize) -> bool
 }
 
 // Where a store's figures stand in a place.
+#[tactic(auto, unfolding(crate::specs::Decoded::figures_at, account::specs::Stores::stands_for))]
 fn figures_at(w: Store) -> usize
     ensures { (result ≡ figures_at (stands_for w)) × (result ≤ 8) }
 {
@@ -45,17 +47,7 @@ pub fn figures_of(c: &[u8], r: usize, w: Store) -> StoreFigures
     let at = PLACES + SEAT_SIZE * r + figures_at(w);
     let in_use = words::two_at(c, at);
     let peak = words::two_at(c, at + 2);
-    StoreFigures {
-        in_use: in_use,
-        peak: peak,
-    }
-}
-
-// A test as a byte.
-fn bit(b: bool) -> usize
-    ensures { result ≡ cond b 1 0 }
-{
-    if b { 1 } else { 0 }
+    StoreFigures { in_use, peak }
 }
 
 // The whole place of board r, read.
@@ -68,10 +60,10 @@ pub fn place_of(c: &[u8], r: usize) -> BoardPlace
     let attached = figures_of(c, r, Store::Attached);
     let room = figures_of(c, r, Store::Room);
     BoardPlace {
-        finished: finished,
-        waiting: waiting,
-        attached: attached,
-        room: room,
+        finished,
+        waiting,
+        attached,
+        room,
     }
 }
 
@@ -80,55 +72,48 @@ pub fn put_place(c: &mut [u8], r: usize, q: BoardPlace)
     requires { (r < most_boards) × (scratch_size ≤ length c.old) }
     ensures { c.new ≡ splice c.old (seat_at r) (place_row (place_of q)) }
 {
-    let w = bit(q.waiting);
     let at = PLACES + SEAT_SIZE * r;
     words::put_pair(c, at, q.finished, q.attached.in_use);
-    words::put_pair(c, at + 4, q.attached.peak, w);
+    words::put_pair(c, at + 4, q.attached.peak, usize::from(q.waiting));
     words::put_pair(c, at + 8, q.room.in_use, q.room.peak);
 }
 
-// The figures of a place's store.
-pub fn figures_in(q: BoardPlace, w: Store) -> StoreFigures
-    ensures { figures_of result ≡ account (stands_for w) (place_of q) }
-{
-    match w {
-        Store::Attached => q.attached,
-        Store::Room => q.room,
+impl StoreFigures {
+    // The account with these figures, of a store of the size.
+    pub fn account(self, size: usize) -> Account
+        ensures { result ≡ account_with size self.in_use self.peak }
+    {
+        Account {
+            size,
+            in_use: self.in_use,
+            peak: self.peak,
+        }
     }
 }
 
-// The place with other figures of a store.
-pub fn with_figures(q: BoardPlace, w: Store, f: StoreFigures) -> BoardPlace
-    ensures { place_of result ≡ with_account (stands_for w) (figures_of f) (place_of q) }
-{
-    let attached = q.attached;
-    let room = q.room;
-    match w {
-        Store::Attached => BoardPlace {
-            finished: q.finished,
-            waiting: q.waiting,
-            attached: f,
-            room: room,
-        },
-        Store::Room => BoardPlace {
-            finished: q.finished,
-            waiting: q.waiting,
-            attached: attached,
-            room: f,
-        },
+impl BoardPlace {
+    // The figures of a store.
+    #[tactic(auto, unfolding(rules::specs::Job::account, rules::specs::Job::place, account::specs::Stores::stands_for))]
+    pub fn figures(self, w: Store) -> StoreFigures
+        ensures { figures_of result ≡ account (stands_for w) (place_of self) }
+    {
+        match w {
+            Store::Attached => self.attached,
+            Store::Room => self.room,
+        }
     }
-}
 
-// The place with so many operations finished, and the next one in its waiting half or not.
-pub fn standing(q: BoardPlace, finished: usize, waiting: bool) -> BoardPlace
-    ensures { place_of result ≡ place finished waiting (place_of q).attached (place_of q).room }
-{
-    let attached = q.attached;
-    let room = q.room;
-    BoardPlace {
-        finished: finished,
-        waiting: waiting,
-        attached: attached,
-        room: room,
+    // The place with other figures of a store.
+    #[tactic(auto, unfolding(rules::specs::Job::with_account, rules::specs::Job::place, account::specs::Stores::stands_for))]
+    pub fn with_figures(self, w: Store, f: StoreFigures) -> BoardPlace
+        ensures { place_of result ≡ with_account (stands_for w) (figures_of f) (place_of self) }
+    {
+        match w {
+            Store::Attached => BoardPlace {
+                attached: f,
+                ..self
+            },
+            Store::Room => BoardPlace { room: f, ..self },
+        }
     }
 }

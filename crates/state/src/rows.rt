@@ -1,11 +1,23 @@
 // Operation rows, in the report's format (document 01, "The report"): state, cut, partner, source, tag, length.
-ghost use Rattle.std.specs.Prelude.{◌≡◌, ◌∷◌, ◌+◌, ◌<◌, ◌≤◌, length};
+ghost use Rattle.std.specs.Prelude.{◌≡◌, ◌∷◌, ◌+◌, ◌<◌, ◌≤◌, cond, eqb, leb, length};
 ghost use Rattle.rules.specs.Limits.{most_ops, scratch_size, absent};
 ghost use Rattle.rules.specs.Job.{entry, bare_entry};
 ghost use Rattle.rules.specs.Step.{splice};
 ghost use Rattle.rules.specs.Report.{op_row, low_two, entry_in};
 ghost use Rattle.state.specs.Layout.{row_at};
+ghost use Rattle.state.specs.Numbers.{state_number};
 ghost use Rattle.words.specs.Read.{Word, Byte};
+
+use crate::State;
+use limits::ABSENT;
+
+impl From<State> for u8 {
+    ghost from_gives = { λ state n. n ≡ state_number state };
+
+    fn from(state: State) -> u8 {
+        state as u8
+    }
+}
 
 // The state of operation i.
 pub fn state_of(c: &[u8], i: usize) -> usize
@@ -13,6 +25,22 @@ pub fn state_of(c: &[u8], i: usize) -> usize
     ensures { Byte (entry_in c.now (row_at i)).state result }
 {
     words::byte_at(c, limits::OP_ROW_SIZE * i)
+}
+
+// Whether operation i is in a state.
+pub fn is_in(c: &[u8], i: usize, state: State) -> bool
+    requires { (i < most_ops) × (scratch_size ≤ length c.now) }
+    ensures { result ≡ eqb (entry_in c.now (row_at i)).state (state_number state) }
+{
+    state_of(c, i) == usize::from(u8::from(state))
+}
+
+// Whether it is complete: from buffered on.
+pub fn is_complete(c: &[u8], i: usize) -> bool
+    requires { (i < most_ops) × (scratch_size ≤ length c.now) }
+    ensures { result ≡ leb 2 (entry_in c.now (row_at i)).state }
+{
+    usize::from(u8::from(State::Buffered)) <= state_of(c, i)
 }
 
 // Whether its message was cut, 1 or 0.
@@ -32,12 +60,12 @@ pub fn partner_of(c: &[u8], i: usize) -> usize
 }
 
 // State and cut, a byte each, and the partner: the first four bytes of a row.
-fn put_front(c: &mut [u8], at: usize, state: u8, cut: u8, partner: usize)
+fn put_front(c: &mut [u8], at: usize, state: State, cut: bool, partner: usize)
     requires { at + 4 ≤ length c.old }
-    ensures { c.new ≡ splice c.old at (state ∷ cut ∷ low_two partner) }
+    ensures { c.new ≡ splice c.old at (state_number state ∷ cond cut 1 0 ∷ low_two partner) }
 {
-    words::put_byte(c, at, state);
-    words::put_byte(c, at + 1, cut);
+    words::put_byte(c, at, u8::from(state));
+    words::put_byte(c, at + 1, u8::from(cut));
     words::put_two(c, at + 2, partner);
 }
 
@@ -45,15 +73,16 @@ fn put_front(c: &mut [u8], at: usize, state: u8, cut: u8, partner: usize)
 fn put_row(
     c: &mut [u8],
     i: usize,
-    state: u8,
-    cut: u8,
+    state: State,
+    cut: bool,
     partner: usize,
     source: usize,
     tag: usize,
     long: usize,
 )
     requires { (i < most_ops) × (scratch_size ≤ length c.old) }
-    ensures { c.new ≡ splice c.old (row_at i) (op_row (entry state cut partner source tag long)) }
+    ensures { c.new ≡ splice c.old (row_at i)
+        (op_row (entry (state_number state) (cond cut 1 0) partner source tag long)) }
 {
     let at = limits::OP_ROW_SIZE * i;
     put_front(c, at, state, cut, partner);
@@ -62,20 +91,12 @@ fn put_row(
 }
 
 // A row with neither partner nor status.
-pub fn put_bare(c: &mut [u8], i: usize, v: u8)
+#[tactic(auto, unfolding(rules::specs::Job::bare_entry))]
+pub fn put_bare(c: &mut [u8], i: usize, state: State)
     requires { (i < most_ops) × (scratch_size ≤ length c.old) }
-    ensures { c.new ≡ splice c.old (row_at i) (op_row (bare_entry v)) }
+    ensures { c.new ≡ splice c.old (row_at i) (op_row (bare_entry (state_number state))) }
 {
-    put_row(
-        c,
-        i,
-        v,
-        0,
-        limits::ABSENT,
-        limits::ABSENT,
-        limits::ABSENT,
-        0,
-    );
+    put_row(c, i, state, false, ABSENT, ABSENT, ABSENT, 0);
 }
 
 // The row of message m, matched with receive r.
@@ -83,23 +104,23 @@ pub fn put_sent(c: &mut [u8], m: usize, r: usize)
     requires { (m < most_ops) × (scratch_size ≤ length c.old) }
     ensures { c.new ≡ splice c.old (row_at m) (op_row (entry 3 0 r absent absent 0)) }
 {
-    put_row(c, m, 3, 0, r, limits::ABSENT, limits::ABSENT, 0);
+    put_row(c, m, State::Matched, false, r, ABSENT, ABSENT, 0);
 }
 
 // The row of receive r, matched with message m, with its status.
 pub fn put_received(
     c: &mut [u8],
     r: usize,
-    cut: u8,
+    cut: bool,
     m: usize,
     source: usize,
     tag: usize,
     long: usize,
 )
     requires { (r < most_ops) × (scratch_size ≤ length c.old) }
-    ensures { c.new ≡ splice c.old (row_at r) (op_row (entry 3 cut m source tag long)) }
+    ensures { c.new ≡ splice c.old (row_at r) (op_row (entry 3 (cond cut 1 0) m source tag long)) }
 {
-    put_row(c, r, 3, cut, m, source, tag, long);
+    put_row(c, r, State::Matched, cut, m, source, tag, long);
 }
 
 // The row of operation i, finished, with what it tells (document 02, K9).
@@ -107,5 +128,5 @@ pub fn put_told(c: &mut [u8], i: usize, source: usize, tag: usize, long: usize)
     requires { (i < most_ops) × (scratch_size ≤ length c.old) }
     ensures { c.new ≡ splice c.old (row_at i) (op_row (entry 5 0 absent source tag long)) }
 {
-    put_row(c, i, 5, 0, limits::ABSENT, source, tag, long);
+    put_row(c, i, State::Finished, false, ABSENT, source, tag, long);
 }

@@ -4,17 +4,15 @@ ghost use Rattle.rules.specs.Limits.{most_ops, most_boards, scratch_size};
 ghost use Rattle.rules.specs.Step.{splice};
 ghost use Rattle.state.specs.Start.{bare_rows, started_bytes};
 
-use crate::{PLACES, SEAT_SIZE, rows};
+use crate::{PLACES, SEAT_SIZE, State, rows};
 
 // The first n rows: not entered, with neither partner nor status.
 fn put_rows(c: &mut [u8], n: usize)
     requires { (n ≤ most_ops) × (scratch_size ≤ length c.old) }
     ensures { c.new ≡ splice c.old 0 (bare_rows n) }
 {
-    let mut i = 0;
-    while i < n {
-        rows::put_bare(c, i, 0);
-        i += 1;
+    for i in 0..n {
+        rows::put_bare(c, i, State::NotEntered);
     }
 }
 

@@ -1,11 +1,12 @@
 -- Whether a board is able, test by test (document 01, "How a board steps"), of every job that stands in scratch.
 -- Assumes nothing.
-use Rattle.std.specs.Prelude.{◌≡◌, refl, Bool, true, ◌||◌, not, List}
+use Rattle.std.specs.Prelude.{◌≡◌, refl, Option, None, Some, Bool, true, ◌||◌, not, List}
+use Rattle.std.specs.Option.{is_some}
 use Rattle.std.proofs.Common.{◌∙◌}
 use Rattle.std.proofs.Math.Path.{ap}
 use Rattle.std.proofs.Math.Bool.{false}
 use Rattle.std.proofs.Math.Option.{some}
-use Prim.Native.Nat.{ℕ, zero, suc, ◌+◌, ◌<◌, ◌≤◌}
+use Prim.Native.Nat.{ℕ, ◌+◌, ◌<◌, ◌≤◌}
 use native.Mathlib.Omega.{arith}
 use Rattle.std.proofs.Math.Dec.{leb}
 use borrow.Author.Tests.{lt-ltb, le-ltb, le-leb, lt-leb, leb-false}
@@ -18,6 +19,7 @@ use Rattle.laws.specs.Tests.{or_false_left, or_false_right}
 use Rattle.invariant.specs.sheet.Waits.{waited_before}
 use Rattle.laws.specs.Fields.{frees_names}
 use Rattle.state.specs.declared.Control.{Control}
+use Rattle.state.specs.declared.Stop.{Stop}
 use Rattle.state.specs.Layout.{row_at, seat_at, word_at, waits_at}
 use Rattle.state.specs.Decoded.{place_in}
 use Rattle.state.specs.Controls.{stop_of}
@@ -83,28 +85,31 @@ module _ (bs lent c : List ℕ) (t : Control) (x : Job) (d : Represents bs lent 
   wait_target i w l = let b = waited_before s i i (two c (word_at waits_at i)) (d.decodes.indexed.wait_is i l w) in omega arith
 
   -- NOT ABLE: stopped, no such board, finished
-  pub able_stopped : (r : ℕ) → (t.verdict ≡ 0 → ⊥) → false ≡ able s x r
-  unfolding able is_none stop_of
-  able_stopped r h = go t.verdict h d.decodes.stop_is
+  stops_so : is_none x.stop ≡ not (is_some t.stop)
+  unfolding is_none
+  stops_so = ap is_none d.decodes.stop_is ∙ go t.stop
     where
-      go : (v : ℕ) → (v ≡ 0 → ⊥) → x.stop ≡ stop_of v t.rank t.op → false ≡ able s x r
-      go zero q e = absurd (q refl)
-      go (suc v) q e = rw e
+      go : (o : Option Stop) → is_none (stop_of o) ≡ not (is_some o)
+      go None = refl
+      go (Some p) = refl
 
-  going_on : t.verdict ≡ 0 → is_none x.stop ≡ true
-  unfolding is_none stop_of
-  going_on h = let e : x.stop ≡ stop_of 0 t.rank t.op = d.decodes.stop_is ∙ ap (λ (v : ℕ). stop_of v t.rank t.op) h in rw e
+  pub able_stopped : (r : ℕ) → is_some t.stop ≡ true → false ≡ able s x r
+  unfolding able
+  able_stopped r h = rw (stops_so, h)
 
-  pub able_outside : (r : ℕ) → t.verdict ≡ 0 → P_of s ≤ r → false ≡ able s x r
+  going_on : is_some t.stop ≡ false → is_none x.stop ≡ true
+  going_on h = stops_so ∙ ap not h
+
+  pub able_outside : (r : ℕ) → is_some t.stop ≡ false → P_of s ≤ r → false ≡ able s x r
   unfolding able
   able_outside r v h = rw (going_on v, le-ltb r (P_of s) h)
 
-  pub able_finished : (r : ℕ) → t.verdict ≡ 0 → r < P_of s → (board s r).count ≤ (place_at x r).finished → false ≡ able s x r
+  pub able_finished : (r : ℕ) → is_some t.stop ≡ false → r < P_of s → (board s r).count ≤ (place_at x r).finished → false ≡ able s x r
   unfolding able is_finished
   able_finished r v l h = rw (going_on v, lt-ltb r (P_of s) l, le-leb (board s r).count (place_at x r).finished h)
 
   -- else what comes next decides
-  pub able_next : (r : ℕ) → t.verdict ≡ 0 → r < P_of s → (place_at x r).finished < (board s r).count → can_go_on s x r (next_op s x r) ≡ able s x r
+  pub able_next : (r : ℕ) → is_some t.stop ≡ false → r < P_of s → (place_at x r).finished < (board s r).count → can_go_on s x r (next_op s x r) ≡ able s x r
   unfolding able is_finished can_go_on
   able_next r v l h = rw (going_on v, lt-ltb r (P_of s) l, lt-leb (board s r).count (place_at x r).finished h)
 

@@ -12,7 +12,7 @@ use Prim.Native.Nat.{ℕ, suc, ◌<◌}
 use Rattle.rules.specs.Limits.{most_ops}
 use Rattle.rules.specs.Sheet.{Sheet, N_of}
 use Rattle.rules.specs.Job.{Job, Place, job, place_at, with_entries, with_messages, with_receives, with_memory}
-use Rattle.rules.specs.Step.{without, release, matched_rows, matched, delivered, with_state, pend_message, pend_receive}
+use Rattle.rules.specs.Step.{without, release, matched_rows, matched, delivered, with_state}
 use Rattle.state.specs.declared.Control.{Control}
 use Rattle.state.specs.declared.Queue.{Queue}
 use Rattle.state.specs.declared.Queue.TheVariants.{Messages, Receives}
@@ -144,15 +144,7 @@ pub paired_can_finish : (list : Queue) (s : Sheet) (i j : ℕ) (x : Job) (r : �
 unfolding matched_with
 paired_can_finish list s i j x r h = matched_can_finish s (message_of list i j) (receive_of list i j) x r h
 
--- PENDING: rules' two names for it, and what it leaves
-pub pended_message : (i v : ℕ) (x : Job) → pended Messages i v x ≡ pend_message i v x
-unfolding pended pend_message with_list list_of
-pended_message i v x = refl
-
-pub pended_receive : (i : ℕ) (x : Job) → pended Receives i 1 x ≡ pend_receive i x
-unfolding pended pend_receive with_list list_of
-pended_receive i x = refl
-
+-- PENDING: what it leaves
 pub pended_can_finish : (list : Queue) (s : Sheet) (r i v : ℕ) (x : Job) → CanFinish r s x → CanFinish r s (pended list i v x)
 pended_can_finish list s r i v x h =
     record {

@@ -8,10 +8,12 @@ use Rattle.rules.specs.Job.{Job, Place, Store, account, place_at}
 use Rattle.rules.specs.Step.{without, size_of, charge_of, charge, with_place, pend_message, stopped, initiated, fits_beside, kept}
 use Rattle.state.specs.declared.Control.{Control}
 use Rattle.state.specs.declared.Queue.{Queue}
+use Rattle.state.specs.declared.StopVerdict.{StopVerdict}
+use Rattle.state.specs.Numbers.{verdict_number}
 use Rattle.state.specs.Controls.{halted}
 use Rattle.state.specs.Queues.{count_of, list_of, pended}
 use Rattle.state.specs.Decodes.{Decodes}
-use Rattle.state.proofs.Decodes.{list_length, stop_put}
+use Rattle.state.proofs.Decodes.{decodes_as, list_length, stop_put}
 use Rattle.state.specs.Changes.{Becomes, CanFinish, charged_in, Charges}
 use Rattle.simulation.specs.Simulates.{Holds, Simulates, held_after, in_turn, simulates_as}
 use Rattle.steps.specs.Parts.{place_put_list}
@@ -96,12 +98,10 @@ module _ {w : Store} {bs c b : List ℕ} {t : Control} {r i : ℕ} {ok : Bool} (
       (in_turn (k.taken e) (λ x o. charged_unentered w (sheet_in bs) r i x o) n)
 
 -- A STOP with a verdict changes the control block alone
-pub stop_simulates : {bs c b : List ℕ} {t u : Control} {ok : Sheet → Job → Type 0} (v r i : ℕ) → (v ≡ 0 → ⊥) → b ≡ c →
-    u ≡ halted v r i t → Simulates bs c t b u ok (λ s x. stopped v r i x)
-stop_simulates {bs} {c} {b} {t} {u} v r i n e f =
+pub stop_simulates : {bs c b : List ℕ} {t u : Control} {ok : Sheet → Job → Type 0} (v : StopVerdict) (r i : ℕ) → b ≡ c →
+    u ≡ halted v r i t → Simulates bs c t b u ok (λ s x. stopped (verdict_number v) r i x)
+stop_simulates {bs} {c} {b} {t} {u} v r i e f =
     record {
       after =
-          λ x d o.
-          subst (λ (l : List ℕ). Decodes (sheet_in bs) l u (stopped v r i x)) (sym e)
-          (subst (λ (w : Control). Decodes (sheet_in bs) c w (stopped v r i x)) (sym f) (stop_put (sheet_in bs) c t x d v r i n));
+          λ x d o. decodes_as (sheet_in bs) b c u (halted v r i t) (stopped (verdict_number v) r i x) e f (stop_put (sheet_in bs) c t x d v r i);
     }

@@ -23,10 +23,9 @@ fn next_is_able(s: &[u8], c: &[u8], t: Control, r: usize, i: usize) -> bool
         return telling::can_end(s, c, t, i);
     }
     if ops::frees_slot(s, i) {
-        let j = waits::waited_at(c, i);
-        return 2 <= rows::state_of(c, j);
+        return rows::is_complete(c, waits::waited_at(c, i));
     }
-    2 <= rows::state_of(c, i)
+    rows::is_complete(c, i)
 }
 
 // Board r is able.
@@ -35,10 +34,7 @@ pub fn is_able(s: &[u8], c: &[u8], t: Control, r: usize) -> bool
     ensures { (lent : List ℕ) (x : Job) → Represents s.now lent c.now t x →
         result ≡ able (sheet_in s.now) x r }
 {
-    if t.verdict != 0 {
-        return false;
-    }
-    if header::boards(s) <= r {
+    if t.stop.is_some() || header::boards(s) <= r {
         return false;
     }
     let done = places::finished_of(c, r);

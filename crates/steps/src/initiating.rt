@@ -1,27 +1,17 @@
 // Initiating steps (document 01, "How a board steps"): a receive takes the earliest-arrived pending message that fits, a send the
 // earliest-posted pending receive; where none fits the receive is pending, and a send goes by its mode.
 ghost use Rattle.std.specs.Prelude.{◌≡◌};
-ghost use Rattle.rules.specs.Step.{initiated, initiating, pend_receive};
+ghost use Rattle.rules.specs.Step.{initiating};
 ghost use Rattle.simulation.specs.Simulates.{Holds, Simulates};
-ghost use Rattle.steps.specs.Pairing.{Unentered, searched as pairing_searched};
+ghost use Rattle.steps.specs.Pairing.{searched as pairing_searched};
 ghost use Rattle.steps.specs.Initiate.{Begins};
 
 use crate::{matching, parts, sends};
 use sheet::ops;
-use state::{Control, Queue, changes, controls};
-
-// Nothing fits receive i of board r: it is pending.
-fn post(s: &[u8], c: &mut [u8], t: Control, r: usize, i: usize) -> Control
-    requires { Holds s.now c.old t (Unentered r i) }
-    ensures { Simulates s.entry.now c.old t c.new result (Unentered r i)
-        (λ s x. initiated s r i (pend_receive i x)) }
-{
-    let u = changes::pend(c, t, Queue::Receives, i, 1);
-    parts::initiate(s, c, u, r, i);
-    u
-}
+use state::{Control, Queue, State};
 
 // The list that an operation searches: a receive the pending messages, a send the posted receives.
+#[tactic(auto, unfolding(crate::specs::Pairing::searched))]
 fn searched(receives: bool) -> Queue
     ensures { result ≡ pairing_searched receives }
 {
@@ -40,13 +30,9 @@ pub fn begin(s: &[u8], c: &mut [u8], t: Control, r: usize, i: usize) -> Control
 {
     let receives = ops::is_receive(s, i);
     let list = searched(receives);
-    let count = controls::count(t, list);
-    let k = search::find(s, c, list, count, i);
-    if k < count {
-        return matching::pair(s, c, t, list, r, i, k);
+    match search::find(s, c, list, t.count(list), i) {
+        Some(k) => matching::pair(s, c, t, list, r, i, k),
+        None if receives => parts::pend(s, c, t, Queue::Receives, r, i, State::Pending),
+        None => sends::leave(s, c, t, r, i),
     }
-    if receives {
-        return post(s, c, t, r, i);
-    }
-    sends::leave(s, c, t, r, i)
 }

@@ -1,6 +1,6 @@
 // A match of a message and a receive (document 01, "How a board steps"): its charge goes, both rows say so, the one that waited
 // leaves its list, and the operation that met it is initiated.
-ghost use Rattle.std.specs.Prelude.{◌≡◌, cond, ◌<◌, ltb};
+ghost use Rattle.std.specs.Prelude.{◌≡◌, ◌<◌};
 ghost use Rattle.rules.specs.Sheet.{N_of, two};
 ghost use Rattle.rules.specs.Step.{initiated, release, matched_rows};
 ghost use Rattle.state.specs.Layout.{word_at};
@@ -10,7 +10,7 @@ ghost use Rattle.steps.specs.Pairing.{Both, message_of, receive_of, matched_with
 
 use crate::parts;
 use sheet::{ops, stores};
-use state::{Control, Queue, changes, lists, ranks, rows};
+use state::{Control, Queue, State, changes, lists, ranks, rows};
 
 // A buffered message's charge goes when it is matched, from the store that it is kept in.
 fn release_charge(s: &[u8], c: &mut [u8], t: Control, m: usize)
@@ -18,7 +18,7 @@ fn release_charge(s: &[u8], c: &mut [u8], t: Control, m: usize)
     ensures { Simulates s.entry.now c.old t c.new t (λ s x. m < N_of s)
         (λ s x. release s m x) }
 {
-    if rows::state_of(c, m) == 2 {
+    if rows::is_in(c, m, State::Buffered) {
         let sender = ranks::rank_at(c, m);
         let w = stores::store_of(s, m);
         changes::release(
@@ -31,13 +31,6 @@ fn release_charge(s: &[u8], c: &mut [u8], t: Control, m: usize)
     }
 }
 
-// A message longer than the capacity is cut.
-fn is_cut(capacity: usize, long: usize) -> u8
-    ensures { result ≡ cond (ltb capacity long) 1 0 }
-{
-    if capacity < long { 1 } else { 0 }
-}
-
 // Both rows of a match of message m and receive q: the receive's tells source, tag and length, and whether it is cut.
 fn put_rows(s: &[u8], c: &mut [u8], t: Control, m: usize, q: usize)
     requires { Holds s.now c.old t (Both m q) }
@@ -46,7 +39,7 @@ fn put_rows(s: &[u8], c: &mut [u8], t: Control, m: usize, q: usize)
 {
     let tag = ops::tag(s, m);
     let long = ops::long(s, m);
-    let cut = is_cut(ops::long(s, q), long);
+    let cut = ops::long(s, q) < long;
     let source = ranks::rank_at(c, m);
     changes::match_rows(c, m, q, cut, source, tag, long);
 }
@@ -62,21 +55,13 @@ fn match_rows(s: &[u8], c: &mut [u8], t: Control, m: usize, q: usize)
 }
 
 // Of operation i and the operation j that it found in a list: the message, and the receive.
-fn message_in(list: Queue, i: usize, j: usize) -> usize
-    ensures { result ≡ message_of list i j }
+#[tactic(auto, unfolding(crate::specs::Pairing::message_of, crate::specs::Pairing::receive_of))]
+fn sides(list: Queue, i: usize, j: usize) -> (usize, usize)
+    ensures { (result.0 ≡ message_of list i j) × (result.1 ≡ receive_of list i j) }
 {
     match list {
-        Queue::Messages => j,
-        Queue::Receives => i,
-    }
-}
-
-fn receive_in(list: Queue, i: usize, j: usize) -> usize
-    ensures { result ≡ receive_of list i j }
-{
-    match list {
-        Queue::Messages => i,
-        Queue::Receives => j,
+        Queue::Messages => (j, i),
+        Queue::Receives => (i, j),
     }
 }
 
@@ -94,8 +79,9 @@ pub fn pair(
     ensures { Simulates s.entry.now c.old t c.new result (Pairs list r i k)
         (λ s x. initiated s r i (matched_with list s i (two c.old (word_at (base_of list) k)) x)) }
 {
-    let j = lists::word_of(c, lists::base(list), k);
-    match_rows(s, c, t, message_in(list, i, j), receive_in(list, i, j));
+    let j = lists::word_of(c, list.base(), k);
+    let (m, q) = sides(list, i, j);
+    match_rows(s, c, t, m, q);
     let u = changes::take(c, t, list, k);
     parts::initiate(s, c, u, r, i);
     u

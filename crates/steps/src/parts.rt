@@ -2,12 +2,15 @@
 ghost use Rattle.std.specs.Prelude.{◌<◌};
 ghost use Rattle.rules.specs.Sheet.{sheet_in, N_of};
 ghost use Rattle.rules.specs.Step.{initiated, ended};
+ghost use Rattle.state.specs.Numbers.{state_number};
+ghost use Rattle.state.specs.Queues.{pended};
 ghost use Rattle.state.specs.Changes.{CanFinish};
 ghost use Rattle.simulation.specs.Simulates.{Holds, Simulates};
 ghost use Rattle.steps.specs.Parts.{Ends};
+ghost use Rattle.steps.specs.Pairing.{Unentered};
 
 use sheet::ops;
-use state::{Control, changes};
+use state::{Control, Queue, State, changes};
 
 // After the initiating step of operation i: without a waiting half it is finished, else it is in its waiting half.
 pub fn initiate(s: &[u8], c: &mut [u8], t: Control, r: usize, i: usize)
@@ -17,9 +20,28 @@ pub fn initiate(s: &[u8], c: &mut [u8], t: Control, r: usize, i: usize)
 {
     if ops::has_no_half(s, i) {
         changes::finish_one(c, r);
-        return;
+    } else {
+        changes::start_waiting(c, r);
     }
-    changes::start_waiting(c, r);
+}
+
+// Operation i of board r waits in a list, in a state, and its board goes on.
+pub fn pend(
+    s: &[u8],
+    c: &mut [u8],
+    t: Control,
+    list: Queue,
+    r: usize,
+    i: usize,
+    state: State,
+) -> Control
+    requires { Holds s.now c.old t (Unentered r i) }
+    ensures { Simulates s.entry.now c.old t c.new result (Unentered r i)
+        (λ s x. initiated s r i (pended list i (state_number state) x)) }
+{
+    let u = changes::pend(c, t, list, i, state);
+    initiate(s, c, u, r, i);
+    u
 }
 
 // A waiting half ends operation i of board r; the row of one that is only a waiting half then says so.
@@ -30,8 +52,6 @@ pub fn end_half(s: &[u8], c: &mut [u8], t: Control, r: usize, i: usize)
 {
     if ops::is_only_half(s, i) {
         telling::put_half_row(s, c, t, i);
-        changes::finish_one(c, r);
-        return;
     }
     changes::finish_one(c, r);
 }

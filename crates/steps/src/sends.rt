@@ -2,7 +2,7 @@
 // board's room or waits (document 02, K6), buffered is kept in the attached buffer or overflows, ready stops the job.
 ghost use Rattle.std.specs.Prelude.{◌≡◌, ◌<◌};
 ghost use Rattle.rules.specs.Sheet.{sheet_in, P_of, N_of};
-ghost use Rattle.rules.specs.Step.{initiated, pend_message, unmatched};
+ghost use Rattle.rules.specs.Step.{unmatched};
 ghost use Rattle.laws.specs.Laid.{Laid};
 ghost use Rattle.account.specs.Stores.{stands_for};
 ghost use Rattle.simulation.specs.Simulates.{Holds, Simulates};
@@ -13,18 +13,7 @@ ghost use Rattle.steps.specs.Pending.{Keeps};
 use crate::parts;
 use account::Store;
 use sheet::{boards, ops, stores};
-use state::{Control, Queue, changes, controls};
-
-// Send i is pending, in a state: 1 not complete, 2 complete.
-fn pend(s: &[u8], c: &mut [u8], t: Control, r: usize, i: usize, v: u8) -> Control
-    requires { Holds s.now c.old t (Unentered r i) }
-    ensures { Simulates s.entry.now c.old t c.new result (Unentered r i)
-        (λ s x. initiated s r i (pend_message i v x)) }
-{
-    let u = changes::pend(c, t, Queue::Messages, i, v);
-    parts::initiate(s, c, u, r, i);
-    u
-}
+use state::{Control, Queue, State, StopVerdict, changes};
 
 // Send i is charged to a store of its board r where its charge fits beside what is in use there; the answer says whether.
 fn keep(s: &[u8], c: &mut [u8], t: Control, w: Store, r: usize, i: usize) -> bool
@@ -41,9 +30,9 @@ fn buffer_or_stop(s: &[u8], c: &mut [u8], t: Control, r: usize, i: usize) -> Con
         (λ s x. buffered_or_stopped s r i x) }
 {
     if !keep(s, c, t, Store::Attached, r, i) {
-        return controls::halting(t, 3, r, i);
+        return t.halting(StopVerdict::Overflow, r, i);
     }
-    pend(s, c, t, r, i, 2)
+    parts::pend(s, c, t, Queue::Messages, r, i, State::Buffered)
 }
 
 // Send i is a standard one, and its board r has a room: where it has none, nothing is kept, not even an empty message.
@@ -60,13 +49,10 @@ fn keep_or_pend(s: &[u8], c: &mut [u8], t: Control, r: usize, i: usize) -> Contr
     ensures { Simulates s.entry.now c.old t c.new result (Unentered r i)
         (λ s x. roomed_or_pending s r i x) }
 {
-    if !has_room(s, r, i) {
-        return pend(s, c, t, r, i, 1);
+    if has_room(s, r, i) && keep(s, c, t, Store::Room, r, i) {
+        return parts::pend(s, c, t, Queue::Messages, r, i, State::Buffered);
     }
-    if !keep(s, c, t, Store::Room, r, i) {
-        return pend(s, c, t, r, i, 1);
-    }
-    pend(s, c, t, r, i, 2)
+    parts::pend(s, c, t, Queue::Messages, r, i, State::Pending)
 }
 
 // By mode.
@@ -76,7 +62,7 @@ pub fn leave(s: &[u8], c: &mut [u8], t: Control, r: usize, i: usize) -> Control
         (λ s x. unmatched s r i x) }
 {
     if ops::is_ready(s, i) {
-        return controls::halting(t, 4, r, i);
+        return t.halting(StopVerdict::NotReady, r, i);
     }
     if ops::is_buffered(s, i) {
         return buffer_or_stop(s, c, t, r, i);

@@ -10,7 +10,7 @@ ghost use Rattle.steps.specs.Turn.{moved};
 
 use crate::{initiating, parts};
 use sheet::{boards, ops};
-use state::{Control, controls, places};
+use state::{Control, places};
 
 // The step of board r, before it is counted.
 fn uncounted(s: &[u8], c: &mut [u8], t: Control, r: usize) -> Control
@@ -34,5 +34,5 @@ pub fn take(s: &[u8], c: &mut [u8], t: Control, r: usize) -> Control
 {
     let next = t.steps + 1;
     let u = uncounted(s, c, t, r);
-    controls::stepping(u, next)
+    Control { steps: next, ..u }
 }

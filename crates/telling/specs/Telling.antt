@@ -1,16 +1,16 @@
 -- Operations that tell (document 02, K9): what a probe finds in scratch is what rules' search finds, and the row of an operation
 -- that is only a waiting half by its roles.
 --   Looks                          what an operation that looks at the job is given
---   Finds, finds                   the earliest pending message that fits, by its index
+--   Found, Finds, finds            the earliest pending message that fits, by its index
 --   finds_some                     whether there is one
 --   holder_is, held_state          who holds the slot of a query, and its state
 --   query_ends, probe_ends         whether the step of an operation that tells can be taken
 --   row-..                         the definition's row, by the roles and by what was found
 -- Assumes nothing.
-use Rattle.std.specs.Prelude.{◌≡◌, ◌⊎◌, true, false, not, cond, List, ℕ, ◌<◌, ◌≤◌, leb, ltb}
-use Rattle.std.proofs.Common.{sym, ◌∙◌, ap, subst, inl, inr, arith, lt-ltb, le-ltb}
+use Rattle.std.specs.Prelude.{◌≡◌, ◌⊎◌, Option, None, Some, true, false, not, cond, List, ℕ, ◌<◌, leb}
+use Rattle.std.proofs.Common.{sym, ◌∙◌, ap, subst, inl, inr, arith}
+use Rattle.std.specs.Option.{is_some}
 use Rattle.std.proofs.Math.Option.{none, some}
-use Rattle.std.proofs.Math.Decide.{dec_lt}
 use Rattle.rules.specs.Limits.{absent}
 use Rattle.rules.specs.Sheet.{Sheet, Op, sheet_in, op, N_of, rank_of, two, is_wait, names_slot, tells_message, tells_completion, tells}
 use Rattle.rules.specs.Job.{Job, Entry, entry, entry_at}
@@ -36,26 +36,32 @@ pub record Looks (i : ℕ) (s : Sheet) (x : Job) : Type 0 where
   pub lent : List ℕ
   pub reached : Reached s lent x
 
--- the search of the pending messages for one that fits operation i came to index k
-pub record Finds (bs c : List ℕ) (t : Control) (i k : ℕ) : Type 0 where
-  pub found : (x : Job) → Decodes (sheet_in bs) c t x → k < t.messages →
+-- the search of the pending messages for one that fits operation i found the k-th
+pub record Found (bs c : List ℕ) (t : Control) (i k : ℕ) : Type 0 where
+  pub inside : k < t.messages
+  pub found : (x : Job) → Decodes (sheet_in bs) c t x →
       first_message (sheet_in bs) i x.messages ≡ some (two c (word_at messages_at k))
-  pub missing : (x : Job) → Decodes (sheet_in bs) c t x → t.messages ≤ k → first_message (sheet_in bs) i x.messages ≡ none
-  pub member : k < t.messages → two c (word_at messages_at k) < N_of (sheet_in bs)
+  pub member : two c (word_at messages_at k) < N_of (sheet_in bs)
+
+-- that it found one, or none
+abbrev pub Finds : (bs c : List ℕ) → Control → (i : ℕ) → Option ℕ → Type 0
+Finds bs c t i None = (x : Job) → Decodes (sheet_in bs) c t x → first_message (sheet_in bs) i x.messages ≡ none
+Finds bs c t i (Some k) = Found bs c t i k
 
 module _ {bs c : List ℕ} {t : Control} {i : ℕ} (h : Holds bs c t (Looks i)) where
   pub looks_listed : Listed bs c Messages t.messages
   unfolding count_of
   looks_listed = listed_in bs c t h.job h.decodes Messages h.valid h.fine.reached
 
-  pub finds : (k : ℕ) → First (λ j. pair_fits Messages (sheet_in bs) i (two c (word_at (base_of Messages) j))) t.messages k →
-      Finds bs c t i k
+  pub finds : (o : Option ℕ) → First (λ j. pair_fits Messages (sheet_in bs) i (two c (word_at (base_of Messages) j))) t.messages o →
+      Finds bs c t i o
   unfolding first_message pair_fits list_of count_of base_of
-  finds k f =
+  finds None f = λ x d. missing_is bs c t x d Messages i f
+  finds (Some k) f =
       record {
-        found = λ x d l. found_is bs c t x d Messages i k f l;
-        missing = λ x d l. missing_is bs c t x d Messages i k f l;
-        member = λ l. looks_listed.members k l;
+        inside = f.inside;
+        found = λ x d. found_is bs c t x d Messages i k f;
+        member = looks_listed.members k f.inside;
       }
 
 -- whether one was found
@@ -67,14 +73,10 @@ found_none : (s : Sheet) (x : Job) (i : ℕ) → first_message s i x.messages �
 unfolding is_none
 found_none s x i e = rw e
 
-pub finds_some : {bs c : List ℕ} {t : Control} {i k : ℕ} → Finds bs c t i k → (x : Job) → Decodes (sheet_in bs) c t x →
-    ltb k t.messages ≡ not (is_none (first_message (sheet_in bs) i x.messages))
-finds_some {bs} {c} {t} {i} {k} f x d = go (dec_lt k t.messages)
-  where
-    go : Dec (k < t.messages) → ltb k t.messages ≡ not (is_none (first_message (sheet_in bs) i x.messages))
-    go (yes l) =
-        lt-ltb k t.messages l ∙ found_some (sheet_in bs) x i (two c (word_at messages_at k)) (f.found x d l)
-    go (no l) = le-ltb k t.messages (omega arith) ∙ found_none (sheet_in bs) x i (f.missing x d (omega arith))
+pub finds_some : (bs c : List ℕ) (t : Control) (i : ℕ) (o : Option ℕ) → Finds bs c t i o → (x : Job) → Decodes (sheet_in bs) c t x →
+    is_some o ≡ not (is_none (first_message (sheet_in bs) i x.messages))
+finds_some bs c t i None f x d = found_none (sheet_in bs) x i (f x d)
+finds_some bs c t i (Some k) f x d = found_some (sheet_in bs) x i (two c (word_at messages_at k)) (f.found x d)
 
 -- WHO HOLDS THE SLOT of query i stands in the table of waits
 module _ (s : Sheet) (c : List ℕ) (t : Control) (x : Job) (d : Decodes s c t x) (i : ℕ) (l : i < N_of s)

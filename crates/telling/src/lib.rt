@@ -2,33 +2,24 @@
 // only a waiting half says after its step. Nothing but that row changes.
 #![tactic(auto)]
 
-ghost use Rattle.std.specs.Prelude.{◌≡◌, true, not, cond, ◌<◌, leb};
+ghost use Rattle.std.specs.Prelude.{◌≡◌, true};
 ghost use Rattle.rules.specs.Sheet.{sheet_in, op, tells_completion, tells};
 ghost use Rattle.rules.specs.Job.{Job};
-ghost use Rattle.rules.specs.Step.{with_row, first_message, complete_if, waited, is_none, probe_row, query_row, half_row, half_ends};
+ghost use Rattle.rules.specs.Step.{with_row, first_message, complete_if, waited, probe_row, query_row, half_row, half_ends};
 ghost use Rattle.state.specs.Decodes.{Decodes};
 ghost use Rattle.simulation.specs.Simulates.{Holds, Simulates};
-ghost use Rattle.telling.specs.Telling.{Looks, Finds};
+ghost use Rattle.telling.specs.Telling.{Looks, Found, Finds};
 
 use limits::ABSENT;
 use sheet::ops;
-use state::{Control, Queue, changes, lists, ranks, rows, waits};
+use state::{Control, Queue, State, changes, lists, ranks, rows, waits};
 
-// Where the earliest pending message that fits operation i stands in its list; the list's length if there is none.
-fn found_at(s: &[u8], c: &[u8], t: Control, i: usize) -> usize
+// Where the earliest pending message that fits operation i stands in its list.
+fn found_at(s: &[u8], c: &[u8], t: Control, i: usize) -> Option<usize>
     requires { Holds s.now c.now t (Looks i) }
     ensures { Finds s.now c.now t i result }
 {
     search::find(s, c, Queue::Messages, t.messages, i)
-}
-
-// A pending message fits operation i.
-fn some_fits(s: &[u8], c: &[u8], t: Control, i: usize) -> bool
-    requires { Holds s.now c.now t (Looks i) }
-    ensures { (x : Job) → Decodes (sheet_in s.now) c.now t x →
-        result ≡ not (is_none (first_message (sheet_in s.now) i x.messages)) }
-{
-    found_at(s, c, t, i) < t.messages
 }
 
 // The step of operation i, which tells, can be taken: a query's always, a probe's where a pending message fits it.
@@ -37,19 +28,16 @@ pub fn can_end(s: &[u8], c: &[u8], t: Control, i: usize) -> bool
     ensures { (x : Job) → Decodes (sheet_in s.now) c.now t x →
         result ≡ half_ends (sheet_in s.now) x i }
 {
-    if ops::tells_completion(s, i) {
-        return true;
-    }
-    some_fits(s, c, t, i)
+    ops::tells_completion(s, i) || found_at(s, c, t, i).is_some()
 }
 
 // Probe i tells source, tag and full length of the k-th pending message, which it found.
 fn tell_found(s: &[u8], c: &mut [u8], t: Control, i: usize, k: usize)
-    requires { Holds s.now c.old t (Looks i) × Finds s.now c.old t i k × (k < t.messages) }
+    requires { Holds s.now c.old t (Looks i) × Found s.now c.old t i k }
     ensures { Simulates s.entry.now c.old t c.new t (Looks i)
         (λ s x. with_row i (probe_row s (first_message s i x.messages)) x) }
 {
-    let m = lists::word_of(c, lists::base(Queue::Messages), k);
+    let m = lists::word_of(c, Queue::Messages.base(), k);
     let source = ranks::rank_at(c, m);
     changes::set_told(c, i, source, ops::tag(s, m), ops::long(s, m));
 }
@@ -60,19 +48,10 @@ fn tell_message(s: &[u8], c: &mut [u8], t: Control, i: usize)
     ensures { Simulates s.entry.now c.old t c.new t (Looks i)
         (λ s x. with_row i (probe_row s (first_message s i x.messages)) x) }
 {
-    let k = found_at(s, c, t, i);
-    if k < t.messages {
-        tell_found(s, c, t, i, k);
-        return;
+    match found_at(s, c, t, i) {
+        Some(k) => tell_found(s, c, t, i, k),
+        None => changes::set_state(c, i, State::Finished),
     }
-    changes::set_state(c, i, 5);
-}
-
-// 1 where a state is that of a complete operation, else 0.
-fn one_if_complete(state: usize) -> usize
-    ensures { result ≡ cond (leb 2 state) 1 0 }
-{
-    if 2 <= state { 1 } else { 0 }
 }
 
 // Query i tells whether the operation that holds its slot is complete.
@@ -82,7 +61,7 @@ fn tell_completion(s: &[u8], c: &mut [u8], t: Control, i: usize)
         (λ s x. with_row i (query_row (complete_if x (waited s i))) x) }
 {
     let j = waits::waited_at(c, i);
-    let answer = one_if_complete(rows::state_of(c, j));
+    let answer = usize::from(rows::is_complete(c, j));
     changes::set_told(c, i, ABSENT, ABSENT, answer);
 }
 
@@ -93,12 +72,10 @@ pub fn put_half_row(s: &[u8], c: &mut [u8], t: Control, i: usize)
         (λ s x. with_row i (half_row s x i) x) }
 {
     if !ops::tells(s, i) {
-        changes::set_state(c, i, 5);
-        return;
-    }
-    if ops::tells_completion(s, i) {
+        changes::set_state(c, i, State::Finished);
+    } else if ops::tells_completion(s, i) {
         tell_completion(s, c, t, i);
-        return;
+    } else {
+        tell_message(s, c, t, i);
     }
-    tell_message(s, c, t, i);
 }

@@ -8,19 +8,12 @@ ghost use Rattle.rules.specs.Step.{splice};
 ghost use Rattle.rules.specs.Report.{low_two};
 ghost use Rattle.words.specs.Read.{Word, Byte};
 
-// A byte as an index or a summand.
-pub fn wide(x: u8) -> usize
-    ensures { Byte x result }
-{
-    x as usize
-}
-
 // The byte at a place.
 pub fn byte_at(s: &[u8], at: usize) -> usize
     requires { at < length s.now }
     ensures { Byte (get_or s.now at 0) result }
 {
-    wide(s[at])
+    usize::from(s[at])
 }
 
 // The number at a place, low byte first.
@@ -28,7 +21,7 @@ pub fn two_at(s: &[u8], at: usize) -> usize
     requires { at + 1 < length s.now }
     ensures { Word (two s.now at) result }
 {
-    wide(s[at]) + 256 * wide(s[at + 1])
+    usize::from(u16::from_le_bytes([s[at], s[at + 1]]))
 }
 
 // A byte put at a place.
@@ -44,8 +37,8 @@ pub fn put_two(s: &mut [u8], at: usize, v: usize)
     requires { at + 2 ≤ length s.old }
     ensures { s.new ≡ splice s.old at (low_two v) }
 {
-    s[at] = (v % 256) as u8;
-    s[at + 1] = (v / 256 % 256) as u8;
+    let bytes = ((v % 65536) as u16).to_le_bytes();
+    s[at..at + 2].copy_from_slice(&bytes);
 }
 
 // Two numbers put side by side.
@@ -62,19 +55,14 @@ pub fn fill(s: &mut [u8], at: usize, n: usize, v: u8)
     requires { at + n ≤ length s.old }
     ensures { s.new ≡ splice s.old at (replicate n v) }
 {
-    let mut i = 0;
-    while i < n {
-        s[at + i] = v;
-        i += 1;
-    }
+    s[at..at + n].fill(v);
 }
 
 // Zeros over the whole slice.
 pub fn zero(s: &mut [u8])
     ensures { s.new ≡ replicate (length s.old) 0 }
 {
-    let n = s.len();
-    fill(s, 0, n, 0);
+    s.fill(0);
 }
 
 // The n bytes of another slice from a place on, put at a place.
@@ -82,23 +70,14 @@ pub fn copy(s: &mut [u8], at: usize, src: &[u8], from: usize, n: usize)
     requires { (at + n ≤ length s.old) × (from + n ≤ length src.now) }
     ensures { s.new ≡ splice s.old at (take n (drop from src.now)) }
 {
-    let mut i = 0;
-    while i < n {
-        s[at + i] = src[from + i];
-        i += 1;
-    }
+    s[at..at + n].copy_from_slice(&src[from..from + n]);
 }
 
-// The n bytes that stand `gap` behind a place, moved down to it. They are taken from the front, so that a byte is read before
-// it is written over.
+// The n bytes that stand `gap` behind a place, moved down to it.
 pub fn move_down(s: &mut [u8], at: usize, gap: usize, n: usize)
     requires { (at + gap) + n ≤ length s.old }
     ensures { s.new ≡ splice s.old at (take n (drop (at + gap) s.old)) }
 {
     let from = at + gap;
-    let mut i = 0;
-    while i < n {
-        s[at + i] = s[from + i];
-        i += 1;
-    }
+    s.copy_within(from..from + n, at);
 }

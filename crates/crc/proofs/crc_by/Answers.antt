@@ -10,13 +10,8 @@ pub returns : goal.returns
 unfolding crc
 returns c =
     let s = c.args.s.now in
-    let head = c.crc_over-head.ensures.is in
     let rest : take (length s - header_size) (drop header_size s) ≡ drop header_size s =
     take_all (length s - header_size) (drop header_size s) (omega (arith, length-drop header_size s)) in
-    record {
-      is =
-          c.crc_over.ensures.is
-          ∙ (ap (λ (l : List ℕ). crc_from c.crc_over-head.result l) rest
-          ∙ (ap (λ (n : ℕ). crc_from n (drop header_size s)) head ∙ sym (crc_from_append 65535 (take 14 s) (drop header_size s))));
-      small = c.crc_over.ensures.small;
-    }
+    c.crc_over.ensures
+    ∙ (ap (λ (l : List ℕ). crc_from c.crc_over-head.result l) rest
+    ∙ (ap (λ (n : ℕ). crc_from n (drop header_size s)) c.crc_over-head.ensures ∙ sym (crc_from_append 65535 (take 14 s) (drop header_size s))))

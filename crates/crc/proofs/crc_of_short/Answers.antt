@@ -8,17 +8,7 @@ pub returns-then-s-lt-CRC_AT : goal.returns-then-s-lt-CRC_AT
 returns-then-s-lt-CRC_AT c =
     let s = c.args.s.now in
     let all : take 14 s ≡ s = take_all 14 s (omega arith) in
-    record {
-      is =
-          c.crc_of_bytes.ensures.is
-          ∙ (sym (ap (λ (l : List ℕ). crc_from 65535 l) all) ∙ sym (crc_short s c.requires));
-      small = c.crc_of_bytes.ensures.small;
-    }
+    c.crc_of_bytes.ensures ∙ (sym (ap (λ (l : List ℕ). crc_from 65535 l) all) ∙ sym (crc_short s c.requires))
 
 pub returns : goal.returns
-returns c =
-    let s = c.args.s.now in
-    record {
-      is = c.crc_of_bytes-2.ensures.is ∙ sym (crc_short s c.requires);
-      small = c.crc_of_bytes-2.ensures.small;
-    }
+returns c = c.crc_of_bytes-2.ensures ∙ sym (crc_short c.args.s.now c.requires)

@@ -5,21 +5,11 @@ use Rattle.simulation.specs.Simulates.{simulates_as, simulates_change}
 use Rattle.telling.specs.Telling.{row_plain, row_query, row_probe}
 use Rattle.telling.proofs.put_half_row.Goals as goal
 
-pub tells-requires : goal.tells-requires
-tells-requires c = let p = c.requires in (p.laid, p.fine.inside)
-
 pub returns-then-not-tells : goal.returns-then-not-tells
 returns-then-not-tells c =
     let a = c.args in
-    let s = sheet_in a.s.now in
     simulates_change (c.set_state.ensures a.t) (λ x d o. o.inside)
-    (λ x d o. row_plain s x a.i (sym c.tells.ensures ∙ c.if-not-tells.true))
-
-pub tells_completion-requires : goal.tells_completion-requires
-tells_completion-requires c = let p = c.requires in (p.laid, p.fine.inside)
-
-pub tell_completion-requires : goal.tell_completion-requires
-tell_completion-requires c = (c.requires, sym c.tells_completion.ensures ∙ c.if-tells_completion.true)
+    (λ x d o. row_plain (sheet_in a.s.now) x a.i (sym c.tells.ensures ∙ c.if-not-tells.true))
 
 pub returns-then-tells_completion : goal.returns-then-tells_completion
 returns-then-tells_completion c =
@@ -28,8 +18,8 @@ returns-then-tells_completion c =
     (λ x o. row_query (sheet_in a.s.now) x a.i (sym c.tells_completion.ensures ∙ c.if-tells_completion.true))
     c.tell_completion.ensures
 
-pub returns : goal.returns
-returns c =
+pub returns-else-tells_completion : goal.returns-else-tells_completion
+returns-else-tells_completion c =
     let a = c.args in
     simulates_as
     (λ x o. row_probe (sheet_in a.s.now) x a.i (sym c.tells.ensures ∙ c.if-not-tells.false)

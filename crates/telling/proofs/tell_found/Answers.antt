@@ -14,7 +14,7 @@ use Rattle.telling.proofs.tell_found.Goals.{After-word_of-m, Start}
 pub word_of-m-requires : goal.word_of-m-requires
 word_of-m-requires c =
     let p = c.requires in
-    omega (arith, p.2, p.0.decodes.few_messages, c.base.ensures.1.high, p.0.decodes.roomy)
+    omega (arith, p.1.inside, p.0.decodes.few_messages, c.base.ensures.1.high, p.0.decodes.roomy)
 
 -- the message that was read is the one that was found
 module _ (c : After-word_of-m) where
@@ -29,7 +29,7 @@ module _ (c : After-word_of-m) where
   place = c.word_of-m.ensures.is ∙ ap (λ (b : ℕ). two c.args.c.now (word_at b c.args.k)) c.base.ensures.0
 
   inside : m < N_of s
-  inside = subst (λ (n : ℕ). n < N_of s) (sym place) (c.requires.1.member c.requires.2)
+  inside = subst (λ (n : ℕ). n < N_of s) (sym place) c.requires.1.member
 
 pub rank_at-source-requires : goal.rank_at-source-requires
 rank_at-source-requires c =
@@ -60,4 +60,4 @@ returns c =
     let told : entry 5 0 absent source.result tag.result long.result ≡ entry 5 0 absent (rank_of (s (goal.at.returns c).After-word_of-m) (m (goal.at.returns c).After-word_of-m)) (op (s (goal.at.returns c).After-word_of-m) (m (goal.at.returns c).After-word_of-m)).tag (op (s (goal.at.returns c).After-word_of-m) (m (goal.at.returns c).After-word_of-m)).long =
     cc (source.ensures.is ∙ d.indexed.rank_is (m (goal.at.returns c).After-word_of-m) (inside (goal.at.returns c).After-word_of-m), tag.ensures.is, long.ensures.is) in
     ap (λ (e : Entry). with_row a.i e x) told
-    ∙ row_found (s (goal.at.returns c).After-word_of-m) x a.i (m (goal.at.returns c).After-word_of-m) (c.requires.1.found x d c.requires.2 ∙ cc (place (goal.at.returns c).After-word_of-m)))
+    ∙ row_found (s (goal.at.returns c).After-word_of-m) x a.i (m (goal.at.returns c).After-word_of-m) (c.requires.1.found x d ∙ cc (place (goal.at.returns c).After-word_of-m)))

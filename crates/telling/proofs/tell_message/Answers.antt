@@ -1,19 +1,14 @@
--- `telling::tell_message` meets its contract: by whether a message was found, each way is the definition's. Assumes nothing.
-use Rattle.std.proofs.Common.{arith}
+-- `telling::tell_message` meets its contract: where no message was found, the row is the definition's. Assumes nothing.
+use Rattle.std.proofs.Common.{subst, ℕ}
+use Rattle.std.specs.Prelude.{Option}
 use Rattle.rules.specs.Sheet.{sheet_in}
 use Rattle.simulation.specs.Simulates.{simulates_change}
-use Rattle.telling.specs.Telling.{row_missing}
+use Rattle.telling.specs.Telling.{Finds, row_missing}
 use Rattle.telling.proofs.tell_message.Goals as goal
 
-pub tell_found-requires : goal.tell_found-requires
-tell_found-requires c = (c.requires, c.found_at-k.ensures, c.if-k-t.true)
-
-pub returns-then-k-t : goal.returns-then-k-t
-returns-then-k-t c = c.tell_found.ensures
-
-pub returns : goal.returns
-returns c =
+pub returns-in-None : goal.returns-in-None
+returns-in-None c =
     let a = c.args in
-    let s = sheet_in a.s.now in
+    let none_fits = subst (λ (o : Option ℕ). Finds a.s.now a.c.now a.t a.i o) c.in-None.is c.found_at.ensures in
     simulates_change (c.set_state.ensures a.t) (λ x d o. o.inside)
-    (λ x d o. row_missing s x a.i (c.found_at-k.ensures.missing x d (omega (arith, c.if-k-t.false))))
+    (λ x d o. row_missing (sheet_in a.s.now) x a.i (none_fits x d))

@@ -1,15 +1,11 @@
--- `words::put_two` meets its contract: two stores are a splice of two bytes. Assumes nothing.
-use Rattle.std.proofs.Common.{add-one, ap, arith, length-set, set, ℕ, ◌%◌, ◌/◌, ◌∙◌}
+-- `words::put_two` meets its contract: the two bytes of a number are a splice. Assumes nothing.
+use Rattle.std.proofs.Common.{ap₂, arith, ℕ, [], ◌∷◌, refl, ◌∙◌}
 use Rattle.rules.specs.Report.{low_two}
-use Rattle.laws.specs.Splice.{sets_splice}
+use Rattle.words.specs.Putting.{part_put}
 use Rattle.words.proofs.put_two.Goals as goal
-
-pub bounds-s-at-2 : goal.bounds-s-at-2
-bounds-s-at-2 c = simp length-set (omega arith)
 
 pub returns : goal.returns
 unfolding low_two
 returns c =
     let a = c.args in
-    ap (λ (k : ℕ). set (set a.s.now a.at (a.v % 256)) k (a.v / 256 % 256)) (add-one a.at)
-    ∙ sets_splice a.s.now a.at (low_two a.v) (omega arith)
+    part_put a.s.now a.at 2 c.copy_from_slice.new.self (low_two a.v) (c.copy_from_slice.ensures.after ∙ (c.to_le_bytes-bytes.ensures ∙ ap₂ (λ (x y : ℕ). x ∷ y ∷ []) (omega arith) (omega arith))) refl

@@ -1,31 +1,42 @@
--- `search::candidates::message_fits` meets its contract: the first of the tests that fails decides. Assumes nothing.
-use Rattle.std.proofs.Common.{ap, eqb, sym, ℕ, ◌∙◌, ◌≡◌}
+-- `search::candidates::message_fits` meets its contract: test by test, in the order in which they are made. Assumes nothing.
+use Rattle.std.proofs.Common.{ap, eqb, sym, ℕ, ◌&&◌, ◌∙◌, ◌≡◌}
 use Rattle.rules.specs.Sheet.{sheet_in}
 use Rattle.waiting.specs.Envelopes.{is_asked}
-use Rattle.search.specs.Candidates.{Sides, message_beside, other_board, other_sender, other_mark, by_communicator}
+use Rattle.search.specs.Candidates.{Sides, message_beside, message_order, read_any, read_named, and_then, and_stop}
 use Rattle.search.proofs.candidates.message_fits.Goals as goal
-use Rattle.search.proofs.candidates.message_fits.Goals.{After-source_asked, Start}
+use Rattle.search.proofs.candidates.message_fits.Goals.{Joined-peer-a, then-a-eq-ANY, else-a-eq-ANY, then-a-rank_at, else-a-rank_at, then-peer-a+then-a-eq-ANY-2, then-peer-a+else-a-eq-ANY-2, else-peer-a}
 
-abbrev beside : Start → Sides
-beside z = message_beside (sheet_in z.args.s.now) z.args.a z.args.m
+-- what the tests came to: source, board and tag
+module _ (c : Joined-peer-a) where
+  abbrev x : Sides
+  x = message_beside (sheet_in c.args.s.now) c.args.a c.args.m
 
--- whether the message's sender is the source asked for
-sender : (c : After-source_asked) → let x = beside (goal.at.After-source_asked c).Start in is_asked x.source x.sender ≡ c.source_asked.result
-sender c =
-    sym (c.source_asked.ensures ∙ ap (λ (r : ℕ). is_asked c.args.a.peer r) (c.requires.0.tables.rank_is c.args.m c.requires.1))
+  source : c.if-a-eq-ANY.value ≡ is_asked x.source x.sender
+  source = elim c.if-a-eq-ANY.branch [
+    | then-a-eq-ANY w ↦ read_any x.sender w.if-a-eq-ANY.true w.value-is
+    | else-a-eq-ANY w ↦ read_named w.if-a-eq-ANY.false
+        (w.rank_at.ensures.is ∙ c.requires.0.tables.rank_is c.args.m c.requires.1) w.value-is
+  ]
 
-pub returns-then-not-source_asked : goal.returns-then-not-source_asked
-returns-then-not-source_asked c = other_sender (beside (goal.at.returns-then-not-source_asked c).Start) (sender (goal.at.returns-then-not-source_asked c).After-source_asked ∙ c.if-not-source_asked.true)
+  board : c.if-a-rank_at.value ≡ (is_asked x.source x.sender && eqb x.destination x.board)
+  board = elim c.if-a-rank_at.branch [
+    | then-a-rank_at w ↦ and_then (sym source ∙ w.if-a-rank_at.true) (w.value-is ∙ ap (λ (p : ℕ). eqb p x.board) w.peer.ensures.is)
+    | else-a-rank_at w ↦ and_stop _ (sym source ∙ w.if-a-rank_at.false) (w.value-is ∙ source)
+  ]
 
-pub returns-then-peer-a : goal.returns-then-peer-a
-returns-then-peer-a c = other_board (beside (goal.at.returns-then-peer-a c).Start) (λ e. c.if-peer-a.true (c.peer.ensures.is ∙ e))
+  tag : c.if-peer-a.value ≡ ((is_asked x.source x.sender && eqb x.destination x.board) && is_asked x.tag x.mark)
+  tag = elim c.if-peer-a.branch [
+    | then-peer-a+then-a-eq-ANY-2 w ↦ and_then (sym board ∙ w.if-peer-a.true) (read_any x.mark w.if-a-eq-ANY-2.true w.value-is)
+    | then-peer-a+else-a-eq-ANY-2 w ↦ and_then (sym board ∙ w.if-peer-a.true) (read_named w.if-a-eq-ANY-2.false w.tag.ensures.is w.value-is)
+    | else-peer-a w ↦ and_stop _ (sym board ∙ w.if-peer-a.false) (w.value-is ∙ board)
+  ]
 
-pub returns-then-not-tag_asked : goal.returns-then-not-tag_asked
-returns-then-not-tag_asked c = other_mark (beside (goal.at.returns-then-not-tag_asked c).Start) (sym c.tag_asked.ensures ∙ c.if-not-tag_asked.true)
+pub returns-then-a-tag : goal.returns-then-a-tag
+returns-then-a-tag c =
+    let z = (goal.at.returns-then-a-tag c).Joined-peer-a in
+    and_then (sym (tag z) ∙ c.if-a-tag.true) (ap (λ (n : ℕ). eqb n c.args.a.communicator) c.comm.ensures.is) ∙ message_order (x z)
 
-pub returns : goal.returns
-returns c =
-    ap (λ (n : ℕ). eqb n c.args.a.communicator) c.comm.ensures.is
-    ∙ by_communicator (beside (goal.at.returns c).Start) (sym c.peer.ensures.is ∙ c.if-peer-a.false)
-    (sender (goal.at.returns c).After-source_asked ∙ c.if-not-source_asked.false)
-    (sym c.tag_asked.ensures ∙ c.if-not-tag_asked.false)
+pub returns-else-a-tag : goal.returns-else-a-tag
+returns-else-a-tag c =
+    let z = (goal.at.returns-else-a-tag c).Joined-peer-a in
+    and_stop _ (sym (tag z) ∙ c.if-a-tag.false) (tag z) ∙ message_order (x z)

@@ -7,9 +7,9 @@ use Rattle.state.specs.Decoded.{place_of, place_row}
 use Rattle.state.proofs.ChangesHold.{place_read, place_change}
 use Rattle.state.proofs.changes.finish_one.Goals as goal
 
-pub overflow_add-q : goal.overflow_add-q
+pub overflow_add-next : goal.overflow_add-next
 unfolding place
-overflow_add-q c = record { fits = omega (arith, c.place_of-q.ensures.fits.finished_fits) }
+overflow_add-next c = record { fits = omega (arith, c.place_of-q.ensures.fits.finished_fits) }
 
 pub returns : goal.returns
 unfolding one_finished place
@@ -27,5 +27,4 @@ returns c =
       room_fits = old.ensures.fits.room_fits;
     })
     (put.ensures
-    ∙ (ap (λ (p : Place). splice a.c.now (seat_at a.r) (place_row p)) c.standing-next.ensures
-    ∙ ap (λ (k : ℕ). splice a.c.now (seat_at a.r) (place_row (place k false q.attached q.room))) (add-one q.finished)))
+    ∙ ap (λ (k : ℕ). splice a.c.now (seat_at a.r) (place_row (place k false q.attached q.room))) (add-one q.finished))

@@ -2,6 +2,8 @@
 use Rattle.std.proofs.Common.{ap, ◌∙◌}
 use Rattle.rules.specs.Job.{Place}
 use Rattle.rules.specs.Step.{splice}
+use Rattle.account.specs.declared.Account.{Account}
+use Rattle.account.specs.Accounts.{given_back}
 use Rattle.account.specs.Stores.{stands_for}
 use Rattle.state.specs.Layout.{seat_at}
 use Rattle.state.specs.Decoded.{place_of, place_row}
@@ -15,12 +17,13 @@ returns c =
     λ t s x d l.
     let a = c.args in
     let old = c.place_of-q in
-    let f = c.figures_in-f in
-    let left = c.releasing-left in
+    let f = c.figures in
+    let left = c.give_back-left in
+    let back = left.ensures ∙ ap (λ (b : Account). given_back b a.n) c.account.ensures in
     let w = stands_for a.w in
     let put = c.put_account in
     place_change s a.c.now t x d (released_in w a.n) a.r old.result put.new.c l old.ensures
     (released_fits w a.n (place_of old.result) old.ensures.fits)
     (put.ensures
     ∙ ap (λ (p : Place). splice a.c.now (seat_at a.r) (place_row p))
-    (released_as w a.size a.n old.result f.result f.ensures left.result left.ensures))
+    (released_as w a.size a.n old.result f.result f.ensures left.result back))

@@ -1,9 +1,6 @@
 -- `state::changes::start_waiting` meets its contract: the place that was read, in its waiting half. Assumes nothing.
-use Rattle.std.proofs.Common.{ap, ◌∙◌}
-use Rattle.rules.specs.Job.{Place, place}
-use Rattle.rules.specs.Step.{splice, now_waiting}
-use Rattle.state.specs.Layout.{seat_at}
-use Rattle.state.specs.Decoded.{place_row}
+use Rattle.rules.specs.Job.{place}
+use Rattle.rules.specs.Step.{now_waiting}
 use Rattle.state.proofs.ChangesHold.{place_change}
 use Rattle.state.proofs.changes.start_waiting.Goals as goal
 
@@ -20,4 +17,4 @@ returns c =
       attached_fits = old.ensures.fits.attached_fits;
       room_fits = old.ensures.fits.room_fits;
     })
-    (put.ensures ∙ ap (λ (p : Place). splice a.c.now (seat_at a.r) (place_row p)) c.standing-next.ensures)
+    put.ensures

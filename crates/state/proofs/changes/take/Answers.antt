@@ -14,4 +14,4 @@ returns c =
     let moved = c.remove in
     take_by s a.c.now a.t x d a.q left a.k v moved.new.c c.recounting.result (omega arith) f
     (subst (λ (b : ℕ). moved.new.c ≡ splice a.c.now (word_at b a.k) (behind a.c.now b left a.k))
-    c.base-base.ensures.0 moved.ensures) c.recounting.ensures
+    c.base.ensures.0 moved.ensures) c.recounting.ensures

@@ -27,11 +27,5 @@ returns c =
 pub put_bare-requires : goal.put_bare-requires
 put_bare-requires c = omega arith
 
-pub overflow_add-i : goal.overflow_add-i
-overflow_add-i c = omega arith
-
-pub loop-i-smaller : goal.loop-i-smaller
-loop-i-smaller c = omega arith
-
 pub shape_of-c : goal.shape_of-c
 shape_of-c c = omega arith

@@ -1,23 +1,22 @@
 -- `steps::able::is_able` meets its contract: test by test, as the definition has them. Assumes nothing.
-use Rattle.std.proofs.Common.{List, ap, ap₂, arith, ℕ, ◌+◌, ◌<◌, ◌∙◌, ◌≡◌}
+use Rattle.std.proofs.Common.{List, ap, ap₂, arith, sym, ℕ, ◌+◌, ◌<◌, ◌∙◌, ◌≡◌}
 use Rattle.rules.specs.Sheet.{Sheet, sheet_in, board, P_of}
 use Rattle.rules.specs.Job.{Job, place_at}
 use Rattle.simulation.specs.Represents.{Represents}
 use Rattle.steps.specs.Able.{Next, can_go_on, finished_is, next_of, able_stopped, able_outside, able_finished, able_next}
 use Rattle.steps.proofs.able.is_able.Goals as goal
-use Rattle.steps.proofs.able.is_able.Goals.{After-first, Start}
+use Rattle.steps.proofs.able.is_able.Goals.{After-first, then-is_some-via-then-is_some, then-is_some-via-else-is_some+then-boards-r}
 
-pub returns-then-t-ne0 : goal.returns-then-t-ne0
-returns-then-t-ne0 c =
+pub returns-then-is_some : goal.returns-then-is_some
+returns-then-is_some c =
     λ lent x d.
     let a = c.args in
-    able_stopped a.s.now lent a.c.now a.t x d a.r c.if-t-ne0.true
-
-pub returns-then-boards-r : goal.returns-then-boards-r
-returns-then-boards-r c =
-    λ lent x d.
-    let a = c.args in
-    able_outside a.s.now lent a.c.now a.t x d a.r c.if-t-ne0.false (omega (arith, d.laid.P_is, c.boards.ensures.is, c.if-boards-r.true))
+    elim c.then-is_some.branch [
+      | then-is_some-via-then-is_some w ↦ able_stopped a.s.now lent a.c.now a.t x d a.r (sym c.is_some.ensures ∙ w.if-is_some.true)
+      | then-is_some-via-else-is_some+then-boards-r w ↦
+          able_outside a.s.now lent a.c.now a.t x d a.r (sym c.is_some.ensures ∙ w.if-is_some.false)
+          (omega (arith, d.laid.P_is, w.boards.ensures.is, w.if-boards-r.true))
+    ]
 
 pub returns-then-count-done : goal.returns-then-count-done
 returns-then-count-done c =
@@ -25,7 +24,7 @@ returns-then-count-done c =
     let a = c.args in
     let there : a.r < P_of (sheet_in a.s.now) = omega (arith, d.laid.P_is, c.boards.ensures.is, c.if-boards-r.false) in
     let done = c.finished_of-done.ensures.is ∙ finished_is a.s.now lent a.c.now a.t x d a.r there in
-    able_finished a.s.now lent a.c.now a.t x d a.r c.if-t-ne0.false there
+    able_finished a.s.now lent a.c.now a.t x d a.r (sym c.is_some.ensures ∙ c.if-is_some.false) there
     (omega (arith, done, c.count.ensures.is, c.if-count-done.true))
 
 -- past the tests, board r is there and unfinished, and operation i is its next, in every job that is represented
@@ -65,4 +64,4 @@ returns c =
     let n = next_here (goal.at.returns c).After-first lent x d in
     c.next_is_able.ensures lent x d n
     ∙ (ap (λ (i : ℕ). can_go_on (sheet_in a.s.now) x a.r i) n.is_next
-    ∙ able_next a.s.now lent a.c.now a.t x d a.r c.if-t-ne0.false n.there (unfinished_here (goal.at.returns c).After-first lent x d))
+    ∙ able_next a.s.now lent a.c.now a.t x d a.r (sym c.is_some.ensures ∙ c.if-is_some.false) n.there (unfinished_here (goal.at.returns c).After-first lent x d))

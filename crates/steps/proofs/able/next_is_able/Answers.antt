@@ -59,36 +59,36 @@ returns-then-tells c =
 pub frees_slot-requires : goal.frees_slot-requires
 frees_slot-requires c = let q = c.requires in (q.represents.laid, inside q)
 
-pub waited_at-j-requires : goal.waited_at-j-requires
-waited_at-j-requires c = let q = c.requires in omega (arith, inside q, q.represents.decodes.few_ops, q.represents.decodes.roomy)
+pub waited_at-requires : goal.waited_at-requires
+waited_at-requires c = let q = c.requires in omega (arith, inside q, q.represents.decodes.few_ops, q.represents.decodes.roomy)
 
-pub state_of-requires : goal.state_of-requires
-state_of-requires c =
+pub is_complete-requires : goal.is_complete-requires
+is_complete-requires c =
     let a = c.args in
     let q = c.requires in
     let names = frees_names (op (sheet_in a.s.now) a.i) (sym c.frees_slot.ensures ∙ c.if-frees_slot.true) in
     let n = wait_target a.s.now q.lent a.c.now a.t q.job q.represents a.i names (inside q) in
-    omega (arith, c.waited_at-j.ensures.is, q.represents.decodes.few_ops, q.represents.decodes.roomy)
+    omega (arith, c.waited_at.ensures.is, q.represents.decodes.few_ops, q.represents.decodes.roomy)
 
 pub returns-then-frees_slot : goal.returns-then-frees_slot
 returns-then-frees_slot c =
     λ lent x d n.
     let a = c.args in
-    ap (λ (v : ℕ). leb 2 v) (c.state_of.ensures.is ∙ ap (λ (j : ℕ). (entry_in a.c.now (row_at j)).state) c.waited_at-j.ensures.is)
+    c.is_complete.ensures ∙ ap (λ (j : ℕ). leb 2 (entry_in a.c.now (row_at j)).state) c.waited_at.ensures.is
     ∙ next_freeing a.s.now lent a.c.now a.t x d a.r a.i n
     (sym (half_read a.s.now lent a.c.now a.t x d a.r a.i n c.waiting_of.result c.is_only_half.result
     (c.waiting_of.ensures ∙ waiting_is a.s.now lent a.c.now a.t x d a.r n.there) c.is_only_half.ensures)
     ∙ c.if-not-waiting_of-is_only_half.false)
     (sym c.tells.ensures ∙ c.if-tells.false) (sym c.frees_slot.ensures ∙ c.if-frees_slot.true)
 
-pub state_of-requires-2 : goal.state_of-requires-2
-state_of-requires-2 c = let q = c.requires in omega (arith, inside q, q.represents.decodes.few_ops, q.represents.decodes.roomy)
+pub is_complete-requires-2 : goal.is_complete-requires-2
+is_complete-requires-2 c = let q = c.requires in omega (arith, inside q, q.represents.decodes.few_ops, q.represents.decodes.roomy)
 
 pub returns : goal.returns
 returns c =
     λ lent x d n.
     let a = c.args in
-    ap (λ (v : ℕ). leb 2 v) c.state_of-2.ensures.is
+    c.is_complete-2.ensures
     ∙ next_half a.s.now lent a.c.now a.t x d a.r a.i n
     (sym (half_read a.s.now lent a.c.now a.t x d a.r a.i n c.waiting_of.result c.is_only_half.result
     (c.waiting_of.ensures ∙ waiting_is a.s.now lent a.c.now a.t x d a.r n.there) c.is_only_half.ensures)

@@ -35,7 +35,7 @@ match_rows-requires c =
     let a = c.args in
     let p = c.requires.0 in
     let j = c.word_of-j.result in
-    holds_for p (both_read a.list a.i j c.message_in.result c.receive_in.result (sheet_in a.s.now) p.job c.message_in.ensures c.receive_in.ensures p.fine.unentered.inside (inside (goal.at.match_rows-requires c).After-word_of-j p.job p.decodes p.fine))
+    holds_for p (both_read a.list a.i j c.sides-m.result.0 c.sides-m.result.1 (sheet_in a.s.now) p.job c.sides-m.ensures.0 c.sides-m.ensures.1 p.fine.unentered.inside (inside (goal.at.match_rows-requires c).After-word_of-j p.job p.decodes p.fine))
 
 pub take-u-requires : goal.take-u-requires
 take-u-requires c =
@@ -53,10 +53,10 @@ module _ (c : After-take-u) where
   j = c.word_of-j.result
 
   abbrev m : ℕ
-  m = c.message_in.result
+  m = c.sides-m.result.0
 
   abbrev q : ℕ
-  q = c.receive_in.result
+  q = c.sides-m.result.1
 
   paired : Simulates c.args.s.now c.args.c.now c.args.t c.take-u.new.c c.take-u.result
       (Pairs c.args.list c.args.r c.args.i c.args.k) (λ s x. matched_with c.args.list s c.args.i j x)
@@ -67,11 +67,11 @@ module _ (c : After-take-u) where
             λ x d o.
             let y : Job = matched_rows s m q (release s m x) in
             let both =
-            both_read c.args.list c.args.i j m q s x c.message_in.ensures
-            c.receive_in.ensures o.unentered.inside
+            both_read c.args.list c.args.i j m q s x c.sides-m.ensures.0
+            c.sides-m.ensures.1 o.unentered.inside
             (inside (goal.at.After-take-u c).After-word_of-j x d o) in
-            matched_read c.args.list s c.args.i j m q x c.take-u.new.c c.take-u.result c.message_in.ensures
-            c.receive_in.ensures o.unentered.not_listed
+            matched_read c.args.list s c.args.i j m q x c.take-u.new.c c.take-u.result c.sides-m.ensures.0
+            c.sides-m.ensures.1 o.unentered.not_listed
             (c.take-u.ensures j s y (c.match_rows.ensures.after x d both)
             (first_at_as (list_of c.args.list x) (list_of c.args.list y) c.args.k j (rows_list s m q x c.args.list)
             (found (goal.at.After-take-u c).After-word_of-j x d) o.first));

@@ -10,7 +10,6 @@ returns c =
     let a = c.args in
     let s = sheet_in a.s.now in
     let source = c.rank_at-source in
-    let cut = c.is_cut-cut in
     let capacity = c.long in
     let long = c.long-long in
     let tag = c.tag-tag in
@@ -21,7 +20,7 @@ returns c =
           (record {
             sent_inside = o.first;
             received_inside = o.second;
-            cut_is = cc (cut.ensures, capacity.ensures.is, long.ensures.is);
+            cut_is = cc (capacity.ensures.is, long.ensures.is);
             source_is = source.ensures.is ∙ d.indexed.rank_is a.m o.first;
             tag_is = tag.ensures.is;
             long_is = long.ensures.is;

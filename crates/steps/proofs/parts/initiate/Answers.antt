@@ -18,8 +18,8 @@ returns-then-has_no_half c =
           (c.finish_one.ensures a.t s x d o);
     }
 
-pub returns : goal.returns
-returns c =
+pub returns-else-has_no_half : goal.returns-else-has_no_half
+returns-else-has_no_half c =
     let a = c.args in
     let s = sheet_in a.s.now in
     record {

@@ -1,6 +1,7 @@
 -- `steps::sends::leave` meets its contract: by mode, each way is the definition's. Assumes nothing.
-use Rattle.std.proofs.Common.{arith, refl, sym, ◌∙◌}
+use Rattle.std.proofs.Common.{refl, sym, ◌∙◌}
 use Rattle.rules.specs.Sheet.{sheet_in}
+use Rattle.state.specs.declared.StopVerdict.TheVariants.{NotReady}
 use Rattle.simulation.specs.Simulates.{simulates_as}
 use Rattle.steps.specs.Unmatched.{unmatched_ready, unmatched_buffered, unmatched_other}
 use Rattle.steps.specs.Pending.{stop_simulates}
@@ -11,7 +12,7 @@ returns-then-is_ready c =
     let a = c.args in
     let s = sheet_in a.s.now in
     simulates_as (λ x o. unmatched_ready s a.r a.i x (sym c.is_ready.ensures ∙ c.if-is_ready.true))
-    (stop_simulates 4 a.r a.i (λ e. absurd (omega arith)) refl c.halting.ensures)
+    (stop_simulates NotReady a.r a.i refl c.halting.ensures)
 
 pub returns-then-is_buffered : goal.returns-then-is_buffered
 returns-then-is_buffered c =
