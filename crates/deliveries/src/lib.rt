@@ -15,13 +15,14 @@ use sheet::{boards, header, ops};
 use state::rows;
 
 // How many bytes of message m receive r gets: all, or as many as its capacity where the message is cut.
+#[tactic(auto, unfolding(rules::specs::Step::copied))]
 fn copied(s: &[u8], m: usize, r: usize) -> usize
     requires { Sent s.now m r }
     ensures { result ≡ copied (sheet_in s.now) m r }
 {
     let size = ops::long(s, m);
     let capacity = ops::long(s, r);
-    if capacity < size { capacity } else { size }
+    size.min(capacity)
 }
 
 // Message m to receive r, whose board's inbox starts at `start`. The copy is lent the whole area; the bytes behind what it puts
@@ -55,11 +56,9 @@ fn deliver_script(s: &[u8], c: &[u8], r: usize, start: usize, inbox: &mut [u8])
     requires { Deliverable s.now c.now × (r < P_of (sheet_in s.now)) × InboxAt (sheet_in s.now) r start inbox.old }
     ensures { ScriptDelivered (sheet_in s.now) c.now r inbox.old inbox.new }
 {
-    let mut i = boards::first(s, r);
-    let end = i + boards::count(s, r);
-    while i < end {
+    let first = boards::first(s, r);
+    for i in first..first + boards::count(s, r) {
         deliver_one(s, c, i, start, inbox);
-        i += 1;
     }
 }
 
@@ -70,12 +69,9 @@ pub fn deliver(s: &[u8], c: &[u8], inbox: &mut [u8])
     ensures { (t : Control) (x : Job) → Represents s.now inbox.old c.now t x →
         inbox.new ≡ x.memory }
 {
-    let p = header::boards(s);
     let mut start = 0;
-    let mut r = 0;
-    while r < p {
+    for r in 0..header::boards(s) {
         deliver_script(s, c, r, start, inbox);
         start += boards::inbox(s, r);
-        r += 1;
     }
 }

@@ -1,11 +1,11 @@
 -- An order followed in scratch, step by step: what holds before index k, and what follow answers. Assumes nothing.
 --   Reaches    the order is followed up to index k; reaches_none, reaches_more, reaches_refused, reaches_end: its steps
 --   Follows    the answer: the first refused index or none, and the job as the steps before left it
-use Rattle.std.specs.Prelude.{◌≡◌, refl, Bool, true, false, cond, ℕ, ◌+◌, ◌<◌, ◌≤◌, length, get_or}
+use Rattle.std.specs.Prelude.{◌≡◌, refl, Bool, true, false, cond, None, Some, ℕ, ◌+◌, ◌<◌, ◌≤◌, length, get_or}
 use Rattle.std.proofs.Math.Path.{sym, ap}
 use Rattle.std.proofs.Common.{◌∙◌, drop-cons}
 use mathlib.Core.List.{List, []}
-use Rattle.std.proofs.Math.Option.{Option, none, some}
+use Rattle.std.proofs.Math.Option.{some}
 use Rattle.std.proofs.Math.Numerals.{add-one}
 use Rattle.std.proofs.Math.ListN.{drop, drop_of_length-le}
 use Rattle.rules.specs.Sheet.{Sheet, sheet_in}
@@ -15,6 +15,7 @@ use Rattle.rules.specs.Order.{followed, follow_from, follow}
 use Rattle.state.specs.declared.Control.{Control}
 use Rattle.simulation.specs.Represents.{Represents, Represented, RepresentedAble}
 use Rattle.setup.specs.SetupWalk.{Starts}
+use Rattle.orders.specs.Optional.{option_of}
 use Rattle.orders.specs.Jobs.{Every, Lent, some_lent, represented, represented_able}
 use Rattle.orders.specs.declared.follow.Outcome.{Outcome}
 
@@ -27,13 +28,10 @@ pub record Reached (bs order c : List ℕ) (t : Control) (k : ℕ) (lent : List 
 abbrev pub Reaches : (bs order c : List ℕ) → Control → (k : ℕ) → Type 0
 Reaches bs order c t k = Lent bs (Reached bs order c t k)
 
-abbrev pub refused_at : Outcome → Option ℕ
-refused_at o = cond o.refused (some o.at) none
-
 pub record Answered (bs order c : List ℕ) (o : Outcome) (lent : List ℕ) : Type 0 where
   pub job : Job
   pub represents : Represents bs lent c o.control job
-  pub said : follow (sheet_in bs) order lent ≡ followed (refused_at o) job
+  pub said : follow (sheet_in bs) order lent ≡ followed (option_of o.refused_at) job
 
 abbrev pub Follows : (bs order c : List ℕ) → Outcome → Type 0
 Follows bs order c o = Lent bs (Answered bs order c o)
@@ -62,7 +60,7 @@ module _ {bs order c : List ℕ} {t : Control} {k : ℕ} (h : Reaches bs order c
     next a f x q = rw (drop-cons order k 0 l, sym e, sym q, add-one k)
 
     -- it isn't: the order is refused here
-    pub reaches_refused : b ≡ false → Follows bs order c (record { refused = true; at = k; control = t })
+    pub reaches_refused : b ≡ false → Follows bs order c (record { refused_at = Some k; control = t })
     reaches_refused f lent room =
         let q = h lent room in
         record {
@@ -91,7 +89,7 @@ module _ {bs order c : List ℕ} {t : Control} {k : ℕ} (h : Reaches bs order c
           }
 
   -- behind the last rank the order is accepted
-  pub reaches_end : length order ≤ k → Follows bs order c (record { refused = false; at = 0; control = t })
+  pub reaches_end : length order ≤ k → Follows bs order c (record { refused_at = None; control = t })
   unfolding follow_from
   reaches_end l lent room =
       let q = h lent room in

@@ -1,7 +1,7 @@
 -- A run in scratch, step by step: the order written down, and what run answers. Assumes nothing.
 --   Running   the run has taken k steps; running_none, running_more, running_end: its steps
 --   Runs      the answer: the order that was taken, and the job where it ended
-use Rattle.std.specs.Prelude.{◌≡◌, true, List, [], ◌∷◌, ◌++◌, length, get_or, set, drop}
+use Rattle.std.specs.Prelude.{◌≡◌, true, None, Some, List, [], ◌∷◌, ◌++◌, length, get_or, set, drop}
 use Rattle.std.proofs.Math.Path.{refl}
 use Rattle.std.proofs.Common.{sym, ◌∙◌, ap, append_assoc, length-append, drop-cons}
 use Rattle.std.proofs.Math.Option.{none, some}
@@ -15,11 +15,12 @@ use Rattle.rules.specs.Step.{able, step}
 use Rattle.rules.specs.Order.{next_rank, ran, run_next, run_from, run}
 use Rattle.rules.specs.Service.{in_front}
 use Rattle.invariant.specs.preserve.StepCount.{able_room}
+use Rattle.invariant.specs.step.LowestAble.{next_some}
 use Rattle.state.specs.declared.Control.{Control}
 use Rattle.simulation.specs.Represents.{Represents, Represented, RepresentedAble}
 use Rattle.setup.specs.SetupWalk.{Starts}
 use Rattle.orders.specs.Jobs.{Every, Lent, some_inboxes, some_lent, represented, represented_able}
-use Rattle.orders.specs.Lowest.{Lowest, lowest_is_able}
+use Rattle.orders.specs.Lowest.{Lowest, lowest_low}
 
 -- after k steps the order so far stands in front of the room
 pub record Ran (bs room c out : List ℕ) (t : Control) (k : ℕ) (lent : List ℕ) : Type 0 where
@@ -71,8 +72,7 @@ order_more taken room k r e l =
     ∙ (set_at taken (get_or room k 0) (drop (suc k) room) r k e
     ∙ (sym (append_assoc taken (r ∷ []) (drop (suc k) room)) ∙ ap (λ (n : ℕ). (taken ++ (r ∷ [])) ++ drop n room) (sym long))))
 
-module _ {bs room c out : List ℕ} {t : Control} {k r : ℕ} (h : Running bs room c out t k)
-    (low : Every bs c t (λ x. Lowest (sheet_in bs) x r)) where
+module _ {bs room c out : List ℕ} {t : Control} {k : ℕ} (h : Running bs room c out t k) where
   abbrev s : Sheet
   s = sheet_in bs
 
@@ -82,23 +82,27 @@ module _ {bs room c out : List ℕ} {t : Control} {k r : ℕ} (h : Running bs ro
   run_done zero o x e = refl
   run_done (suc n) o x e = rw e
 
-  pub running_end : P_of s ≤ r → Runs bs room c out t
-  running_end l lent enough =
+  pub running_end : Every bs c t (λ x. Lowest s x None) → Runs bs room c out t
+  running_end low lent enough =
       let q = h lent enough in
       record {
         job = q.job;
         represents = q.represents;
         taken = q.taken;
-        said = q.left ∙ run_done (order_room (N_of s) - k) q.taken q.job ((low lent q.job q.represents).missing l);
+        said = q.left ∙ run_done (order_room (N_of s) - k) q.taken q.job (low lent q.job q.represents);
         out_is = q.out_is;
       }
 
-  module _ (l : r < P_of s) where
+  -- a run that goes on with rank r
+  module _ {r : ℕ} (low : Every bs c t (λ x. Lowest s x (Some r))) where
     abbrev standing : Ran bs room c out t k (some_inboxes bs)
     standing = some_lent bs (Ran bs room c out t k) h
 
     rank_able : Every bs c t (λ x. able s x r ≡ true)
-    rank_able lent x d = lowest_is_able (low lent x d) l
+    rank_able lent x d = next_some s x r (low lent x d)
+
+    pub running_low : r < P_of s
+    running_low = lowest_low s standing.job r (low _ standing.job standing.represents)
 
     -- there is room in the order for one step more
     pub running_room : k < order_room (N_of s)
@@ -133,7 +137,7 @@ module _ {bs room c out : List ℕ} {t : Control} {k r : ℕ} (h : Running bs ro
           counted = omega (arith, stepped q.job, q.counted);
           left =
               q.left
-              ∙ (run_more (order_room (N_of s) - k) q.taken q.job (omega arith) ((low lent q.job q.represents).found l)
+              ∙ (run_more (order_room (N_of s) - k) q.taken q.job (omega arith) (low lent q.job q.represents)
               ∙ ap (λ (n : ℕ). run_from n s (q.taken ++ (r ∷ [])) (step s r q.job)) (omega arith));
           out_is = ap (λ (o : List ℕ). set o k r) q.out_is ∙ order_more q.taken room k r q.taken_long (omega arith);
         }

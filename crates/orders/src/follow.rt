@@ -9,11 +9,11 @@ ghost use Rattle.orders.specs.Follows.{Follows};
 use state::Control;
 use steps::{able, turn};
 
-// Where an order was refused, if it was, and the control block of the job that scratch then holds.
+// The index at which an order was refused, if it was, and the control block of the job that scratch then holds: that of the
+// steps before it, also of a refused one.
 #[derive(Clone, Copy)]
 pub struct Outcome {
-    pub refused: bool,
-    pub at: usize,
+    pub refused_at: Option<usize>,
     pub control: Control,
 }
 
@@ -22,23 +22,19 @@ pub fn follow(s: &[u8], order: &[u8], c: &mut [u8]) -> Outcome
     requires { Laid s.now × Valid (sheet_in s.now) × (scratch_size ≤ length c.old) }
     ensures { Follows s.now order.now c.new result }
 {
-    let mut t = setup::start(s, c);
-    let mut k = 0;
-    while k < order.len() {
-        let r = words::wide(order[k]);
-        if !able::is_able(s, c, t, r) {
+    let mut control = setup::start(s, c);
+    for (k, &rank) in order.iter().enumerate() {
+        let r = usize::from(rank);
+        if !able::is_able(s, c, control, r) {
             return Outcome {
-                refused: true,
-                at: k,
-                control: t,
+                refused_at: Some(k),
+                control,
             };
         }
-        t = turn::take(s, c, t, r);
-        k += 1;
+        control = turn::take(s, c, control, r);
     }
     Outcome {
-        refused: false,
-        at: 0,
-        control: t,
+        refused_at: None,
+        control,
     }
 }

@@ -8,18 +8,15 @@ use sheet::header;
 use state::Control;
 use steps::able;
 
-// That rank, P if no board is able.
-pub fn lowest(s: &[u8], c: &[u8], t: Control) -> usize
+// That rank, if any board is able.
+pub fn lowest(s: &[u8], c: &[u8], t: Control) -> Option<usize>
     requires { Represented s.now c.now t }
     ensures { Every s.now c.now t (λ x. Lowest (sheet_in s.now) x result) }
 {
-    let p = header::boards(s);
-    let mut r = 0;
-    while r < p {
+    for r in 0..header::boards(s) {
         if able::is_able(s, c, t, r) {
-            return r;
+            return Some(r);
         }
-        r += 1;
     }
-    r
+    None
 }

@@ -7,7 +7,6 @@ ghost use Rattle.invariant.specs.sheet.Valid.{Valid};
 ghost use Rattle.orders.specs.Runs.{Runs};
 
 use crate::lowest;
-use sheet::header;
 use state::Control;
 use steps::turn;
 
@@ -18,14 +17,11 @@ pub fn run(s: &[u8], c: &mut [u8], out: &mut [u8]) -> Control
     ensures { Runs s.now out.old c.new out.new result }
 {
     let mut t = setup::start(s, c);
-    let p = header::boards(s);
     let mut k = 0;
-    let mut r = lowest::lowest(s, c, t);
-    while r < p {
-        out[k] = (r % 256) as u8;
+    while let Some(r) = lowest::lowest(s, c, t) {
+        out[k] = r as u8;
         t = turn::take(s, c, t, r);
         k += 1;
-        r = lowest::lowest(s, c, t);
     }
     t
 }

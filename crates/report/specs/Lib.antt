@@ -1,7 +1,9 @@
 -- The report, stretch by stretch.
+--   Numbers        the number of each state of a board
 --   ReportRows     rows of a report, one after another
 --   ReportCounts   pending messages, pending receives and cut messages, counted over the rows
 --   Report         board states, the verdict, and the stretches of a report side by side
+pub mod Numbers
 pub mod ReportRows
 pub mod ReportCounts
 pub mod Report

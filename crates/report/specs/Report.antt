@@ -1,18 +1,19 @@
 -- The report of the job that stands in scratch: board states, the verdict, and the stretches side by side. Assumes nothing.
 --   state_finished, state_other   a board's state; row_is: the front of its row, with the figures as they were read
 --   row_first, row_second         its row, by the edition
---   Finishing                     all boards before r are finished
+--   all_finished_is               all boards are finished where each one's place tells it
 --   verdict_stopped, ..           the verdict, by what was found
 --   stop_rank, stop_op            the stop, as the control block has it
 --   front_bytes, back_bytes       the header's two halves; header_is: side by side they are the header
 --   report_whole                  header, board rows and operation rows side by side are the report, in front of what stays
-use Rattle.std.specs.Prelude.{◌≡◌, ◌⊎◌, Bool, false, ◌&&◌, eqb, drop}
+use Rattle.std.specs.Prelude.{◌≡◌, ◌⊎◌, Bool, false, ◌&&◌, eqb, leb, drop}
+use Rattle.std.specs.List.{list_all, range_with_len}
 use Rattle.std.proofs.Math.Path.{refl, sym, ap, ap₂}
 use Rattle.std.proofs.Common.{◌∙◌, inl, inr, zero-add, add-one}
 use Rattle.std.proofs.Math.Bool.{true, cond}
 use mathlib.Core.List.{List, [], ◌∷◌, ◌++◌, append_assoc}
 use Rattle.std.proofs.Math.Option.{Option, none, some}
-use Prim.Native.Nat.{ℕ, suc, ◌+◌, ◌-◌, ◌*◌, ◌/◌, ◌%◌, ◌≤◌, ◌<◌}
+use Prim.Native.Nat.{ℕ, zero, suc, ◌+◌, ◌*◌, ◌/◌, ◌%◌, ◌≤◌, ◌<◌}
 use native.Mathlib.Omega.{arith}
 use Rattle.std.proofs.Math.Decide.{ℕ_discrete}
 use Rattle.std.proofs.Math.ListN.{length, length-append}
@@ -47,6 +48,15 @@ unfolding splice in_front
 front_splice met vs = ap (λ (n : ℕ). vs ++ drop n met) (zero-add (length vs))
 
 -- A BOARD'S STATE: 2 finished, 1 able, 0 neither
+state_small : (s : Sheet) (x : Job) (r : ℕ) → board_state s x r ≤ 2
+unfolding board_state
+state_small s x r = go (is_finished s x r) (able s x r)
+  where
+    go : (f a : Bool) → cond f 2 (cond a 1 0) ≤ 2
+    go true a = omega arith
+    go false true = omega arith
+    go false false = omega arith
+
 module _ {bs lent c : List ℕ} {t : Control} {x : Job} (d : Represents bs lent c t x) {r done count : ℕ} (l : r < P_of (sheet_in bs))
     (e : done ≡ (place_in c (seat_at r)).finished) (h : count ≡ (board (sheet_in bs) r).count) where
   abbrev s : Sheet
@@ -76,10 +86,10 @@ module _ {bs lent c : List ℕ} {t : Control} {x : Job} (d : Represents bs lent 
 
   -- the front of a board row, with its figures as they were read
   pub row_is : {charged peak state : ℕ} → charged ≡ (place_in c (seat_at r)).attached.in_use →
-      peak ≡ (place_in c (seat_at r)).attached.peak → state ≡ board_state s x r → state ≤ 2 →
-      four done charged peak state ≡ row_front s x r
+      peak ≡ (place_in c (seat_at r)).attached.peak → state ≡ board_state s x r → four done charged peak state ≡ row_front s x r
   unfolding row_front low_two
-  row_is {charged} {peak} {state} u p v small =
+  row_is {charged} {peak} {state} u p v =
+      let small = state_small s x r in
       let place : place_in c (seat_at r) ≡ place_at x r = place_is s c t x d.decodes r l in
       let one : charged ≡ (place_at x r).attached.in_use = u ∙ ap (λ (q : Place). q.attached.in_use) place in
       let two : peak ≡ (place_at x r).attached.peak = p ∙ ap (λ (q : Place). q.attached.peak) place in
@@ -106,34 +116,23 @@ module _ (s : Sheet) (x : Job) (r : ℕ) where
       (omega (arith, ap (λ (z : Bool). board_row_size z) h))
       ∙ (ap (λ (vs : List ℕ). splice met at vs) row_whole ∙ ap (λ (z : Bool). splice met at (board_row z s x r)) (sym h))
 
--- ALL FINISHED: every board before r is
-abbrev pub Finishing : Sheet → Job → (r : ℕ) → Type 0
-Finishing s x r = all_finished (P_of s) 0 s x ≡ all_finished (P_of s - r) r s x
+-- ALL FINISHED: every rank passes the test that places in scratch tell
+module _ {bs lent c : List ℕ} {t : Control} {x : Job} (d : Represents bs lent c t x) where
+  abbrev sheet : Sheet
+  sheet = sheet_in bs
 
-module _ (s : Sheet) (x : Job) where
-  pub finishing_none : Finishing s x 0
-  finishing_none = let e : P_of s ≡ P_of s - 0 = omega arith in ap (λ (n : ℕ). all_finished n 0 s x) e
+  abbrev finished_row : ℕ → Bool
+  finished_row r = leb (board sheet r).count (place_in c (seat_at r)).finished
 
-  -- board r is asked for
-  finished_next : (r : ℕ) → r < P_of s → Finishing s x r → (b : Bool) → is_finished s x r ≡ b →
-      all_finished (P_of s) 0 s x ≡ (b && all_finished (P_of s - (r + 1)) (r + 1) s x)
-  unfolding all_finished
-  finished_next r l q b e =
-      let left : P_of s - r ≡ suc (P_of s - (r + 1)) = omega arith in
-      q ∙ ap (λ (n : ℕ). all_finished n r s x) left
-      ∙ ap₂ (λ (f : Bool) (k : ℕ). f && all_finished (P_of s - (r + 1)) k s x) e (sym (add-one r))
+  finished_from : (n r : ℕ) → r + n ≤ P_of sheet → list_all finished_row (range_with_len r n) ≡ all_finished n r sheet x
+  unfolding all_finished is_finished
+  finished_from zero r h = refl
+  finished_from (suc n) r h =
+      ap₂ (λ (f : ℕ) (b : Bool). leb (board sheet r).count f && b) (finished_is bs lent c t x d r (omega arith))
+      (ap (λ (k : ℕ). list_all finished_row (range_with_len k n)) (add-one r) ∙ finished_from n (suc r) (omega arith))
 
-  pub finishing_more : (r : ℕ) → r < P_of s → Finishing s x r → is_finished s x r ≡ true → Finishing s x (r + 1)
-  finishing_more r l q e = finished_next r l q true e
-
-  pub finishing_not : (r : ℕ) → r < P_of s → Finishing s x r → is_finished s x r ≡ false → false ≡ all_finished (P_of s) 0 s x
-  finishing_not r l q e = sym (finished_next r l q false e)
-
-  pub finishing_all : (r : ℕ) → P_of s ≤ r → Finishing s x r → true ≡ all_finished (P_of s) 0 s x
-  unfolding all_finished
-  finishing_all r h q =
-      let none_left : P_of s - r ≡ 0 = omega arith in
-      sym (q ∙ ap (λ (n : ℕ). all_finished n r s x) none_left)
+  pub all_finished_is : list_all finished_row (range_with_len 0 (P_of sheet)) ≡ all_finished (P_of sheet) 0 sheet x
+  all_finished_is = finished_from (P_of sheet) 0 (omega arith)
 
 -- THE HEADER: stop rank (255 none) and stop operation, as the control block has them
 abbrev pub no_rank : ℕ

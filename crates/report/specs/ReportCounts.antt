@@ -1,10 +1,10 @@
 -- Pending messages, pending receives and cut messages, counted over the rows that scratch holds. Assumes nothing.
 --   message_row, receive_row, cut_row    what is counted, as the rows have it
---   Bit                                  a test as a number
 --   Counted                              the operations before i are counted
 --   messages_are, receives_are, cut_are  the counts are those of the job that stands there
-use Rattle.std.specs.Prelude.{◌≡◌, refl, Bool, ◌&&◌, ◌||◌, cond, List, ℕ, zero, suc, ◌+◌, ◌-◌, ◌≤◌, ◌<◌}
-use Rattle.std.proofs.Common.{sym, ap₂, subst, ◌∙◌, arith, add-one}
+use Rattle.std.specs.Prelude.{◌≡◌, refl, Bool, true, false, ◌&&◌, ◌||◌, cond, List, ℕ, zero, suc, ◌+◌, ◌-◌, ◌≤◌, ◌<◌}
+use Rattle.std.specs.Int.{from_bool}
+use Rattle.std.proofs.Common.{sym, ap₂, ◌∙◌, arith, add-one}
 use Rattle.std.proofs.Math.Path.{ap}
 use Rattle.std.proofs.Math.Dec.{eqb}
 use Rattle.rules.specs.Sheet.{Sheet, op, N_of, sheet_in, is_send, is_receive}
@@ -24,13 +24,14 @@ receive_row s c i = is_receive (op s i) && eqb (entry_in c (row_at i)).state 1
 unfoldable pub cut_row : (c : List ℕ) → (i : ℕ) → Bool
 cut_row c i = eqb (entry_in c (row_at i)).cut 1
 
--- a test as a number
-pub record Bit (b : Bool) (v : ℕ) : Type 0 where
-  pub is : v ≡ cond b 1 0
-  pub small : v ≤ 1
+-- a test is 1 where it holds, else 0
+bit_is : (b : Bool) → from_bool b ≡ cond b 1 0
+bit_is true = refl
+bit_is false = refl
 
-pub bit_of : {a b : Bool} {v : ℕ} → a ≡ b → Bit a v → Bit b v
-bit_of {a} {b} {v} e q = subst (λ (c : Bool). Bit c v) e q
+bit_most : (b : Bool) → from_bool b ≤ 1
+bit_most true = omega arith
+bit_most false = omega arith
 
 -- THE COUNT of the numbers below n that pass a test has come to i, at k
 pub record Counted (n : ℕ) (f : ℕ → Bool) (k i : ℕ) : Type 0 where
@@ -53,12 +54,14 @@ count_more n i f l =
     let e : n - i ≡ suc (n - (i + 1)) = omega arith in
     ap (λ (m : ℕ). count_from m i f) e ∙ ap (λ (j : ℕ). cond (f i) 1 0 + count_from (n - (i + 1)) j f) (sym (add-one i))
 
-pub counted_more : {n : ℕ} {f : ℕ → Bool} {k i b : ℕ} → Counted n f k i → i < n → Bit (f i) b → Counted n f (k + b) (i + 1)
-counted_more {n} {f} {k} {i} {b} q l e =
+-- b is the test of i, v its bit
+pub counted_more : {n : ℕ} {f : ℕ → Bool} {k i v : ℕ} {b : Bool} → Counted n f k i → i < n → b ≡ f i → v ≡ from_bool b → Counted n f (k + v) (i + 1)
+counted_more {n} {f} {k} {i} {v} {b} q l e h =
+    let same : v ≡ cond (f i) 1 0 = h ∙ (bit_is b ∙ ap (λ (t : Bool). cond t 1 0) e) in
     record {
       upper = omega arith;
-      few = omega (arith, q.few, e.small);
-      is = omega (arith, q.is, e.is, count_more n i f l);
+      few = omega (arith, q.few, h, bit_most b);
+      is = omega (arith, q.is, count_more n i f l);
     }
 
 pub counted_all : {n : ℕ} {f : ℕ → Bool} {k i : ℕ} → Counted n f k i → n ≤ i → k ≡ count_from n 0 f

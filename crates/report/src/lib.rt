@@ -15,8 +15,9 @@ ghost use Rattle.state.specs.Layout.{seat_at};
 ghost use Rattle.state.specs.Decoded.{place_in};
 ghost use Rattle.simulation.specs.Represents.{Represented};
 ghost use Rattle.orders.specs.Jobs.{Every};
+ghost use Rattle.report.specs.Numbers.{state_number};
 ghost use Rattle.report.specs.Report.{stop_rank as report_stop_rank, stop_op as report_stop_op, row_front, front_bytes, back_bytes};
-ghost use Rattle.report.specs.ReportCounts.{Bit, message_row, receive_row, cut_row, RowsCounted};
+ghost use Rattle.report.specs.ReportCounts.{message_row, receive_row, cut_row, RowsCounted};
 ghost use Rattle.report.specs.ReportRows.{row_in, joined, board_row_at, four};
 
 use account::Store;
@@ -54,25 +55,39 @@ fn op_rows(c: &[u8], n: usize, at: usize, out: &mut [u8])
     requires { (n ≤ most_ops) × (scratch_size ≤ length c.now) × (at + op_row_size * n ≤ length out.old) }
     ensures { out.new ≡ splice out.old at (joined (row_in c.now) 0 n) }
 {
-    let mut i = 0;
-    while i < n {
+    for i in 0..n {
         op_row(c, i, at + limits::OP_ROW_SIZE * i, out);
-        i += 1;
     }
 }
 
-// A board's state: 2 finished, 1 able, 0 neither.
-fn board_state(s: &[u8], c: &[u8], t: Control, r: usize) -> usize
+// A board's state, with its number.
+#[derive(Clone, Copy)]
+enum BoardState {
+    Neither = 0,
+    Able = 1,
+    Finished = 2,
+}
+
+impl From<BoardState> for usize {
+    ghost from_gives = { λ state n. n ≡ state_number state };
+
+    fn from(state: BoardState) -> usize {
+        state as usize
+    }
+}
+
+// The state of board r.
+fn board_state(s: &[u8], c: &[u8], t: Control, r: usize) -> BoardState
     requires { Represented s.now c.now t × (r < P_of (sheet_in s.now)) }
-    ensures { Every s.now c.now t (λ x. result ≡ board_state (sheet_in s.now) x r) × (result ≤ 2) }
+    ensures { Every s.now c.now t (λ x. state_number result ≡ board_state (sheet_in s.now) x r) }
 {
     if boards::count(s, r) <= places::finished_of(c, r) {
-        return 2;
+        BoardState::Finished
+    } else if able::is_able(s, c, t, r) {
+        BoardState::Able
+    } else {
+        BoardState::Neither
     }
-    if able::is_able(s, c, t, r) {
-        return 1;
-    }
-    0
 }
 
 // Where the row of board r stands in a report of an edition; that of board P would stand where the rows of operations start.
@@ -92,7 +107,14 @@ fn row_front(s: &[u8], c: &[u8], t: Control, r: usize, at: usize, out: &mut [u8]
     let finished = places::finished_of(c, r);
     let attached = places::figures_of(c, r, Store::Attached);
     let state = board_state(s, c, t, r);
-    put_four(out, at, finished, attached.in_use, attached.peak, state);
+    put_four(
+        out,
+        at,
+        finished,
+        attached.in_use,
+        attached.peak,
+        usize::from(state),
+    );
 }
 
 // What the second edition has besides: room in use, and its peak (document 02, K6).
@@ -125,11 +147,8 @@ fn board_rows(s: &[u8], c: &[u8], t: Control, second: bool, out: &mut [u8])
         (λ x. out.new ≡ splice out.old report_header_size
         (joined (board_row second (sheet_in s.now) x) 0 (P_of (sheet_in s.now)))) }
 {
-    let p = header::boards(s);
-    let mut r = 0;
-    while r < p {
+    for r in 0..header::boards(s) {
         board_row(s, c, t, second, r, out);
-        r += 1;
     }
 }
 
@@ -139,15 +158,7 @@ fn all_are_finished(s: &[u8], c: &[u8]) -> bool
     ensures { (t : Control) → Every s.now c.now t
         (λ x. result ≡ all_finished (P_of (sheet_in s.now)) 0 (sheet_in s.now) x) }
 {
-    let p = header::boards(s);
-    let mut r = 0;
-    while r < p {
-        if places::finished_of(c, r) < boards::count(s, r) {
-            return false;
-        }
-        r += 1;
-    }
-    true
+    (0..header::boards(s)).all(|r| boards::count(s, r) <= places::finished_of(c, r))
 }
 
 // Whether no board is able: there is no lowest rank that is.
@@ -155,10 +166,7 @@ fn none_is_able(s: &[u8], c: &[u8], t: Control) -> bool
     requires { Represented s.now c.now t }
     ensures { Every s.now c.now t (λ x. result ≡ none_able (sheet_in s.now) x) }
 {
-    if lowest::lowest(s, c, t) < header::boards(s) {
-        return false;
-    }
-    true
+    lowest::lowest(s, c, t).is_none()
 }
 
 // The verdict: 3 overflow and 4 not ready stopped the job; else 1 all finished; else 2 none able; else 0.
@@ -193,41 +201,36 @@ fn stop_op(t: Control) -> usize
     if t.verdict == 0 { limits::ABSENT } else { t.op }
 }
 
-// A test as a number, 1 or 0.
-fn bit(b: bool) -> usize
-    ensures { Bit b result }
-{
-    if b { 1 } else { 0 }
-}
-
 // Whether operation i is a pending message: state 2, buffered, counts as one.
-fn message_at(s: &[u8], c: &[u8], i: usize) -> usize
+#[tactic(auto, unfolding(crate::specs::ReportCounts::message_row))]
+fn message_at(s: &[u8], c: &[u8], i: usize) -> bool
     requires { Laid s.now × (scratch_size ≤ length c.now) × (i < N_of (sheet_in s.now)) }
-    ensures { Bit (message_row (sheet_in s.now) c.now i) result }
+    ensures { result ≡ message_row (sheet_in s.now) c.now i }
 {
     let state = rows::state_of(c, i);
-    bit(ops::is_send(s, i) & ((state == 1) | (state == 2)))
+    ops::is_send(s, i) && (state == 1 || state == 2)
 }
 
 // Whether it is a pending receive.
-fn receive_at(s: &[u8], c: &[u8], i: usize) -> usize
+#[tactic(auto, unfolding(crate::specs::ReportCounts::receive_row))]
+fn receive_at(s: &[u8], c: &[u8], i: usize) -> bool
     requires { Laid s.now × (scratch_size ≤ length c.now) × (i < N_of (sheet_in s.now)) }
-    ensures { Bit (receive_row (sheet_in s.now) c.now i) result }
+    ensures { result ≡ receive_row (sheet_in s.now) c.now i }
 {
-    let state = rows::state_of(c, i);
-    bit(ops::is_receive(s, i) & (state == 1))
+    ops::is_receive(s, i) && rows::state_of(c, i) == 1
 }
 
 // Whether its message was cut.
-fn cut_at(c: &[u8], i: usize) -> usize
+#[tactic(auto, unfolding(crate::specs::ReportCounts::cut_row))]
+fn cut_at(c: &[u8], i: usize) -> bool
     requires { (i < most_ops) × (scratch_size ≤ length c.now) }
-    ensures { Bit (cut_row c.now i) result }
+    ensures { result ≡ cut_row c.now i }
 {
-    bit(rows::cut_of(c, i) == 1)
+    rows::cut_of(c, i) == 1
 }
 
 // Pending messages, pending receives and cut messages.
-#[derive(Clone, Copy)]
+#[derive(Clone, Copy, Default)]
 struct Counts {
     messages: usize,
     receives: usize,
@@ -235,26 +238,18 @@ struct Counts {
 }
 
 // The three of them, in one pass over the rows.
+#[tactic(auto, using(crate::specs::ReportCounts::counted_none))]
 fn count_rows(s: &[u8], c: &[u8]) -> Counts
     requires { Laid s.now × (scratch_size ≤ length c.now) }
     ensures { RowsCounted (sheet_in s.now) c.now result.messages result.receives result.cut }
 {
-    let n = header::ops(s);
-    let mut messages: usize = 0;
-    let mut receives: usize = 0;
-    let mut cut: usize = 0;
-    let mut i = 0;
-    while i < n {
-        messages += message_at(s, c, i);
-        receives += receive_at(s, c, i);
-        cut += cut_at(c, i);
-        i += 1;
+    let mut counts = Counts::default();
+    for i in 0..header::ops(s) {
+        counts.messages += usize::from(message_at(s, c, i));
+        counts.receives += usize::from(receive_at(s, c, i));
+        counts.cut += usize::from(cut_at(c, i));
     }
-    Counts {
-        messages: messages,
-        receives: receives,
-        cut: cut,
-    }
+    counts
 }
 
 // The header's first eight bytes: verdict and stop rank, a byte each, stop operation, steps, P.

@@ -15,6 +15,7 @@ use state::{Control, controls, ranks, start, waits};
 
 // What operation i leaves in the table of the latest operation that took each slot: one that takes a slot is its latest, which a
 // later wait on it waits for (document 01, "Slots").
+#[tactic(auto, unfolding(crate::specs::SetupTables::last_after))]
 fn note(s: &[u8], i: usize, last: &mut [usize; limits::SLOT_LIMIT])
     requires { Slotted s.now i }
     ensures { last.new ≡ last_after (op (sheet_in s.now) i) i last.old }
@@ -27,6 +28,7 @@ fn note(s: &[u8], i: usize, last: &mut [usize; limits::SLOT_LIMIT])
 
 // The entries of operation i of board r: its rank, and where it names a slot the latest operation that took it. The others'
 // words are never read.
+#[tactic(auto, unfolding(crate::specs::SetupTables::op_put))]
 fn put_op(s: &[u8], c: &mut [u8], i: usize, r: usize, last: &[usize; limits::SLOT_LIMIT])
     requires { Slotted s.now i × (r < most_boards) × (scratch_size ≤ length c.old) }
     ensures { c.new ≡ op_put (op (sheet_in s.now) i) i r last.now c.old }
@@ -46,12 +48,10 @@ fn put_script(s: &[u8], c: &mut [u8], r: usize)
     ensures { Filled (sheet_in s.now) c.new (counts_before (sheet_in s.now) (r + 1)) }
 {
     let mut last = [0usize; limits::SLOT_LIMIT];
-    let mut i = boards::first(s, r);
-    let end = i + boards::count(s, r);
-    while i < end {
+    let first = boards::first(s, r);
+    for i in first..first + boards::count(s, r) {
         put_op(s, c, i, r, &last);
         note(s, i, &mut last);
-        i += 1;
     }
 }
 
@@ -60,11 +60,8 @@ fn put_tables(s: &[u8], c: &mut [u8])
     requires { Laid s.now × Valid (sheet_in s.now) × (scratch_size ≤ length c.old) }
     ensures { Filled (sheet_in s.now) c.new (N_of (sheet_in s.now)) }
 {
-    let p = header::boards(s);
-    let mut r = 0;
-    while r < p {
+    for r in 0..header::boards(s) {
         put_script(s, c, r);
-        r += 1;
     }
 }
 

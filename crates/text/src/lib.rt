@@ -1,12 +1,10 @@
 // Bytes and numbers as lines of text (document 01, "The desk and its three services").
 #![tactic(auto)]
 
-ghost use Rattle.std.specs.Prelude.{◌≡◌, [], ◌∷◌, ◌++◌, ◌+◌, ◌*◌, ◌<◌, ◌≤◌, length, take};
+ghost use Rattle.std.specs.Prelude.{◌≡◌, [], ◌∷◌, ◌++◌, ◌+◌, ◌*◌, ◌<◌, ◌≤◌, length};
 ghost use Rattle.rules.specs.Step.{splice};
 ghost use Rattle.text.specs.Text.{digit_of, pair as pair_text, number as number_text, hex_line as hex_line_text, numbers_line as numbers_line_text};
 ghost use Rattle.text.specs.Lengths.{most_places};
-
-mod number;
 
 // The longest text of a number: 20 digits, enough for every number of 64 bits, and the character behind them.
 pub const MOST_PLACES: usize = 21;
@@ -18,12 +16,10 @@ pub fn hex_line(bytes: &[u8], line: &mut [u8])
     ensures { line.new ≡ splice line.old 0 (hex_line_text bytes.now) }
 {
     let last = bytes.len() - 1;
-    let mut i = 0;
-    while i < last {
-        put_pair(line, 3 * i, bytes[i], b' ');
-        i += 1;
+    for (i, &b) in bytes[..last].iter().enumerate() {
+        put_pair(line, 3 * i, b, b' ');
     }
-    put_pair(line, 3 * i, bytes[i], b'\n');
+    put_pair(line, 3 * last, bytes[last], b'\n');
 }
 
 // A byte's two digits and the character behind them, put at a place.
@@ -36,13 +32,13 @@ fn put_pair(line: &mut [u8], at: usize, b: u8, behind: u8)
     line[at + 2] = behind;
 }
 
-// A hex digit in upper case.
+// A hex digit in upper case. The kit's crate `hex` writes lower case alone, and of what std's `{:X}` writes no clause tells.
 #[tactic(auto, unfolding(crate::specs::Text::digit_of))]
 fn digit(d: u8) -> u8
     requires { d < 16 }
     ensures { result ≡ digit_of d }
 {
-    if d < 10 { 48 + d } else { 55 + d }
+    if d < 10 { b'0' + d } else { b'A' + (d - 10) }
 }
 
 // Numbers in decimal with one blank between, ended by a newline, put at the start of `line`; answers how many places they take.
@@ -53,13 +49,11 @@ pub fn numbers_line(numbers: &[u64], line: &mut [u8]) -> usize
         × (result ≡ length (numbers_line_text numbers.now)) }
 {
     let last = numbers.len() - 1;
-    let mut i = 0;
     let mut at = 0;
-    while i < last {
-        at = put_number(line, at, numbers[i], b' ');
-        i += 1;
+    for &n in &numbers[..last] {
+        at = put_number(line, at, n, b' ');
     }
-    put_number(line, at, numbers[i], b'\n')
+    put_number(line, at, numbers[last], b'\n')
 }
 
 // A number in decimal and the character behind it, put at a place; answers the place behind them.
@@ -68,18 +62,18 @@ fn put_number(line: &mut [u8], at: usize, n: u64, behind: u8) -> usize
     ensures { (line.new ≡ splice line.old at (number_text n behind))
         × (result ≡ at + length (number_text n behind)) }
 {
-    let mut digits = [0u8; 20];
-    let count = number::decimal(n, &mut digits);
-    put_digits(line, at, &digits, count, behind)
+    let mut digits = itoa::Buffer::new();
+    put_digits(line, at, digits.format(n).as_bytes(), behind)
 }
 
-// The first digits of an array and the character behind them, put at a place; answers the place behind them.
-fn put_digits(line: &mut [u8], at: usize, digits: &[u8; 20], count: usize, behind: u8) -> usize
-    requires { (count ≤ 20) × (at + most_places ≤ length line.old) }
-    ensures { (line.new ≡ splice line.old at (take count digits.now ++ (behind ∷ [])))
-        × (result ≡ at + (count + 1)) }
+// Digits and the character behind them, put at a place; answers the place behind them.
+fn put_digits(line: &mut [u8], at: usize, digits: &[u8], behind: u8) -> usize
+    requires { at + (length digits.now + 1) ≤ length line.old }
+    ensures { (line.new ≡ splice line.old at (digits.now ++ (behind ∷ [])))
+        × (result ≡ at + (length digits.now + 1)) }
 {
-    words::copy(line, at, digits, 0, count);
-    words::put_byte(line, at + count, behind);
-    at + (count + 1)
+    let end = at + digits.len();
+    words::copy(line, at, digits, 0, digits.len());
+    words::put_byte(line, end, behind);
+    end + 1
 }

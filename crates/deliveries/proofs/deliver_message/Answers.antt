@@ -39,10 +39,11 @@ module _ (c : After-offset-2) where
 
 pub returns : goal.returns
 returns c =
-    let z = (goal.at.returns c).Start in
-    ap (λ (part : List ℕ). put_mid (area (goal.at.returns c).After-offset-2) (end (goal.at.returns c).After-offset-2 - area (goal.at.returns c).After-offset-2) z.args.inbox.now part) c.copy.ensures
-    ∙ delivered_part z.requires.0 z.args.inbox.now (c.payload_offset.result + c.offset.result) (count (goal.at.returns c).After-offset-2)
-    (area (goal.at.returns c).After-offset-2) (end (goal.at.returns c).After-offset-2) z.requires.1.room (omega arith) (omega arith) (omega arith) (omega arith)
+    let a = (goal.at.returns c).Start.args in
+    let k = (goal.at.returns c).After-offset-2 in
+    ap (λ (part : List ℕ). put_mid (area k) (end k - area k) a.inbox.now part) c.copy.ensures
+    ∙ delivered_part c.requires.0 a.inbox.now (c.payload_offset.result + c.offset.result) (count k) (area k) (end k)
+    c.requires.1.room (omega arith) (omega arith) (omega arith) (omega arith)
 
 pub overflow_add-area : goal.overflow_add-area
 overflow_add-area c = omega (arith, room c)

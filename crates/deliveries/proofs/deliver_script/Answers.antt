@@ -1,5 +1,5 @@
 -- `deliveries::deliver_script` meets its contract. The loop's invariant: the operations of the script before i are
--- delivered. The measure is how many are left. Assumes nothing.
+-- delivered. Assumes nothing.
 use Rattle.std.proofs.Common.{ap, arith, sym, ℕ, ◌+◌, ◌<◌, ◌∙◌}
 use Rattle.rules.specs.Sheet.{sheet_in, board, inbox_start}
 use Rattle.deliveries.specs.Deliveries.{scripting_none, scripting_more, replaying_at}
@@ -8,8 +8,8 @@ use Rattle.deliveries.proofs.deliver_script.Goals as goal
 pub loop-i-init : goal.loop-i-init
 loop-i-init c =
     let a = c.args in
-    let first = c.first-i in
-    (scripting_none (sheet_in a.s.now) a.c.now a.r a.inbox.now first.result first.ensures.is, omega arith)
+    let first = c.first-first in
+    scripting_none (sheet_in a.s.now) a.c.now a.r a.inbox.now first.result first.ensures.is
 
 pub deliver_one-requires : goal.deliver_one-requires
 deliver_one-requires c =
@@ -21,8 +21,8 @@ deliver_one-requires c =
       c.requires.0,
       omega (arith, g.script_inside r c.requires.1),
       record {
-        starts = c.requires.2.starts ∙ ap (λ (q : ℕ). inbox_start s q) (sym (g.script_ranked r l.i c.requires.1 l.invariant.0.lower high));
-        room = omega (arith, c.requires.2.room, l.invariant.0.size);
+        starts = c.requires.2.starts ∙ ap (λ (q : ℕ). inbox_start s q) (sym (g.script_ranked r l.i c.requires.1 l.invariant.lower high));
+        room = omega (arith, c.requires.2.room, l.invariant.size);
       },
     )
 
@@ -30,23 +30,8 @@ pub loop-i-preserved : goal.loop-i-preserved
 loop-i-preserved c =
     let one = c.deliver_one in
     let l = c.loop-i in
-    let a = c.args in (
-      scripting_more (sheet_in a.s.now) a.c.now a.r a.inbox.now l.i l.inbox one.new.inbox
-          l.invariant.0 one.ensures (omega arith),
-      omega arith,
-    )
+    let a = c.args in
+    scripting_more (sheet_in a.s.now) a.c.now a.r a.inbox.now l.i l.inbox one.new.inbox l.invariant one.ensures (omega arith)
 
 pub returns : goal.returns
-returns c = λ lent q. replaying_at (omega arith) (c.loop-i.invariant.0.goes lent q)
-
-pub overflow_add-end : goal.overflow_add-end
-overflow_add-end c = omega arith
-
-pub overflow_add-i : goal.overflow_add-i
-overflow_add-i c = omega arith
-
-pub loop-i-smaller : goal.loop-i-smaller
-loop-i-smaller c = omega arith
-
-pub shape_of-inbox : goal.shape_of-inbox
-shape_of-inbox c = c.loop-i.invariant.0.size
+returns c = λ lent q. replaying_at (omega arith) (c.loop-i.invariant.goes lent q)

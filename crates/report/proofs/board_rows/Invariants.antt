@@ -1,5 +1,4 @@
--- The invariant and the measure of `report::board_rows`.
-use Rattle.std.proofs.Common.{length, ◌-◌, ◌≡◌, ◌≤◌}
+-- The invariant of `report::board_rows`.
 use Rattle.rules.specs.Limits.{report_header_size}
 use Rattle.rules.specs.Sheet.{sheet_in}
 use Rattle.rules.specs.Report.{board_row}
@@ -9,7 +8,4 @@ use Rattle.report.proofs.board_rows.Given as goal
 
 abbrev pub invariant-loop-r : goal.invariant-loop-r
 invariant-loop-r l =
-    (l.r ≤ l.p) × (length l.out ≡ length l.initial.out) × Every l.s l.c l.t (λ x. Rowing (board_row l.second (sheet_in l.s) x) report_header_size l.initial.out l.out l.r)
-
-abbrev pub decreases-loop-r : goal.decreases-loop-r
-decreases-loop-r l = l.p - l.r
+    Every l.s l.c l.t (λ x. Rowing (board_row l.second (sheet_in l.s) x) report_header_size l.initial.out l.out l.r)

@@ -16,4 +16,4 @@ returns c =
     λ lent x d. put.ensures
     ∙ ap (λ (vs : List ℕ). splice c.args.out.now c.args.at vs)
     (row_is d c.requires.1 done.ensures.is refl (ap (λ (q : Figures). q.in_use) attached) (ap (λ (q : Figures). q.peak) attached)
-    (state.ensures.0 lent x d) state.ensures.1)
+    (c.from.ensures ∙ state.ensures lent x d))

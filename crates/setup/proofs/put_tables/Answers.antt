@@ -1,6 +1,6 @@
--- `setup::put_tables` meets its contract. The loop's invariant: the tables are right below board r's script. The measure
--- is how many boards are left. Assumes nothing.
-use Rattle.std.proofs.Common.{ap, arith, refl, subst, sym, ℕ, ◌∙◌, ◌≡◌}
+-- `setup::put_tables` meets its contract. The loop's invariant: the tables are right below board r's script. Assumes
+-- nothing.
+use Rattle.std.proofs.Common.{ap, arith, subst, sym, ℕ, ◌∙◌, ◌≡◌}
 use Rattle.rules.specs.Sheet.{sheet_in, P_of, counts_before}
 use Rattle.laws.specs.Ranks.{counts_none}
 use Rattle.setup.specs.SetupTables.{Filled, filled_none}
@@ -10,28 +10,19 @@ pub loop-r-init : goal.loop-r-init
 loop-r-init c =
     let s = sheet_in c.args.s.now in
     let b = c.args.c.now in
-    (refl, omega arith, subst (λ (k : ℕ). Filled s b k) (sym (counts_none s)) (filled_none s b c.requires.2))
+    subst (λ (k : ℕ). Filled s b k) (sym (counts_none s)) (filled_none s b c.requires.2)
 
 pub put_script-requires : goal.put_script-requires
 put_script-requires c =
     let l = c.loop-r in
-    (c.requires.0, c.requires.1, omega (arith, c.loop-r-test.true, c.boards-p.ensures.is), l.invariant.2)
+    (c.requires.0, c.requires.1, omega (arith, c.loop-r-test.true, c.boards-r-end.ensures.is), l.invariant)
 
 pub returns : goal.returns
 returns c =
     let l = c.loop-r in
     let s = sheet_in c.args.s.now in
     let all : l.r ≡ P_of s = omega arith in
-    subst (λ (k : ℕ). Filled s l.c k) (ap (λ (k : ℕ). counts_before s k) all ∙ c.requires.1.counts_total) l.invariant.2
-
-pub overflow_add-r : goal.overflow_add-r
-overflow_add-r c = omega arith
-
-pub loop-r-smaller : goal.loop-r-smaller
-loop-r-smaller c = omega arith
+    subst (λ (k : ℕ). Filled s l.c k) (ap (λ (k : ℕ). counts_before s k) all ∙ c.requires.1.counts_total) l.invariant
 
 pub loop-r-preserved : goal.loop-r-preserved
-loop-r-preserved c = (omega arith, omega arith, c.put_script.ensures)
-
-pub shape_of-c : goal.shape_of-c
-shape_of-c c = c.loop-r.invariant.0
+loop-r-preserved c = c.put_script.ensures

@@ -1,6 +1,7 @@
 -- A number is put behind those that stand, and the last one ends the line. Assumes nothing.
-use Rattle.std.proofs.Common.{List, ℕ, ◌+◌, ◌*◌, ◌<◌, ◌≤◌, refl, ◌∙◌, length, take, arith, slice_index_or}
-use Rattle.std.proofs.Math.Seq.{length-take-le}
+use Rattle.std.proofs.Common.{◌≡◌, List, ℕ, ◌+◌, ◌-◌, ◌*◌, ◌<◌, ◌≤◌, refl, ap, ◌∙◌, length, take, arith, slice_index_or}
+use Rattle.std.proofs.Math.Seq.{length-take-le, get_or-take}
+use Rattle.rules.specs.Step.{splice}
 use Rattle.text.specs.Text.{number}
 use Rattle.text.specs.Lines.{Lined, lined_none, lined_more, lined_end}
 use Rattle.text.specs.Lengths.{most_places}
@@ -15,26 +16,35 @@ module _ {ns old room : List ℕ} {i at : ℕ} (q : Lined number ns old room i a
   space : (e : ℕ) → at + length (number (slice_index_or ns i 0) e) ≤ length old
   space e = omega (arith, fits, q.size, number_most (slice_index_or ns i 0) e)
 
-pub loop-i-init : goal.loop-i-init
-loop-i-init c = record { inside = omega arith; lined = lined_none number c.args.numbers.now c.args.line.now }
+-- all numbers but the last
+front : (ns : List ℕ) → length (take (length ns - 1) ns) ≡ length ns - 1
+front ns = length-take-le (length ns - 1) ns (omega arith)
+
+pub loop-n-init : goal.loop-n-init
+loop-n-init c = lined_none number c.args.numbers.now c.args.line.now
 
 pub put_number-at-requires : goal.put_number-at-requires
-put_number-at-requires c = fits c.loop-i.invariant.lined c.requires.1 (omega arith)
+put_number-at-requires c = fits c.loop-n.invariant c.requires.1 (omega (arith, front c.args.numbers.now))
 
-pub loop-i-preserved : goal.loop-i-preserved
-loop-i-preserved c =
-    let q = c.loop-i.invariant.lined in
-    let put = c.put_number-at in record {
-      inside = omega arith;
-      lined = lined_more number q (omega arith) put.new.line 32 put.ensures.0 (space q c.requires.1 (omega arith) 32) refl put.result put.ensures.1;
-    }
+pub loop-n-preserved : goal.loop-n-preserved
+loop-n-preserved c =
+    let l = c.loop-n in
+    let ns = c.args.numbers.now in
+    let put = c.put_number-at in
+    let same = get_or-take (length ns - 1) ns l.n-index 0 (omega (arith, front ns)) in
+    lined_more number l.invariant (omega (arith, front ns)) put.new.line 32 (put.ensures.0 ∙ ap (λ (n : ℕ). splice l.line l.at (number n 32)) same)
+    (space l.invariant c.requires.1 (omega (arith, front ns)) 32) refl put.result (put.ensures.1 ∙ ap (λ (n : ℕ). l.at + length (number n 32)) same)
 
 pub put_number-requires : goal.put_number-requires
-put_number-requires c = fits c.loop-i.invariant.lined c.requires.1 (omega arith)
+put_number-requires c = fits c.loop-n.invariant c.requires.1 (omega (arith, front c.args.numbers.now))
 
 pub returns : goal.returns
 returns c =
-    let q = c.loop-i.invariant.lined in
+    let l = c.loop-n in
+    let ns = c.args.numbers.now in
     let put = c.put_number in
-    let end = lined_end number q (omega arith) put.new.line 10 put.ensures.0 (space q c.requires.1 (omega arith) 10) refl (omega arith) in
-    (end.0, put.ensures.1 ∙ end.1)
+    let last : length ns - 1 ≡ l.n-index = omega (arith, front ns) in
+    let text = ap (λ (k : ℕ). number (slice_index_or ns k 0) 10) last in
+    let end = lined_end number l.invariant (omega (arith, front ns)) put.new.line 10 (put.ensures.0 ∙ ap (λ (vs : List ℕ). splice l.line l.at vs) text)
+    (space l.invariant c.requires.1 (omega (arith, front ns)) 10) refl (omega (arith, front ns)) in
+    (end.0, put.ensures.1 ∙ (ap (λ (vs : List ℕ). l.at + length vs) text ∙ end.1))
