@@ -11,67 +11,68 @@ ghost use Rattle.state.specs.declared.Control.{Control};
 ghost use Rattle.simulation.specs.Represents.{Represents};
 ghost use Rattle.deliveries.specs.Deliveries.{Sent, InboxAt, Deliverable, replay_in, ScriptDelivered};
 
-use sheet::{boards, header, ops};
-use state::rows;
+use sheet::Sheet;
+use state::{Scratch, State};
 
 // How many bytes of message m receive r gets: all, or as many as its capacity where the message is cut.
 #[tactic(auto, unfolding(rules::specs::Step::copied))]
-fn copied(s: &[u8], m: usize, r: usize) -> usize
+fn copied(s: &Sheet, m: usize, r: usize) -> usize
     requires { Sent s.now m r }
     ensures { result ≡ copied (sheet_in s.now) m r }
 {
-    let size = ops::long(s, m);
-    let capacity = ops::long(s, r);
+    let size = s.long(m);
+    let capacity = s.long(r);
     size.min(capacity)
 }
 
 // Message m to receive r, whose board's inbox starts at `start`. The copy is lent the whole area; the bytes behind what it puts
 // there keep their values.
-fn deliver_message(s: &[u8], m: usize, r: usize, start: usize, inbox: &mut [u8])
+fn deliver_message(s: &Sheet, m: usize, r: usize, start: usize, inbox: &mut [u8])
     requires { Sent s.now m r × InboxAt (sheet_in s.now) (rank_of (sheet_in s.now) r) start inbox.old }
     ensures { inbox.new ≡ delivered (sheet_in s.now) m r inbox.old }
 {
+    let bytes = s.bytes();
     let count = copied(s, m, r);
-    let capacity = ops::long(s, r);
-    let from = header::payload_offset(s) + ops::offset(s, m);
-    let area = start + ops::offset(s, r);
+    let capacity = s.long(r);
+    let from = s.payload_offset() + s.offset(m);
+    let area = start + s.offset(r);
     let end = area + capacity;
-    words::copy(&mut inbox[area..end], 0, s, from, count);
+    words::copy(&mut inbox[area..end], 0, bytes, from, count);
 }
 
 // Operation i: a receive that is matched has its message delivered.
-fn deliver_one(s: &[u8], c: &[u8], i: usize, start: usize, inbox: &mut [u8])
+fn deliver_one(s: &Sheet, c: &Scratch, i: usize, start: usize, inbox: &mut [u8])
     requires { Deliverable s.now c.now × (i < N_of (sheet_in s.now))
         × InboxAt (sheet_in s.now) (rank_of (sheet_in s.now) i) start inbox.old }
     ensures { inbox.new ≡ replay_in (sheet_in s.now) c.now i inbox.old }
 {
-    if ops::is_receive(s, i) && rows::state_of(c, i) == 3 {
-        let m = rows::partner_of(c, i);
+    if s.is_receive(i) && c.is_in(i, State::Matched) {
+        let m = c.partner_of(i);
         deliver_message(s, m, i, start, inbox);
     }
 }
 
 // The script of board r, whose inbox starts at `start`.
-fn deliver_script(s: &[u8], c: &[u8], r: usize, start: usize, inbox: &mut [u8])
+fn deliver_script(s: &Sheet, c: &Scratch, r: usize, start: usize, inbox: &mut [u8])
     requires { Deliverable s.now c.now × (r < P_of (sheet_in s.now)) × InboxAt (sheet_in s.now) r start inbox.old }
     ensures { ScriptDelivered (sheet_in s.now) c.now r inbox.old inbox.new }
 {
-    let first = boards::first(s, r);
-    for i in first..first + boards::count(s, r) {
+    let first = s.first(r);
+    for i in first..first + s.count(r) {
         deliver_one(s, c, i, start, inbox);
     }
 }
 
 // All scripts, one board after another: the inboxes as lent become the memory of the job that stands in scratch. Inboxes lie
 // one after another too, so `start` is a running sum.
-pub fn deliver(s: &[u8], c: &[u8], inbox: &mut [u8])
+pub fn deliver(s: &Sheet, c: &Scratch, inbox: &mut [u8])
     requires { Deliverable s.now c.now × (inbox_total (sheet_in s.now) ≤ length inbox.old) }
     ensures { (t : Control) (x : Job) → Represents s.now inbox.old c.now t x →
         inbox.new ≡ x.memory }
 {
     let mut start = 0;
-    for r in 0..header::boards(s) {
+    for r in 0..s.boards() {
         deliver_script(s, c, r, start, inbox);
-        start += boards::inbox(s, r);
+        start += s.inbox(r);
     }
 }

@@ -2,11 +2,11 @@
 ghost use Rattle.std.specs.Prelude.{◌≤◌, length};
 ghost use Rattle.rules.specs.Limits.{scratch_size};
 ghost use Rattle.rules.specs.Sheet.{sheet_in};
-ghost use Rattle.laws.specs.Laid.{Laid};
 ghost use Rattle.invariant.specs.sheet.Valid.{Valid};
 ghost use Rattle.orders.specs.Follows.{Follows};
 
-use state::Control;
+use sheet::Sheet;
+use state::{Control, Scratch};
 use steps::{able, turn};
 
 // The index at which an order was refused, if it was, and the control block of the job that scratch then holds: that of the
@@ -18,8 +18,8 @@ pub struct Outcome {
 }
 
 // The order followed from the start of a job, in scratch alone.
-pub fn follow(s: &[u8], order: &[u8], c: &mut [u8]) -> Outcome
-    requires { Laid s.now × Valid (sheet_in s.now) × (scratch_size ≤ length c.old) }
+pub fn follow(s: &Sheet, order: &[u8], c: &mut Scratch) -> Outcome
+    requires { Valid (sheet_in s.now) }
     ensures { Follows s.now order.now c.new result }
 {
     let mut control = setup::start(s, c);

@@ -4,16 +4,16 @@ ghost use Rattle.simulation.specs.Represents.{Represented};
 ghost use Rattle.orders.specs.Jobs.{Every};
 ghost use Rattle.orders.specs.Lowest.{Lowest};
 
-use sheet::header;
-use state::Control;
+use sheet::Sheet;
+use state::{Control, Scratch};
 use steps::able;
 
 // That rank, if any board is able.
-pub fn lowest(s: &[u8], c: &[u8], t: Control) -> Option<usize>
+pub fn lowest(s: &Sheet, c: &Scratch, t: Control) -> Option<usize>
     requires { Represented s.now c.now t }
     ensures { Every s.now c.now t (λ x. Lowest (sheet_in s.now) x result) }
 {
-    for r in 0..header::boards(s) {
+    for r in 0..s.boards() {
         if able::is_able(s, c, t, r) {
             return Some(r);
         }

@@ -2,17 +2,17 @@
 ghost use Rattle.std.specs.Prelude.{◌≤◌, length};
 ghost use Rattle.rules.specs.Limits.{scratch_size, order_room};
 ghost use Rattle.rules.specs.Sheet.{sheet_in, N_of};
-ghost use Rattle.laws.specs.Laid.{Laid};
 ghost use Rattle.invariant.specs.sheet.Valid.{Valid};
 ghost use Rattle.orders.specs.Runs.{Runs};
 
 use crate::lowest;
-use state::Control;
+use sheet::Sheet;
+use state::{Control, Scratch};
 use steps::turn;
 
 // The control block of the job where the run ended, which scratch then holds; the order stands in front of its room.
-pub fn run(s: &[u8], c: &mut [u8], out: &mut [u8]) -> Control
-    requires { Laid s.now × Valid (sheet_in s.now) × (scratch_size ≤ length c.old)
+pub fn run(s: &Sheet, c: &mut Scratch, out: &mut [u8]) -> Control
+    requires { Valid (sheet_in s.now)
         × (order_room (N_of (sheet_in s.now)) ≤ length out.old) }
     ensures { Runs s.now out.old c.new out.new result }
 {

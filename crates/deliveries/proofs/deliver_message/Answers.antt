@@ -1,8 +1,9 @@
 -- `deliveries::deliver_message` meets its contract: the bytes put at the front of the part that was lent are the
 -- delivery of rules. Assumes nothing.
-use Rattle.std.proofs.Common.{List, ap, arith, length, ℕ, ◌+◌, ◌-◌, ◌∙◌, ◌≤◌}
+use Rattle.std.proofs.Common.{List, ap, arith, drop, length, take, ℕ, ◌+◌, ◌-◌, ◌∙◌, ◌≤◌}
 use borrow.Rule.Slice.PartMut.{mid_of, put_mid, mid_len}
 use Rattle.rules.specs.Sheet.{sheet_in, op, inbox_total}
+use Rattle.rules.specs.Step.{splice}
 use Rattle.invariant.specs.deliveries.Commute.{copied_in_area, copied_in_message}
 use Rattle.deliveries.specs.Deliveries.{message_end, area_end, delivered_part}
 use Rattle.deliveries.proofs.deliver_message.Goals as goal
@@ -41,7 +42,9 @@ pub returns : goal.returns
 returns c =
     let a = (goal.at.returns c).Start.args in
     let k = (goal.at.returns c).After-offset-2 in
-    ap (λ (part : List ℕ). put_mid (area k) (end k - area k) a.inbox.now part) c.copy.ensures
+    let lent = mid_of (area k) (end k - area k) a.inbox.now in
+    ap (λ (part : List ℕ). put_mid (area k) (end k - area k) a.inbox.now part)
+    (c.copy.ensures ∙ ap (λ (bs : List ℕ). splice lent 0 (take (count k) (drop (c.payload_offset.result + c.offset.result) bs))) c.bytes-bytes.ensures)
     ∙ delivered_part c.requires.0 a.inbox.now (c.payload_offset.result + c.offset.result) (count k) (area k) (end k)
     c.requires.1.room (omega arith) (omega arith) (omega arith) (omega arith)
 
@@ -55,4 +58,4 @@ pub slice_bounds-copy-end : goal.slice_bounds-copy-end
 slice_bounds-copy-end c = room c
 
 pub copy-requires : goal.copy-requires
-copy-requires c = (first (goal.at.copy-requires c).After-offset-2, omega (arith, message_end c.requires.0, sent (goal.at.copy-requires c).After-offset-2))
+copy-requires c = (first (goal.at.copy-requires c).After-offset-2, omega (arith, ap (λ (bs : List ℕ). length bs) c.bytes-bytes.ensures, message_end c.requires.0, sent (goal.at.copy-requires c).After-offset-2))

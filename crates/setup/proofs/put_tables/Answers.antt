@@ -10,19 +10,19 @@ pub loop-r-init : goal.loop-r-init
 loop-r-init c =
     let s = sheet_in c.args.s.now in
     let b = c.args.c.now in
-    subst (λ (k : ℕ). Filled s b k) (sym (counts_none s)) (filled_none s b c.requires.2)
+    subst (λ (k : ℕ). Filled s b k) (sym (counts_none s)) (filled_none s b c.known.ensures)
 
 pub put_script-requires : goal.put_script-requires
 put_script-requires c =
     let l = c.loop-r in
-    (c.requires.0, c.requires.1, omega (arith, c.loop-r-test.true, c.boards-r-end.ensures.is), l.invariant)
+    (c.requires, omega (arith, c.loop-r-test.true, c.boards-r-end.ensures.is), l.invariant)
 
 pub returns : goal.returns
 returns c =
     let l = c.loop-r in
     let s = sheet_in c.args.s.now in
     let all : l.r ≡ P_of s = omega arith in
-    subst (λ (k : ℕ). Filled s l.c k) (ap (λ (k : ℕ). counts_before s k) all ∙ c.requires.1.counts_total) l.invariant
+    subst (λ (k : ℕ). Filled s l.c k) (ap (λ (k : ℕ). counts_before s k) all ∙ c.requires.counts_total) l.invariant
 
 pub loop-r-preserved : goal.loop-r-preserved
 loop-r-preserved c = c.put_script.ensures

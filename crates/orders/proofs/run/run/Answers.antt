@@ -21,22 +21,22 @@ room : (c : In-Some) → c.loop-r.k < order_room (N_of (sheet_in c.args.s.now))
 room c = running_room c.loop-r.invariant c.in-Some.ensures
 
 pub overflow_cast-out : goal.overflow_cast-out
-overflow_cast-out c = omega (arith, running_low c.loop-r.invariant c.in-Some.ensures, c.requires.0.few_boards)
+overflow_cast-out c = omega (arith, running_low c.loop-r.invariant c.in-Some.ensures, c.requires.0.boards_few)
 
 pub bounds-out-k : goal.bounds-out-k
-bounds-out-k c = omega (arith, c.requires.3, room c)
+bounds-out-k c = omega (arith, c.requires.1, room c)
 
 pub take-t-requires : goal.take-t-requires
 take-t-requires c = running_able c.loop-r.invariant c.in-Some.ensures
 
 pub overflow_add-k : goal.overflow_add-k
-overflow_add-k c = omega (arith, room (goal.at.overflow_add-k c).In-Some, c.requires.3)
+overflow_add-k c = omega (arith, room (goal.at.overflow_add-k c).In-Some, c.requires.1)
 
 pub loop-r-smaller : goal.loop-r-smaller
 loop-r-smaller c = omega (arith, room (goal.at.loop-r-smaller c).In-Some)
 
 pub loop-r-preserved : goal.loop-r-preserved
-loop-r-preserved c = running_more c.loop-r.invariant c.in-Some.ensures c.requires.3 c.take-t.new.c c.take-t.result c.take-t.ensures
+loop-r-preserved c = running_more c.loop-r.invariant c.in-Some.ensures c.requires.1 c.take-t.new.c c.take-t.result c.take-t.ensures
 
 pub returns : goal.returns
 returns c = running_end c.loop-r.invariant c.in_default.ensures
