@@ -1,21 +1,21 @@
 -- `refusals::check::requests` meets its contract: forgotten requests are looked for where no other rule of 7 is broken.
 -- Assumes nothing.
-use Rattle.rules.specs.Sheet.{Sheet, sheet_in}
-use Rattle.refusals.specs.Chain.{requests_broken, requests_kept}
+use Rattle.std.proofs.Common.{arith, rules}
+use Rattle.rules.specs.Sheet.{sheet_in}
+use Rattle.rules.specs.Refusal.{first_broken, request_good, slot_freed, requests_refusal}
+use Rattle.sheet.specs.Refused.{chain_stops, chain_goes_on}
 use Rattle.refusals.proofs.check.requests.Goals as goal
-use Rattle.refusals.proofs.check.requests.Goals.{Start}
 
-abbrev sheet : Start → Sheet
-sheet z = sheet_in z.args.s.now
-
-pub returns-then-broken-ne0 : goal.returns-then-broken-ne0
-returns-then-broken-ne0 c =
-    let broken = c.refusal-broken in
-    requests_broken (sheet (goal.at.returns-then-broken-ne0 c).Start) broken.result.number broken.result.place broken.ensures c.if-broken-ne0.true
+pub returns-in_err-refusal : goal.returns-in_err-refusal
+unfolding requests_refusal
+returns-in_err-refusal c =
+    let s = sheet_in c.args.s.now in
+    chain_stops c.from_residual.result c.in_err-refusal.field-0.0 c.from_residual.ensures.1 _ _
+    (c.in_err-refusal.ensures 7 (request_good s) (omega arith) (λ r l said p. search rules))
 
 pub returns : goal.returns
+unfolding requests_refusal
 returns c =
-    let broken = c.refusal-broken in
-    let last = c.refusal in
-    requests_kept (sheet (goal.at.returns c).Start) broken.result.number broken.result.place broken.ensures
-    c.if-broken-ne0.false last.result.number last.result.place last.ensures
+    let s = sheet_in c.args.s.now in
+    chain_goes_on _ _ (c.in_ok-refusal.ensures 7 (request_good s) (omega arith) (λ r l said p. search rules)) _
+    (c.refusal-2.ensures 7 (slot_freed s) (omega arith) (λ r l said p. search rules))

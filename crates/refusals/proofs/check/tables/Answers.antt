@@ -1,50 +1,47 @@
 -- `refusals::check::tables` meets its contract: the first of refusals 5, 6 and 7 that does not accept is the answer, and each
 -- settles what the next one asks. Assumes nothing.
-use Rattle.rules.specs.Sheet.{Sheet, sheet_in}
-use Rattle.rules.specs.Refusal.{ops_refusal}
-use Rattle.refusals.specs.Chain.{boards_settled, ops_settled, tables_5, tables_6, tables_7}
+use Rattle.std.proofs.Common.{arith, rules, Ok, Err}
+use Rattle.rules.specs.Sheet.{sheet_in}
+use Rattle.rules.specs.Refusal.{op_good, boards_refusal, ops_refusal, tables_refusal}
+use Rattle.laws.specs.Tabled.{Tabled, tabled}
+use Rattle.laws.specs.Fields.{Fielded, fielded}
+use Rattle.sheet.specs.Refused.{Refuses, accepts, chain_stops, chain_goes_on}
 use Rattle.refusals.proofs.check.tables.Goals as goal
-use Rattle.refusals.proofs.check.tables.Goals.{Start}
+use Rattle.refusals.proofs.check.tables.Goals.{In_ok-refusal, In_ok-refusal-2}
 
-abbrev sheet : Start → Sheet
-sheet z = sheet_in z.args.s.now
+-- what 5 and 6 have settled
+boards_settled : (c : In_ok-refusal) → Tabled (sheet_in c.args.s.now)
+boards_settled c = tabled _ (accepts _ c.in_ok-refusal.ensures)
 
-pub returns-then-fifth-ne0 : goal.returns-then-fifth-ne0
-returns-then-fifth-ne0 c =
-    let fifth = c.refusal-fifth in
-    tables_5 (sheet (goal.at.returns-then-fifth-ne0 c).Start) fifth.result.number fifth.result.place fifth.ensures c.if-fifth-ne0.true
-
-pub refusal-sixth-requires : goal.refusal-sixth-requires
-refusal-sixth-requires c =
-    let fifth = c.refusal-fifth in
-    let settled = boards_settled (sheet (goal.at.refusal-sixth-requires c).Start) fifth.result.number fifth.result.place fifth.ensures c.if-fifth-ne0.false in
-    (c.requires, settled, settled)
-
-pub returns-then-sixth-ne0 : goal.returns-then-sixth-ne0
+sixth : (c : In_ok-refusal-2) → Refuses (ops_refusal (sheet_in c.args.s.now)) (Ok tt)
 unfolding ops_refusal
-returns-then-sixth-ne0 c =
-    let fifth = c.refusal-fifth in
-    let sixth = c.refusal-sixth in
-    tables_6 (sheet (goal.at.returns-then-sixth-ne0 c).Start) fifth.result.number fifth.result.place fifth.ensures c.if-fifth-ne0.false
-    sixth.result.number sixth.result.place sixth.ensures c.if-sixth-ne0.true
+sixth c = c.in_ok-refusal-2.ensures 6 (op_good (sheet_in c.args.s.now)) (omega arith) (λ r l said p. search rules)
+
+pub returns-in_err-refusal : goal.returns-in_err-refusal
+unfolding tables_refusal
+returns-in_err-refusal c =
+    chain_stops c.from_residual.result c.in_err-refusal.field-0.0 c.from_residual.ensures.1 _ _ c.in_err-refusal.ensures
+
+pub refusal-requires-2 : goal.refusal-requires-2
+refusal-requires-2 c =
+    let settled = boards_settled c in
+    (c.requires, settled, λ r l. search rules)
+
+pub returns-in_err-refusal-2 : goal.returns-in_err-refusal-2
+unfolding tables_refusal ops_refusal
+returns-in_err-refusal-2 c =
+    let s = sheet_in c.args.s.now in
+    let said = c.from_residual-in_err-refusal-2 in
+    chain_goes_on _ _ c.in_ok-refusal.ensures said.result
+    (chain_stops said.result c.in_err-refusal-2.field-0.0 said.ensures.1 _ _
+    (c.in_err-refusal-2.ensures 6 (op_good s) (omega arith) (λ r l said p. search rules)))
 
 pub requests-requires : goal.requests-requires
-unfolding ops_refusal
 requests-requires c =
-    let fifth = c.refusal-fifth in
-    let sixth = c.refusal-sixth in (
-      c.requires,
-      boards_settled (sheet (goal.at.requests-requires c).Start) fifth.result.number fifth.result.place fifth.ensures c.if-fifth-ne0.false,
-      ops_settled (sheet (goal.at.requests-requires c).Start) fifth.result.number fifth.result.place fifth.ensures c.if-fifth-ne0.false
-          sixth.result.number sixth.result.place sixth.ensures c.if-sixth-ne0.false,
-    )
+    (c.requires, boards_settled (goal.at.requests-requires c).In_ok-refusal, fielded _ (accepts _ (sixth (goal.at.requests-requires c).In_ok-refusal-2)))
 
 pub returns : goal.returns
-unfolding ops_refusal
+unfolding tables_refusal
 returns c =
-    let fifth = c.refusal-fifth in
-    let sixth = c.refusal-sixth in
-    let seventh = c.requests in
-    tables_7 (sheet (goal.at.returns c).Start) fifth.result.number fifth.result.place fifth.ensures c.if-fifth-ne0.false
-    sixth.result.number sixth.result.place sixth.ensures c.if-sixth-ne0.false
-    seventh.result.number seventh.result.place seventh.ensures
+    chain_goes_on _ _ c.in_ok-refusal.ensures c.requests.result
+    (chain_goes_on _ _ (sixth (goal.at.returns c).In_ok-refusal-2) c.requests.result c.requests.ensures)
