@@ -1,7 +1,7 @@
 -- Refusal 5 as a walk over the board table: what holds before board r, one board more, and what the walk answers.
 -- Assumes nothing.
-use Rattle.std.specs.Prelude.{◌≡◌, refl, Bool, true, false, not, cond, ℕ, suc, ◌+◌, ◌-◌, ◌*◌, ◌<◌, ◌≤◌, eqb, Result}
-use Rattle.std.proofs.Common.{sym, ◌∙◌, ap, arith, add-one, eq-eqb, ne_eqb, Result}
+use Rattle.std.specs.Prelude.{◌≡◌, refl, true, false, cond, ℕ, suc, ◌+◌, ◌-◌, ◌*◌, ◌<◌, ◌≤◌, eqb, Result}
+use Rattle.std.proofs.Common.{sym, ◌∙◌, ap, arith, add-one, Result}
 use Rattle.rules.specs.Limits.{most_inbox}
 use Rattle.rules.specs.Sheet.{Sheet, board, P_of, N_of, counts_before, inbox_start}
 use Rattle.rules.specs.Refusal.{Refusal, refusal, accepted, or_else, first_broken, board_good, boards_refusal}

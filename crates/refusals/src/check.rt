@@ -1,4 +1,6 @@
 // The body of check: refusals 1 to 7, lowest number first, each over the whole sheet (document 01, "When the desk says no").
+#![tactic(auto, unfolding(rules::specs::Refusal::sheet_refusal, rules::specs::Refusal::tables_refusal, rules::specs::Refusal::ops_refusal, rules::specs::Refusal::requests_refusal, rules::specs::Refusal::or_else, rules::specs::Refusal::refusal, rules::specs::Service::Answers))]
+
 ghost use Rattle.rules.specs.Sheet.{sheet_in};
 ghost use Rattle.rules.specs.Refusal.{requests_refusal, tables_refusal, sheet_refusal};
 ghost use Rattle.laws.specs.Laid.{Laid};
@@ -29,7 +31,6 @@ fn tables(s: &[u8]) -> Result<(), Refusal>
 }
 
 // Any bytes at all are answered.
-#[tactic(auto, unfolding(rules::specs::Refusal::sheet_refusal, rules::specs::Refusal::refusal, rules::specs::Service::Answers))]
 pub fn check(s: &[u8]) -> Result<(), Refusal>
     ensures { Refuses (sheet_refusal s.now) result }
 {

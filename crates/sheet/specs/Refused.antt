@@ -9,8 +9,8 @@
 --   kept_or                   what `ensure` returns
 --   chain_stops, chain_goes_on, accepts   of refusals in their order
 use Rattle.std.specs.Prelude.{◌≡◌, refl, Bool, true, false, cond, ℕ, ◌<◌, ◌≤◌, Result, Ok, Err, MatchResult, IsErrAnd}
-use Rattle.std.proofs.Common.{sym, ap, subst₂, arith}
-use Rattle.rules.specs.Refusal.{Refusal, refusal, accepted, or_else, first_broken}
+use Rattle.std.proofs.Common.{sym, ap, arith}
+use Rattle.rules.specs.Refusal.{Refusal, refusal, accepted, or_else}
 use Rattle.rules.specs.Service.{Answers}
 use Rattle.laws.specs.Answers.{answers_number, or_else_told, or_else_next}
 use Rattle.sheet.specs.declared.Answer.{Answer}
@@ -104,8 +104,3 @@ accepts a t = sym (answers_number a 0 0 t)
 
 pub chain_goes_on : (a b : Refusal) → Refuses a (Ok tt) → (r : Result Unit Refused) → Refuses b r → Refuses (or_else a b) r
 chain_goes_on a b t r u = or_else_next a b 0 0 t refl (number_told r) (place_told r) u
-
--- a search is the same from the same place on, over as many
-pub same_search : (n : ℕ) (f : ℕ → Bool) (r : Result Unit Refused) {left i k j : ℕ} → left ≡ k → i ≡ j
-    → Refuses (first_broken n f left i) r → Refuses (first_broken n f k j) r
-same_search n f r e d t = subst₂ (λ (x y : ℕ). Refuses (first_broken n f x y) r) e d t

@@ -1,11 +1,10 @@
 -- `fields::script_refusal` meets its contract: what the closure tests is the definition's test of an operation. Assumes nothing.
-use Rattle.std.proofs.Common.{arith, rules, ◌≡◌, ◌<◌, cond}
+use Rattle.std.proofs.Common.{arith, sym, rules, ◌≡◌, ◌<◌, cond}
 use Rattle.rules.specs.Sheet.{sheet_in, N_of, op, is_receive}
 use Rattle.rules.specs.Refusal.{op_good, room_for, fields_good}
 use Rattle.laws.specs.Decoded.{comms_decoded}
 use Rattle.laws.specs.Ranks.{rank_in_script}
 use Rattle.laws.specs.Scripts.{script_inside}
-use Rattle.sheet.specs.Refused.{same_search}
 use Rattle.fields.proofs.script_refusal.Goals as goal
 
 pub first_broken-requires : goal.first_broken-requires
@@ -19,9 +18,8 @@ pub returns : goal.returns
 unfolding op_good room_for
 returns c =
     let s = sheet_in c.args.s.now in
-    same_search 6 (op_good s) c.first_broken.result (omega arith) c.first-first.ensures.is
-    (c.first_broken.ensures (op_good s)
+    c.first_broken.ensures (op_good s) _ _ (omega arith) (sym c.first-first.ensures.is)
     (λ i l h b p.
     let room = cond (is_receive (op s i)) c.inbox-inbox.result c.payload-payload.result in
     let told : b ≡ fields_good c.boards-p.result c.comms-comms.result room (op s i) = search rules in
-    cc (comms_decoded c.args.s.now, rank_in_script s c.requires.1.consecutive c.args.r i c.requires.2 (omega arith) (omega arith))))
+    cc (comms_decoded c.args.s.now, rank_in_script s c.requires.1.consecutive c.args.r i c.requires.2 (omega arith) (omega arith)))
