@@ -11,6 +11,7 @@ ghost use Rattle.sheet.specs.Refused.{Refuses};
 mod cover;
 
 use account::Store;
+use cover::{is_covering, is_none_or_covering};
 use refusals::check;
 use sheet::refusal::{Refusal, Rule, first_broken};
 use sheet::{boards, header, ops};
@@ -25,19 +26,9 @@ fn calm(s: &[u8]) -> Result<(), Refusal>
     let p = header::boards(s);
     first_broken(0, n, Rule::AnySource, |i| !ops::is_any_source(s, i))?;
     first_broken(0, n, Rule::ReadySend, |i| !ops::is_ready(s, i))?;
-    first_broken(
-        0,
-        p,
-        Rule::AttachedBuffer,
-        |r| cover::is_covering(s, Store::Attached, r),
-    )?;
+    first_broken(0, p, Rule::Attached, |r| is_covering(s, Store::Attached, r))?;
     first_broken(0, n, Rule::Query, |i| !ops::tells_completion(s, i))?;
-    first_broken(
-        0,
-        p,
-        Rule::StandardRoom,
-        |r| cover::is_none_or_covering(s, r),
-    )
+    first_broken(0, p, Rule::StandardRoom, |r| is_none_or_covering(s, r))
 }
 
 // Any bytes at all are answered.

@@ -17,7 +17,7 @@ use Rattle.sheet.specs.declared.Answer.{Answer}
 use Rattle.sheet.specs.declared.refusal.Refusal.{Refusal as Refused}
 use Rattle.sheet.specs.declared.refusal.Rule.{Rule}
 use Rattle.sheet.specs.declared.refusal.Rule.TheVariants.{Header, Sizes, Layout, Crc, Boards, Fields, Requests, Rooms, Order}
-use Rattle.sheet.specs.declared.refusal.Rule.TheVariants.{AnySource, ReadySend, AttachedBuffer, Query, StandardRoom}
+use Rattle.sheet.specs.declared.refusal.Rule.TheVariants.{AnySource, ReadySend, Attached, Query, StandardRoom}
 
 abbrev pub number_of : Rule → ℕ
 number_of Header = 1
@@ -31,7 +31,7 @@ number_of Rooms = 8
 number_of Order = 9
 number_of AnySource = 20
 number_of ReadySend = 21
-number_of AttachedBuffer = 22
+number_of Attached = 22
 number_of Query = 23
 number_of StandardRoom = 24
 
@@ -69,7 +69,7 @@ refuses Rooms e = absurd (omega arith)
 refuses Order e = absurd (omega arith)
 refuses AnySource e = absurd (omega arith)
 refuses ReadySend e = absurd (omega arith)
-refuses AttachedBuffer e = absurd (omega arith)
+refuses Attached e = absurd (omega arith)
 refuses Query e = absurd (omega arith)
 refuses StandardRoom e = absurd (omega arith)
 

@@ -21,7 +21,7 @@ pub enum Rule {
     Order,
     AnySource,
     ReadySend,
-    AttachedBuffer,
+    Attached,
     Query,
     StandardRoom,
 }
@@ -49,7 +49,7 @@ impl Rule {
             Rule::Order => 9,
             Rule::AnySource => 20,
             Rule::ReadySend => 21,
-            Rule::AttachedBuffer => 22,
+            Rule::Attached => 22,
             Rule::Query => 23,
             Rule::StandardRoom => 24,
         }
