@@ -1,52 +1,40 @@
 // The premise of demand 3: whether the order of steps can matter for a sheet (document 01, "What is pinned down"). Refusals 1 to 7,
 // then numbers 20 to 24, lowest first, each over the whole sheet.
-#![tactic(auto)]
+#![tactic(auto, unfolding(rules::specs::Premise::premise_refusal, rules::specs::Premise::calm_refusal, rules::specs::Premise::any_source_refusal, rules::specs::Premise::ready_refusal, rules::specs::Premise::cover_refusal, rules::specs::Premise::query_refusal, rules::specs::Premise::rooms_refusal, rules::specs::Premise::source_good, rules::specs::Premise::mode_good, rules::specs::Premise::cover_good, account::specs::Stores::stands_for, rules::specs::Premise::query_good, rules::specs::Refusal::or_else, rules::specs::Refusal::refusal, rules::specs::Service::Answers))]
 
 ghost use Rattle.rules.specs.Sheet.{sheet_in};
-ghost use Rattle.rules.specs.Service.{Answers};
-ghost use Rattle.rules.specs.Premise.{calm_refusal, PremiseSays};
+ghost use Rattle.rules.specs.Premise.{calm_refusal, premise_refusal};
 ghost use Rattle.laws.specs.Laid.{Laid};
 ghost use Rattle.laws.specs.Tabled.{Tabled};
+ghost use Rattle.sheet.specs.Refused.{Refuses};
 
 mod cover;
-mod ops;
 
 use account::Store;
-use ops::Rule;
+use cover::{is_covering, is_none_or_covering};
 use refusals::check;
-use sheet::Answer;
+use sheet::refusal::{Refusal, Rule, first_broken};
+use sheet::{boards, header, ops};
 
-// Why a sheet that passes check is not calm: 20 to 24, or number 0 and place 0.
-fn calm(s: &[u8]) -> Answer
+// Why a sheet that passes check is not calm: 20 no receive or probe is from any source; 21 no send is ready; 22 attached buffers cover
+// the sends that are kept there; 23 nothing is queried (document 02, K9); 24 so do standard rooms, or they are 0 and nothing is kept.
+fn calm(s: &[u8]) -> Result<(), Refusal>
     requires { Laid s.now × Tabled (sheet_in s.now) }
-    ensures { Answers (calm_refusal (sheet_in s.now)) result.number result.place }
+    ensures { Refuses (calm_refusal (sheet_in s.now)) result }
 {
-    let source = ops::refusal(s, Rule::Source);
-    if source.number != 0 {
-        return source;
-    }
-    let mode = ops::refusal(s, Rule::Mode);
-    if mode.number != 0 {
-        return mode;
-    }
-    let cover = cover::refusal(s, Store::Attached);
-    if cover.number != 0 {
-        return cover;
-    }
-    let query = ops::refusal(s, Rule::Query);
-    if query.number != 0 {
-        return query;
-    }
-    cover::refusal(s, Store::Room)
+    let n = header::ops(s);
+    let p = header::boards(s);
+    first_broken(0, n, Rule::AnySource, |i| !ops::is_any_source(s, i))?;
+    first_broken(0, n, Rule::ReadySend, |i| !ops::is_ready(s, i))?;
+    first_broken(0, p, Rule::Attached, |r| is_covering(s, Store::Attached, r))?;
+    first_broken(0, n, Rule::Query, |i| !ops::tells_completion(s, i))?;
+    first_broken(0, p, Rule::StandardRoom, |r| is_none_or_covering(s, r))
 }
 
 // Any bytes at all are answered.
-pub fn premise(sheet: &[u8]) -> Answer
-    ensures { PremiseSays sheet.now result.number result.place }
+pub fn premise(sheet: &[u8]) -> Result<(), Refusal>
+    ensures { Refuses (premise_refusal sheet.now) result }
 {
-    let checked = check::check(sheet);
-    if checked.number != 0 {
-        return checked;
-    }
+    check::check(sheet)?;
     calm(sheet)
 }

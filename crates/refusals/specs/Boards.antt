@@ -1,13 +1,16 @@
 -- Refusal 5 as a walk over the board table: what holds before board r, one board more, and what the walk answers.
 -- Assumes nothing.
-use Rattle.std.specs.Prelude.{◌≡◌, refl, Bool, true, false, not, cond, ℕ, suc, ◌+◌, ◌-◌, ◌*◌, ◌<◌, ◌≤◌, eqb}
-use Rattle.std.proofs.Common.{sym, ◌∙◌, ap, arith, add-one, eq-eqb, ne_eqb}
+use Rattle.std.specs.Prelude.{◌≡◌, refl, true, false, cond, ℕ, suc, ◌+◌, ◌-◌, ◌*◌, ◌<◌, ◌≤◌, eqb, Result}
+use Rattle.std.proofs.Common.{sym, ◌∙◌, ap, arith, add-one, Result}
 use Rattle.rules.specs.Limits.{most_inbox}
 use Rattle.rules.specs.Sheet.{Sheet, board, P_of, N_of, counts_before, inbox_start}
 use Rattle.rules.specs.Refusal.{Refusal, refusal, accepted, or_else, first_broken, board_good, boards_refusal}
 use Rattle.rules.specs.Service.{Answers}
-use Rattle.laws.specs.Answers.{told_is}
-use Rattle.laws.specs.Broken.{or_else_passed, or_else_stopped, rule_kept, rule_broken, broken_more, broken_here, broken_none}
+use Rattle.sheet.specs.declared.refusal.Refusal.{Refusal as Refused}
+use Rattle.sheet.specs.declared.refusal.Rule.TheVariants.{Boards}
+use Rattle.sheet.specs.Refused.{number_told, place_told, Refuses, KeptOr, kept_or}
+use Rattle.laws.specs.Answers.{told_is, told_same}
+use Rattle.laws.specs.Broken.{or_else_passed, or_else_stopped, broken_more, broken_here, broken_none}
 use Rattle.laws.specs.Tabled.{board_entry}
 use Rattle.laws.specs.Ranks.{counts_more, inbox_start_more, counts_none, inbox_start_none}
 
@@ -40,52 +43,46 @@ walked_none s =
     }
 
 module _ {s : Sheet} {r sum total : ℕ} (w : Walked s r sum total) where
-  module _ (l : r < P_of s) {good : Bool} (told : good ≡ board_good s r) where
+  module _ (l : r < P_of s) where
+    -- the inboxes up to board r
+    pub walked_inboxes : (inbox : ℕ) → inbox ≡ (board s r).inbox → total + inbox ≡ inbox_start s (suc r)
+    walked_inboxes inbox e = let starts = inbox_start_more s r l in omega (arith, w.total_is)
+
     -- a good entry: the walk goes on, with the board's count and inbox added
-    pub walked_more : not good ≡ false → (count t : ℕ) → count ≡ (board s r).count → count < 65536 → t ≡ total + (board s r).inbox
-        → Walked s (r + 1) (sum + count) t
-    walked_more h count t ec lc et =
+    pub walked_more : board_good s r ≡ true → (count inbox : ℕ) → count ≡ (board s r).count → count < 65536 → inbox ≡ (board s r).inbox
+        → Walked s (r + 1) (sum + count) (total + inbox)
+    walked_more good count inbox ec lc ei =
         let counts = counts_more s r l in
-        let starts = inbox_start_more s r l in
+        let starts = walked_inboxes inbox ei in
         let next : r + 1 ≡ suc r = add-one r in
-        let fits = (board_entry s r (rule_kept told h)).inbox in
-        let on = broken_more 5 (board_good s) (P_of s - r) r (omega arith) (rule_kept told h) in
+        let fits = (board_entry s r good).inbox in
+        let on = broken_more 5 (board_good s) (P_of s - r) r (omega arith) good in
         let rest : entries_broken s r ≡ entries_broken s (r + 1) = on ∙ ap (λ (n : ℕ). first_broken 5 (board_good s) n (r + 1)) (omega arith) in
         record {
           within = omega arith;
           sum_is = rw next (omega (arith, w.sum_is));
-          total_is = rw next (omega (arith, w.total_is));
+          total_is = rw next starts;
           small = omega (arith, w.small);
-          fits = omega (arith, w.total_is);
+          fits = omega arith;
           left = w.left ∙ ap (λ (f : Refusal). or_else f (total_broken s)) rest;
         }
 
     -- a bad entry is the answer
-    pub walked_bad : not good ≡ true → Answers (boards_refusal s) 5 r
+    pub walked_bad : board_good s r ≡ false → Answers (boards_refusal s) 5 r
     unfolding refusal
-    walked_bad h =
-        let here : entries_broken s r ≡ refusal 5 r = broken_here 5 (board_good s) (P_of s - r) r (omega arith) (rule_broken told h) in
+    walked_bad bad =
+        let here : entries_broken s r ≡ refusal 5 r = broken_here 5 (board_good s) (P_of s - r) r (omega arith) bad in
         told_is (boards_refusal s) 5 r
         (w.left ∙ (ap (λ (f : Refusal). or_else f (total_broken s)) here ∙ or_else_stopped (refusal 5 r) (total_broken s) (λ z. absurd (omega arith))))
 
   -- behind the last board: the total of the counts decides
-  module _ (last : P_of s ≤ r) where
-    counted : sum ≡ counts_before s (P_of s)
-    counted = w.sum_is ∙ ap (λ (n : ℕ). counts_before s n) (omega (arith, w.within))
-
-    behind : boards_refusal s ≡ total_broken s
-    unfolding refusal
-    behind =
-        w.left
-        ∙ (ap (λ (f : Refusal). or_else f (total_broken s)) (broken_none 5 (board_good s) (P_of s - r) r (omega arith))
-        ∙ or_else_passed accepted (total_broken s) refl)
-
-    pub walked_total : sum ≡ N_of s → Answers (boards_refusal s) 0 0
-    walked_total e =
-        let test = eq-eqb (counts_before s (P_of s)) (N_of s) (sym counted ∙ e) in
-        told_is (boards_refusal s) 0 0 (behind ∙ rw test)
-
-    pub walked_short : (sum ≡ N_of s → ⊥) → (p : ℕ) → p ≡ P_of s → Answers (boards_refusal s) 5 p
-    walked_short e p is =
-        let test = ne_eqb (counts_before s (P_of s)) (N_of s) (λ d. e (counted ∙ d)) in
-        told_is (boards_refusal s) 5 p (behind ∙ rw (test, is))
+  pub walked_all : P_of s ≤ r → (n p : ℕ) (said : Result Unit Refused) → n ≡ N_of s → p ≡ P_of s → KeptOr (eqb sum n) Boards p said
+      → Refuses (boards_refusal s) said
+  unfolding refusal
+  walked_all last n p said en ep k =
+      let counted : sum ≡ counts_before s (P_of s) = w.sum_is ∙ ap (λ (m : ℕ). counts_before s m) (omega (arith, w.within)) in
+      let total : total_broken s ≡ cond (eqb sum n) accepted (refusal 5 p) = rw (counted, en, ep) refl in
+      let behind = w.left
+      ∙ (ap (λ (f : Refusal). or_else f (total_broken s)) (broken_none 5 (board_good s) (P_of s - r) r (omega arith))
+      ∙ (or_else_passed accepted (total_broken s) refl ∙ total)) in
+      told_same (boards_refusal s) _ (number_told said) (place_told said) behind (kept_or (eqb sum n) Boards p said k)

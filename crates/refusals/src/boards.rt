@@ -1,43 +1,38 @@
 // Refusal 5: board entries (document 01, "The sheet, byte by byte"; their rooms: document 02, K6).
-ghost use Rattle.rules.specs.Sheet.{sheet_in};
-ghost use Rattle.rules.specs.Refusal.{boards_refusal};
-ghost use Rattle.rules.specs.Service.{Answers};
+ghost use Rattle.std.specs.Prelude.{◌≡◌, ◌<◌, suc};
+ghost use Rattle.rules.specs.Sheet.{sheet_in, P_of, counts_before, inbox_start};
+ghost use Rattle.rules.specs.Refusal.{board_good, boards_refusal};
 ghost use Rattle.laws.specs.Laid.{Laid};
+ghost use Rattle.sheet.specs.Refused.{Refuses};
 
-use sheet::{Answer, boards, header};
+use sheet::refusal::{Refusal, Rule, ensure};
+use sheet::{boards, header};
+
+// Board r's entry is good, with the counts of the boards before it and the inboxes up to it.
+#[tactic(auto, unfolding(rules::specs::Refusal::board_good))]
+fn entry_is_good(s: &[u8], r: usize, counted: usize, total: usize) -> bool
+    requires { Laid s.now × (r < P_of (sheet_in s.now)) × (counted ≡ counts_before (sheet_in s.now) r)
+        × (total ≡ inbox_start (sheet_in s.now) (suc r)) }
+    ensures { result ≡ board_good (sheet_in s.now) r }
+{
+    boards::first(s, r) == counted
+        && boards::attached(s, r) <= limits::MOST_ATTACHED
+        && total <= limits::MOST_INBOX
+        && boards::room(s, r) <= limits::MOST_ROOM
+}
 
 // Refusal 5: the first bad entry; where all are good, P if the counts don't total N.
-pub fn refusal(s: &[u8]) -> Answer
+pub fn refusal(s: &[u8]) -> Result<(), Refusal>
     requires { Laid s.now }
-    ensures { Answers (boards_refusal (sheet_in s.now)) result.number result.place }
+    ensures { Refuses (boards_refusal (sheet_in s.now)) result }
 {
     let p = header::boards(s);
-    let mut sum: usize = 0;
-    let mut total: usize = 0;
-    let mut r = 0;
-    while r < p {
+    let mut counted = 0;
+    let mut total = 0;
+    for r in 0..p {
         total += boards::inbox(s, r);
-        if !((boards::first(s, r) == sum)
-            & (((boards::attached(s, r) <= limits::MOST_ATTACHED) & (total <= limits::MOST_INBOX))
-                & (boards::room(s, r) <= limits::MOST_ROOM)))
-        {
-            return Answer {
-                number: 5,
-                place: r as u64,
-            };
-        }
-        sum += boards::count(s, r);
-        r += 1;
+        ensure(entry_is_good(s, r, counted, total), Rule::Boards, r)?;
+        counted += boards::count(s, r);
     }
-    if sum == header::ops(s) {
-        Answer {
-            number: 0,
-            place: 0,
-        }
-    } else {
-        Answer {
-            number: 5,
-            place: p as u64,
-        }
-    }
+    ensure(counted == header::ops(s), Rule::Boards, p)
 }

@@ -1,70 +1,42 @@
 // The body of check: refusals 1 to 7, lowest number first, each over the whole sheet (document 01, "When the desk says no").
+#![tactic(auto, unfolding(rules::specs::Refusal::sheet_refusal, rules::specs::Refusal::tables_refusal, rules::specs::Refusal::ops_refusal, rules::specs::Refusal::requests_refusal, rules::specs::Refusal::or_else, rules::specs::Refusal::refusal, rules::specs::Service::Answers))]
+
 ghost use Rattle.rules.specs.Sheet.{sheet_in};
-ghost use Rattle.rules.specs.Refusal.{requests_refusal, tables_refusal};
-ghost use Rattle.rules.specs.Service.{Answers, CheckSays};
+ghost use Rattle.rules.specs.Refusal.{requests_refusal, tables_refusal, sheet_refusal};
 ghost use Rattle.laws.specs.Laid.{Laid};
 ghost use Rattle.laws.specs.Tabled.{Tabled};
 ghost use Rattle.laws.specs.Fields.{Fielded};
+ghost use Rattle.sheet.specs.Refused.{Refuses};
 
-use crate::scripts::Rule;
 use crate::{boards, header, scripts};
-use sheet::Answer;
+use sheet::refusal::{Refusal, Rule, ensure};
 
 // Refusal 7: the rules of slots and areas over the whole sheet, and behind them forgotten requests (document 02, K7).
-fn requests(s: &[u8]) -> Answer
+fn requests(s: &[u8]) -> Result<(), Refusal>
     requires { Laid s.now × Tabled (sheet_in s.now) × Fielded (sheet_in s.now) }
-    ensures { Answers (requests_refusal (sheet_in s.now)) result.number result.place }
+    ensures { Refuses (requests_refusal (sheet_in s.now)) result }
 {
-    let broken = scripts::refusal(s, Rule::Requests);
-    if broken.number != 0 {
-        return broken;
-    }
-    scripts::refusal(s, Rule::Freed)
+    scripts::refusal(s, |r| requests::script_refusal(s, r))?;
+    scripts::refusal(s, |r| requests::forgotten::script_refusal(s, r))
 }
 
 // Refusals 5 to 7 of a sheet whose tables are in place.
-fn tables(s: &[u8]) -> Answer
+fn tables(s: &[u8]) -> Result<(), Refusal>
     requires { Laid s.now }
-    ensures { Answers (tables_refusal (sheet_in s.now)) result.number result.place }
+    ensures { Refuses (tables_refusal (sheet_in s.now)) result }
 {
-    let fifth = boards::refusal(s);
-    if fifth.number != 0 {
-        return fifth;
-    }
-    let sixth = scripts::refusal(s, Rule::Fields);
-    if sixth.number != 0 {
-        return sixth;
-    }
+    boards::refusal(s)?;
+    scripts::refusal(s, |r| fields::script_refusal(s, r))?;
     requests(s)
 }
 
 // Any bytes at all are answered.
-pub fn check(s: &[u8]) -> Answer
-    ensures { CheckSays s.now result.number result.place }
+pub fn check(s: &[u8]) -> Result<(), Refusal>
+    ensures { Refuses (sheet_refusal s.now) result }
 {
-    if s.len() < limits::HEADER_SIZE {
-        return Answer {
-            number: 1,
-            place: 0,
-        };
-    }
-    if !header::sizes_are_good(s) {
-        return Answer {
-            number: 2,
-            place: 0,
-        };
-    }
-    if !header::layout_is_good(s) {
-        return Answer {
-            number: 3,
-            place: 0,
-        };
-    }
-    if !header::crc_is_good(s) {
-        return Answer {
-            number: 4,
-            place: 0,
-        };
-    }
+    ensure(limits::HEADER_SIZE <= s.len(), Rule::Header, 0)?;
+    ensure(header::sizes_are_good(s), Rule::Sizes, 0)?;
+    ensure(header::layout_is_good(s), Rule::Layout, 0)?;
+    ensure(header::crc_is_good(s), Rule::Crc, 0)?;
     tables(s)
 }

@@ -6,17 +6,18 @@
 --   KeptOr                    a rule is kept, or the result is its refusal
 --   Tests                     what a closure answers of an index, from one to before another, is a rule's test of it
 --   passed_on, told_by        what `?` passes on
+--   kept_or                   what `ensure` returns
 --   chain_stops, chain_goes_on, accepts   of refusals in their order
-use Rattle.std.specs.Prelude.{◌≡◌, refl, Bool, true, false, ℕ, ◌<◌, ◌≤◌, Result, Ok, Err, MatchResult, IsErrAnd}
-use Rattle.std.proofs.Common.{sym, subst₂, arith}
-use Rattle.rules.specs.Refusal.{Refusal, or_else, first_broken}
+use Rattle.std.specs.Prelude.{◌≡◌, refl, Bool, true, false, cond, ℕ, ◌<◌, ◌≤◌, Result, Ok, Err, MatchResult, IsErrAnd}
+use Rattle.std.proofs.Common.{sym, ap, arith}
+use Rattle.rules.specs.Refusal.{Refusal, refusal, accepted, or_else}
 use Rattle.rules.specs.Service.{Answers}
 use Rattle.laws.specs.Answers.{answers_number, or_else_told, or_else_next}
 use Rattle.sheet.specs.declared.Answer.{Answer}
 use Rattle.sheet.specs.declared.refusal.Refusal.{Refusal as Refused}
 use Rattle.sheet.specs.declared.refusal.Rule.{Rule}
 use Rattle.sheet.specs.declared.refusal.Rule.TheVariants.{Header, Sizes, Layout, Crc, Boards, Fields, Requests, Rooms, Order}
-use Rattle.sheet.specs.declared.refusal.Rule.TheVariants.{AnySource, ReadySend, AttachedBuffer, Query, StandardRoom}
+use Rattle.sheet.specs.declared.refusal.Rule.TheVariants.{AnySource, ReadySend, Attached, Query, StandardRoom}
 
 abbrev pub number_of : Rule → ℕ
 number_of Header = 1
@@ -30,7 +31,7 @@ number_of Rooms = 8
 number_of Order = 9
 number_of AnySource = 20
 number_of ReadySend = 21
-number_of AttachedBuffer = 22
+number_of Attached = 22
 number_of Query = 23
 number_of StandardRoom = 24
 
@@ -68,7 +69,7 @@ refuses Rooms e = absurd (omega arith)
 refuses Order e = absurd (omega arith)
 refuses AnySource e = absurd (omega arith)
 refuses ReadySend e = absurd (omega arith)
-refuses AttachedBuffer e = absurd (omega arith)
+refuses Attached e = absurd (omega arith)
 refuses Query e = absurd (omega arith)
 refuses StandardRoom e = absurd (omega arith)
 
@@ -90,15 +91,16 @@ module _ (r : Result Unit Refused) (e : Refused) (passed : IsErrAnd r (λ y. y �
   pub chain_stops : (a b : Refusal) → Refuses a (Err e) → Refuses (or_else a b) r
   chain_stops a b t = passed_on (or_else a b) (or_else_told a b (number_of e.rule) e.place t (refuses e.rule))
 
+-- what `ensure` returns is the refusal of its test
+pub kept_or : (kept : Bool) (rule : Rule) (place : ℕ) (r : Result Unit Refused) → KeptOr kept rule place r
+    → Refuses (cond kept accepted (refusal (number_of rule) place)) r
+unfolding Answers refusal
+kept_or kept rule place (Ok u) k = rw k (refl, refl)
+kept_or kept rule place (Err e) k = rw k.0 (ap number_of k.1, k.2)
+
 -- behind one that accepts, the chain is what is left of it
-module _ (a b : Refusal) (accepted : Refuses a (Ok tt)) where
-  pub accepts : a.number ≡ 0
-  accepts = sym (answers_number a 0 0 accepted)
+pub accepts : (a : Refusal) → Refuses a (Ok tt) → a.number ≡ 0
+accepts a t = sym (answers_number a 0 0 t)
 
-  pub chain_goes_on : (r : Result Unit Refused) → Refuses b r → Refuses (or_else a b) r
-  chain_goes_on r t = or_else_next a b 0 0 accepted refl (number_told r) (place_told r) t
-
--- a search is the same from the same place on, over as many
-pub same_search : (n : ℕ) (f : ℕ → Bool) (r : Result Unit Refused) {left i k j : ℕ} → left ≡ k → i ≡ j
-    → Refuses (first_broken n f left i) r → Refuses (first_broken n f k j) r
-same_search n f r e d t = subst₂ (λ (x y : ℕ). Refuses (first_broken n f x y) r) e d t
+pub chain_goes_on : (a b : Refusal) → Refuses a (Ok tt) → (r : Result Unit Refused) → Refuses b r → Refuses (or_else a b) r
+chain_goes_on a b t r u = or_else_next a b 0 0 t refl (number_told r) (place_told r) u

@@ -21,7 +21,7 @@ pub enum Rule {
     Order,
     AnySource,
     ReadySend,
-    AttachedBuffer,
+    Attached,
     Query,
     StandardRoom,
 }
@@ -49,7 +49,7 @@ impl Rule {
             Rule::Order => 9,
             Rule::AnySource => 20,
             Rule::ReadySend => 21,
-            Rule::AttachedBuffer => 22,
+            Rule::Attached => 22,
             Rule::Query => 23,
             Rule::StandardRoom => 24,
         }
@@ -92,8 +92,8 @@ pub fn first_broken<F: Fn(usize) -> bool>(
     keeps: F,
 ) -> Result<(), Refusal>
     requires { (i : ℕ) → from ≤ i → i < end → F.pre keeps i }
-    ensures { (f : ℕ → Bool) → Tests (F.post keeps) from end f
-        → Refuses (first_broken (number_of rule) f (end - from) from) result }
+    ensures { (f : ℕ → Bool) (left i : ℕ) → left ≡ end - from → i ≡ from → Tests (F.post keeps) from end f
+        → Refuses (first_broken (number_of rule) f left i) result }
 {
     for i in from..end {
         ensure(keeps(i), rule, i)?;

@@ -4,7 +4,6 @@ use Rattle.rules.specs.Sheet.{sheet_in, N_of, P_of, op, board, rank_of, is_recei
 use Rattle.rules.specs.Refusal.{op_good, room_for, fields_good}
 use Rattle.laws.specs.Ranks.{rank_in_script}
 use Rattle.laws.specs.Scripts.{script_inside}
-use Rattle.sheet.specs.Refused.{same_search}
 use Rattle.fields.proofs.script_refusal.Goals as goal
 
 pub first_broken-requires : goal.first_broken-requires
@@ -18,8 +17,7 @@ pub returns : goal.returns
 unfolding op_good room_for
 returns c =
     let s = sheet_in c.args.s.now in
-    same_search 6 (op_good s) c.first_broken.result (omega arith) c.first-first.ensures.is
-    (c.first_broken.ensures (op_good s)
+    c.first_broken.ensures (op_good s) _ _ (omega arith) (sym c.first-first.ensures.is)
     (λ i l h b p.
     let o = op s i in
     let room = cond (is_receive o) c.inbox-inbox.result c.payload-payload.result in

@@ -1,12 +1,10 @@
--- `premise::cover::charges` meets its contract. The loop's invariant: sum is the charges of the script before operation i. The
--- measure is how many operations of the script are left. Assumes nothing.
+-- `premise::cover::charges` meets its contract: each operation adds what it would be charged. Assumes nothing.
 use Rattle.std.proofs.Common.{arith}
 use Rattle.premise.specs.Charges.{summed_none, summed_more, summed_all}
 use Rattle.premise.proofs.cover.charges.Goals as goal
 
 pub loop-i-init : goal.loop-i-init
-loop-i-init c =
-    summed_none c.requires.1 c.requires.2 c.first-i.ensures.is (omega arith)
+loop-i-init c = summed_none c.requires.1 c.requires.2 c.first-first.ensures.is (omega arith)
 
 pub loop-i-preserved : goal.loop-i-preserved
 loop-i-preserved c =

@@ -1,59 +1,31 @@
--- `refusals::boards::refusal` meets its contract. The loop's invariant: the walk has come to board r with its two sums, and has
--- refused nothing. The measure is how many boards are left. Assumes nothing.
-use Rattle.std.proofs.Common.{ap, arith, eqb, leb, not, ℕ, ◌&&◌, ◌+◌, ◌≡◌}
-use Rattle.rules.specs.Limits.{most_attached, most_inbox, most_room}
-use Rattle.rules.specs.Sheet.{Sheet, sheet_in}
-use Rattle.rules.specs.Refusal.{board_good}
-use Rattle.laws.specs.Ranks.{inbox_start_more}
-use Rattle.refusals.specs.Boards.{walked_none, walked_more, walked_bad, walked_total, walked_short}
+-- `refusals::boards::refusal` meets its contract: each board's entry is tested as the definition does, and behind the last the counts
+-- decide. Assumes nothing.
+use Rattle.std.proofs.Common.{arith, sym, ◌∙◌}
+use Rattle.rules.specs.Sheet.{sheet_in}
+use Rattle.sheet.specs.Refused.{told_by}
+use Rattle.sheet.specs.declared.refusal.Rule.TheVariants.{Boards}
+use Rattle.refusals.specs.Boards.{walked_none, walked_inboxes, walked_more, walked_bad, walked_all}
 use Rattle.refusals.proofs.boards.refusal.Goals as goal
-use Rattle.refusals.proofs.boards.refusal.Goals.{After-room}
 
 pub loop-r-init : goal.loop-r-init
 loop-r-init c = walked_none (sheet_in c.args.s.now)
 
--- the entry that was read: its test is the definition's
-module _ (c : After-room) where
-  abbrev s : Sheet
-  s = sheet_in c.args.s.now
+pub entry_is_good-requires : goal.entry_is_good-requires
+entry_is_good-requires c =
+    let w = c.loop-r.invariant in
+    (c.requires, omega arith, w.sum_is, walked_inboxes w (omega arith) _ c.inbox-total.ensures.is)
 
-  abbrev sum : ℕ
-  sum = c.loop-r.sum
-
-  abbrev total_now : ℕ
-  total_now = c.loop-r.total + c.inbox-total.result
-
-  tested : (eqb c.first.result sum
-      && ((leb c.attached.result most_attached && leb total_now most_inbox) && leb c.room.result most_room))
-      ≡ board_good s c.loop-r.r
-  unfolding board_good
-  tested = cc (inbox_start_more s c.loop-r.r (omega arith))
-
-pub returns-then-not-first-sum : goal.returns-then-not-first-sum
-returns-then-not-first-sum c = walked_bad c.loop-r.invariant (omega arith) (tested (goal.at.returns-then-not-first-sum c).After-room) (ap not c.if-not-first-sum.true)
+pub returns-in_err-ensure : goal.returns-in_err-ensure
+returns-in_err-ensure c =
+    told_by c.from_residual.result c.in_err-ensure.field-0.0 c.from_residual.ensures.1 _ Boards c.loop-r.r c.in_err-ensure.ensures
+    (walked_bad c.loop-r.invariant (omega arith) (sym c.entry_is_good.ensures ∙ c.in_err-ensure.ensures.0))
 
 pub loop-r-preserved : goal.loop-r-preserved
 loop-r-preserved c =
-    walked_more c.loop-r.invariant (omega arith) (tested (goal.at.loop-r-preserved c).After-room) (ap not c.if-not-first-sum.false) c.count-sum.result (total_now (goal.at.loop-r-preserved c).After-room)
-    c.count-sum.ensures.is c.count-sum.ensures.small
-    (ap (λ (n : ℕ). c.loop-r.total + n) c.inbox-total.ensures.is)
+    let count = c.count-counted in
+    let inbox = c.inbox-total in
+    walked_more c.loop-r.invariant (omega arith) (sym c.entry_is_good.ensures ∙ c.in_ok-ensure.ensures)
+    count.result inbox.result count.ensures.is count.ensures.small inbox.ensures.is
 
-pub returns-then-sum-ops : goal.returns-then-sum-ops
-returns-then-sum-ops c = walked_total c.loop-r.invariant (omega arith) (omega arith)
-
-pub returns-else-sum-ops : goal.returns-else-sum-ops
-returns-else-sum-ops c =
-    walked_short c.loop-r.invariant (omega arith) (λ e. c.if-sum-ops.false (omega arith))
-    c.boards-p.result (omega arith)
-
-pub overflow_add-total : goal.overflow_add-total
-overflow_add-total c = omega arith
-
-pub overflow_add-sum : goal.overflow_add-sum
-overflow_add-sum c = omega arith
-
-pub overflow_add-r : goal.overflow_add-r
-overflow_add-r c = omega arith
-
-pub loop-r-smaller : goal.loop-r-smaller
-loop-r-smaller c = omega arith
+pub returns : goal.returns
+returns c = walked_all c.loop-r.invariant (omega arith) c.ops.result c.boards-p.result _ (omega arith) (omega arith) c.ensure-2.ensures

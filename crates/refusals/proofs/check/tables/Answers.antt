@@ -1,50 +1,24 @@
--- `refusals::check::tables` meets its contract: the first of refusals 5, 6 and 7 that does not accept is the answer, and each
--- settles what the next one asks. Assumes nothing.
-use Rattle.rules.specs.Sheet.{Sheet, sheet_in}
-use Rattle.rules.specs.Refusal.{ops_refusal}
-use Rattle.refusals.specs.Chain.{boards_settled, ops_settled, tables_5, tables_6, tables_7}
+-- `refusals::check::tables` meets its contract: each refusal that accepts settles what the next one asks. Assumes nothing.
+use Rattle.std.proofs.Common.{arith, rules, Ok}
+use Rattle.rules.specs.Sheet.{sheet_in}
+use Rattle.rules.specs.Refusal.{op_good, ops_refusal}
+use Rattle.laws.specs.Tabled.{Tabled, tabled}
+use Rattle.laws.specs.Fields.{fielded}
+use Rattle.sheet.specs.Refused.{Refuses, accepts}
 use Rattle.refusals.proofs.check.tables.Goals as goal
-use Rattle.refusals.proofs.check.tables.Goals.{Start}
+use Rattle.refusals.proofs.check.tables.Goals.{In_ok-refusal}
 
-abbrev sheet : Start → Sheet
-sheet z = sheet_in z.args.s.now
+boards_settled : (c : In_ok-refusal) → Tabled (sheet_in c.args.s.now)
+boards_settled c = tabled _ (accepts _ c.in_ok-refusal.ensures)
 
-pub returns-then-fifth-ne0 : goal.returns-then-fifth-ne0
-returns-then-fifth-ne0 c =
-    let fifth = c.refusal-fifth in
-    tables_5 (sheet (goal.at.returns-then-fifth-ne0 c).Start) fifth.result.number fifth.result.place fifth.ensures c.if-fifth-ne0.true
-
-pub refusal-sixth-requires : goal.refusal-sixth-requires
-refusal-sixth-requires c =
-    let fifth = c.refusal-fifth in
-    let settled = boards_settled (sheet (goal.at.refusal-sixth-requires c).Start) fifth.result.number fifth.result.place fifth.ensures c.if-fifth-ne0.false in
-    (c.requires, settled, settled)
-
-pub returns-then-sixth-ne0 : goal.returns-then-sixth-ne0
-unfolding ops_refusal
-returns-then-sixth-ne0 c =
-    let fifth = c.refusal-fifth in
-    let sixth = c.refusal-sixth in
-    tables_6 (sheet (goal.at.returns-then-sixth-ne0 c).Start) fifth.result.number fifth.result.place fifth.ensures c.if-fifth-ne0.false
-    sixth.result.number sixth.result.place sixth.ensures c.if-sixth-ne0.true
+pub refusal-requires-2 : goal.refusal-requires-2
+refusal-requires-2 c =
+    let settled = boards_settled c in
+    (c.requires, settled, λ r l. search rules)
 
 pub requests-requires : goal.requests-requires
 unfolding ops_refusal
 requests-requires c =
-    let fifth = c.refusal-fifth in
-    let sixth = c.refusal-sixth in (
-      c.requires,
-      boards_settled (sheet (goal.at.requests-requires c).Start) fifth.result.number fifth.result.place fifth.ensures c.if-fifth-ne0.false,
-      ops_settled (sheet (goal.at.requests-requires c).Start) fifth.result.number fifth.result.place fifth.ensures c.if-fifth-ne0.false
-          sixth.result.number sixth.result.place sixth.ensures c.if-sixth-ne0.false,
-    )
-
-pub returns : goal.returns
-unfolding ops_refusal
-returns c =
-    let fifth = c.refusal-fifth in
-    let sixth = c.refusal-sixth in
-    let seventh = c.requests in
-    tables_7 (sheet (goal.at.returns c).Start) fifth.result.number fifth.result.place fifth.ensures c.if-fifth-ne0.false
-    sixth.result.number sixth.result.place sixth.ensures c.if-sixth-ne0.false
-    seventh.result.number seventh.result.place seventh.ensures
+    let s = sheet_in c.args.s.now in
+    let sixth : Refuses (ops_refusal s) (Ok tt) = c.in_ok-refusal-2.ensures 6 (op_good s) (omega arith) (λ r l said p. search rules) in
+    (c.requires, boards_settled (goal.at.requests-requires c).In_ok-refusal, fielded s (accepts _ sixth))

@@ -1,28 +1,24 @@
--- `refusals::scripts::refusal` meets its contract. The loop's invariant: nothing is refused before the script of board r. The
--- measure is how many boards are left. Assumes nothing.
-use Rattle.std.proofs.Common.{arith}
+-- `refusals::scripts::refusal` meets its contract: what the closure answered of board r is the script's refusal. Assumes nothing.
+use Rattle.std.proofs.Common.{arith, refl, Err, Ok}
 use Rattle.laws.specs.Scripts.{passed_none, passed_more, passed_bad, passed_all}
-use Rattle.refusals.specs.Rules.{refuses}
+use Rattle.sheet.specs.Refused.{number_of, refuses, passed_on}
 use Rattle.refusals.proofs.scripts.refusal.Goals as goal
 
 pub loop-r-init : goal.loop-r-init
-loop-r-init c = passed_none c.requires.1 (refuses c.args.rule)
+loop-r-init g c = λ n f h t. passed_none c.requires.1 h
 
-pub returns-then-a-ne0 : goal.returns-then-a-ne0
-returns-then-a-ne0 c =
-    let a = c.script_refusal-a in
-    passed_bad c.loop-r.invariant a.result.number a.result.place (omega arith) a.ensures c.if-a-ne0.true
+pub returns-in_err-in_script : goal.returns-in_err-in_script
+returns-in_err-in_script g c =
+    λ n f h t.
+    let e = c.in_err-in_script.field-0.0 in
+    let told = t c.loop-r.r (omega arith) (Err e) c.in_err-in_script.ensures in
+    passed_on c.from_residual.result e c.from_residual.ensures.1 _
+    (passed_bad (c.loop-r.invariant n f h t) (number_of e.rule) e.place (omega arith) told (refuses e.rule))
 
 pub loop-r-preserved : goal.loop-r-preserved
-loop-r-preserved c =
-    let a = c.script_refusal-a in
-    passed_more c.loop-r.invariant a.result.number a.result.place (omega arith) a.ensures c.if-a-ne0.false
+loop-r-preserved g c =
+    λ n f h t.
+    passed_more (c.loop-r.invariant n f h t) 0 0 (omega arith) (t c.loop-r.r (omega arith) (Ok tt) c.in_ok-in_script.ensures) refl
 
 pub returns : goal.returns
-returns c = passed_all c.loop-r.invariant (omega arith)
-
-pub overflow_add-r : goal.overflow_add-r
-overflow_add-r c = omega arith
-
-pub loop-r-smaller : goal.loop-r-smaller
-loop-r-smaller c = omega arith
+returns g c = λ n f h t. passed_all (c.loop-r.invariant n f h t) (omega arith)
