@@ -27,4 +27,4 @@ returns c =
     ∙ (ap (λ (p : ℕ). fields_good p c.comms-comms.result room o) c.boards-p.ensures.is
     ∙ (ap (λ (m : ℕ). fields_good (P_of s) m room o) c.comms-comms.ensures.is
     ∙ ap (λ (k : ℕ). fields_good (P_of s) s.comms k o)
-    (ap₂ (λ (m k : ℕ). cond (is_receive o) m k) (c.inbox-inbox.ensures.is ∙ ap (λ (q : ℕ). (board s q).inbox) (sym rank)) c.payload-payload.ensures.is)))))
+    (ap₂ (λ (m k : ℕ). cond (is_receive o) m k) (c.inbox-inbox.ensures.is ∙ ap (λ (q : ℕ). (board s q).inbox) (sym rank)) c.payload-payload.ensures.is))))
