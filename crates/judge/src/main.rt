@@ -17,13 +17,12 @@ const MOST_INPUT: usize = limits::MOST_SHEET + 1;
 fn main(rt: HostRuntime) {
     let mut room = rooms::input();
     let mut from = rt.stdin();
-    let got = input::read_input(&mut from, &mut room);
-    let size = got.size;
-    if got.failed {
-        let _ = rt.stderr().write_all(b"standard input could not be read\n");
-        return;
+    match input::read_input(&mut from, &mut room) {
+        Ok(size) => judge(&rt, &room[..size]),
+        Err(_) => {
+            let _ = rt.stderr().write_all(b"standard input could not be read\n");
+        }
     }
-    judge(&rt, &room[..size]);
 }
 
 // Prints the report or the refusal, and tells of it once that is out.
