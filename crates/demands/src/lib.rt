@@ -42,10 +42,7 @@ pub fn check_and_follow(
 {
     let first = jamturret_check(sheet);
     let second = jamturret_follow(sheet, order, inbox, report, scratch);
-    Answers {
-        first: first,
-        second: second,
-    }
+    Answers { first, second }
 }
 
 // RUN a sheet: one call.
@@ -82,10 +79,7 @@ pub fn follow_two(
 {
     let first = jamturret_follow(sheet1, order1, inbox1, report1, scratch);
     let second = jamturret_follow(sheet2, order2, inbox2, report2, scratch);
-    Answers {
-        first: first,
-        second: second,
-    }
+    Answers { first, second }
 }
 
 // FOLLOW a sheet with an order, and RUN it, each from and into rooms of its own; `order2` is room for the order that run takes.
@@ -105,10 +99,7 @@ pub fn follow_and_run(
 {
     let first = jamturret_follow(sheet, order1, inbox1, report1, scratch);
     let second = jamturret_run(sheet, inbox2, report2, order2, scratch);
-    Answers {
-        first: first,
-        second: second,
-    }
+    Answers { first, second }
 }
 
 // Ask whether the order can matter for a sheet (PREMISE), and RUN it: with both answers 0 the run's outcome is that of every full
@@ -125,8 +116,5 @@ pub fn premise_and_run(
 {
     let first = jamturret_premise(sheet);
     let second = jamturret_run(sheet, inbox, report, order, scratch);
-    Answers {
-        first: first,
-        second: second,
-    }
+    Answers { first, second }
 }

@@ -2,20 +2,20 @@
 -- Assumes nothing.
 --   Finished                  deliveries, report and scratch at the end of a job
 --   FollowDoes, RunDoes     the outcome past sheet and rooms
---   chain_sheet, chain_rooms  the refusal that is asked first; early, ready: what it has settled
+--   early, unrefused, ready   a refusal of sheet or rooms, and what is settled where there is none
 --   follow_done, run_done     the whole outcome; follow_refused, run_refused: of a refusal of sheet or rooms
 use Rattle.std.specs.Prelude.{◌≡◌, List, ℕ, ◌≤◌, length, replicate}
 use Rattle.std.proofs.Math.Path.{refl, ap}
-use Rattle.std.proofs.Common.{sym, ◌∙◌, subst, arith}
+use Rattle.std.proofs.Common.{sym, ◌∙◌, arith}
 use Rattle.std.proofs.Math.Option.{Option, none, some}
 use Rattle.std.proofs.Math.Decide.{ℕ_discrete}
 use Rattle.rules.specs.Limits.{order_room}
 use Rattle.rules.specs.Sheet.{second_in, sheet_in, N_of}
 use Rattle.rules.specs.Job.{Job}
-use Rattle.rules.specs.Refusal.{Refusal, refusal, accepted, or_else, sheet_refusal}
+use Rattle.rules.specs.Refusal.{Refusal, refusal, or_else, sheet_refusal}
 use Rattle.rules.specs.Order.{followed, follow, ran, run}
 use Rattle.rules.specs.Report.{report}
-use Rattle.rules.specs.Service.{Answers, room_refusal, order_refusal, in_front, kept_or, scratch_left, CheckSays}
+use Rattle.rules.specs.Service.{Answers, room_refusal, order_refusal, in_front, kept_or, scratch_left}
 use Rattle.rules.specs.Service.{follow_refusal, FollowSays, run_refusal, RunSays}
 use Rattle.laws.specs.Answers.{answers_number}
 use Rattle.laws.specs.Broken.{or_else_passed, or_else_stopped}
@@ -29,22 +29,7 @@ use Rattle.jamturret.specs.Rooms.{room_most, order_unasked, Ready}
 use Rattle.laws.specs.Numbers.{or_else_most, sheet_most}
 use Rattle.laws.specs.Rooms.{Roomy, rooms_enough, roomy}
 
--- SHEET AND ROOMS, which are asked first: check's answer, or the rooms'
-pub chain_sheet : (bs : List ℕ) (i r o c n p : ℕ) → CheckSays bs n p → (n ≡ 0 → ⊥) → Answers (run_refusal bs i r o c) n p
-unfolding CheckSays run_refusal
-chain_sheet bs i r o c n p t h =
-    (refused_first (room_refusal (second_in bs) (sheet_in bs) i r o c) (refused (sheet_refusal bs) n p t h (let l = sheet_most bs in omega arith))).answered
-
-pub check_accepts : (bs : List ℕ) (n p : ℕ) → CheckSays bs n p → n ≡ 0 → (sheet_refusal bs).number ≡ 0
-unfolding CheckSays
-check_accepts bs n p h z = sym (answers_number (sheet_refusal bs) n p h) ∙ z
-
-pub chain_rooms : (bs : List ℕ) (i r o c n p : ℕ) → (sheet_refusal bs).number ≡ 0 → Answers (room_refusal (second_in bs) (sheet_in bs) i r o c) n p →
-    Answers (run_refusal bs i r o c) n p
-unfolding run_refusal
-chain_rooms bs i r o c n p e t =
-    subst (λ (f : Refusal). Answers f n p) (sym (or_else_passed (sheet_refusal bs) (room_refusal (second_in bs) (sheet_in bs) i r o c) e)) t
-
+-- SHEET AND ROOMS, which are asked first: what a refusal of theirs is, and what is settled where neither refuses
 pub unrefused_laid : (bs : List ℕ) → (sheet_refusal bs).number ≡ 0 → Laid bs
 unrefused_laid bs e = accepted_laid bs (unrefused_accepted bs e)
 
@@ -145,21 +130,20 @@ module _ (bs o i r c : List ℕ) where
       rw e (h.0, h.1, h.2, h.3 ∙ zeroed_left (follow (sheet_in bs) o i).refused_at)
 
 -- RUN, past sheet and rooms
-unfoldable pub RunDoes : (sheet : List ℕ) → (number place : ℕ) →
+unfoldable pub RunDoes : (sheet : List ℕ) →
     (inbox inbox_now report report_now order order_now scratch scratch_now : List ℕ) → Type 0
-RunDoes bs n p i i_now r r_now o o_now c c_now =
+RunDoes bs i i_now r r_now o o_now c c_now =
     let e = run (sheet_in bs) i in
-    Answers accepted n p
-    × (i_now ≡ e.end.memory)
+    (i_now ≡ e.end.memory)
     × (r_now ≡ in_front (report (second_in bs) (sheet_in bs) e.end) r)
     × (o_now ≡ in_front e.order o)
     × (c_now ≡ replicate (length c) 0)
 
 pub does_run : (bs : List ℕ) {i i_now r r_now o_now : List ℕ} (o c : List ℕ) {c_now d : List ℕ} (taken : List ℕ) {t : Control} (x : Job) →
     run (sheet_in bs) i ≡ ran taken x → Represents bs i d t x → length d ≡ length c → Finished bs t i i_now r r_now d c_now →
-    o_now ≡ in_front taken o → RunDoes bs 0 0 i i_now r r_now o o_now c c_now
-unfolding RunDoes ran refusal Answers
-does_run bs o c taken x e h l q w = rw e ((refl, refl), q.delivered x h, q.reported x h, w, q.zeroed ∙ ap (λ (n : ℕ). replicate n 0) l)
+    o_now ≡ in_front taken o → RunDoes bs i i_now r r_now o o_now c c_now
+unfolding RunDoes ran
+does_run bs o c taken x e h l q w = rw e (q.delivered x h, q.reported x h, w, q.zeroed ∙ ap (λ (n : ℕ). replicate n 0) l)
 
 module _ (bs i r o c : List ℕ) where
   abbrev run_rooms : Refusal
@@ -170,9 +154,9 @@ module _ (bs i r o c : List ℕ) where
   run_refused n p q = (q.answered, kept q _ i, kept q _ r, kept q _ o, scratch_kept q c)
 
   pub run_done : (sheet_refusal bs).number ≡ 0 → Roomy (second_in bs) (sheet_in bs) (length i) (length r) (length o) (length c) →
-      (n p : ℕ) (i_now r_now o_now c_now : List ℕ) → RunDoes bs n p i i_now r r_now o o_now c c_now →
-      RunSays bs n p i i_now r r_now o o_now c c_now
-  unfolding RunSays RunDoes run_refusal refusal kept_or scratch_left
-  run_done g q n p i_now r_now o_now c_now h =
+      (i_now r_now o_now c_now : List ℕ) → RunDoes bs i i_now r r_now o o_now c c_now →
+      RunSays bs 0 0 i i_now r r_now o o_now c c_now
+  unfolding RunSays RunDoes run_refusal refusal kept_or scratch_left Answers
+  run_done g q i_now r_now o_now c_now h =
       let e = or_else_passed (sheet_refusal bs) run_rooms g ∙ rooms_enough (second_in bs) (sheet_in bs) (length i) (length r) (length o) (length c) q in
-      rw e h
+      rw e ((refl, refl), h.0, h.1, h.2, h.3)

@@ -1,6 +1,6 @@
 // The public services, exported to C and Rust. A slice passes as a pointer and a length. Each service states its whole outcome
 // for every input, with no `requires`.
-#![tactic(auto)]
+#![tactic(auto, unfolding(rules::specs::Service::CheckSays, rules::specs::Premise::PremiseSays))]
 
 ghost use Rattle.std.specs.Prelude.{◌≡◌};
 ghost use Rattle.rules.specs.Crc.{crc};
@@ -30,7 +30,7 @@ pub extern "C" fn jamturret_crc(sheet: &[u8]) -> u16
 pub extern "C" fn jamturret_check(sheet: &[u8]) -> Answer
     ensures { CheckSays sheet.now result.number result.place }
 {
-    check::check(sheet)
+    check::check(sheet).into()
 }
 
 // PREMISE of demand 3: whether the order of steps can matter for a sheet. Refusals 1 to 7; 20 an any-source receive or probe, 21 a
@@ -42,7 +42,7 @@ pub extern "C" fn jamturret_check(sheet: &[u8]) -> Answer
 pub extern "C" fn jamturret_premise(sheet: &[u8]) -> Answer
     ensures { PremiseSays sheet.now result.number result.place }
 {
-    premise(sheet)
+    premise(sheet).into()
 }
 
 // FOLLOW a sheet with a given order of ranks: refusals 1 to 9; on success inbox and report hold the outcome. Scratch is all zero
@@ -60,18 +60,7 @@ pub extern "C" fn jamturret_follow(
         inbox.old inbox.new report.old report.new
         scratch.old scratch.new }
 {
-    // follow is lent no room for an order: the longest one is never short
-    let refused = rooms::refusal(
-        sheet,
-        inbox.len(),
-        report.len(),
-        limits::MOST_ORDER,
-        scratch.len(),
-    );
-    if refused.number != 0 {
-        return refused;
-    }
-    jobs::follow(sheet, order, inbox, report, scratch)
+    jobs::follow(sheet, order, inbox, report, scratch).into()
 }
 
 // RUN a sheet, choosing at each step the lowest rank that is able, and write down that order: refusals 1 to 8. Shut out, among
@@ -88,9 +77,5 @@ pub extern "C" fn jamturret_run(
         inbox.old inbox.new report.old report.new
         order.old order.new scratch.old scratch.new }
 {
-    let refused = rooms::refusal(sheet, inbox.len(), report.len(), order.len(), scratch.len());
-    if refused.number != 0 {
-        return refused;
-    }
-    jobs::run(sheet, inbox, report, order, scratch)
+    jobs::run(sheet, inbox, report, order, scratch).into()
 }

@@ -5,7 +5,7 @@
 --   Refuses                   the result is that refusal
 --   KeptOr                    a rule is kept, or the result is its refusal
 --   Tests                     what a closure answers of an index, from one to before another, is a rule's test of it
---   passed_on, told_by        what `?` passes on
+--   passed_is, passed_on, told_by   what `?` passes on
 --   kept_or                   what `ensure` returns
 --   chain_stops, chain_goes_on, accepts   of refusals in their order
 use Rattle.std.specs.Prelude.{◌≡◌, refl, Bool, true, false, cond, ℕ, ◌<◌, ◌≤◌, Result, Ok, Err, MatchResult, IsErrAnd}
@@ -75,12 +75,15 @@ refuses StandardRoom e = absurd (omega arith)
 
 -- BY `?`: a result r that is passed on is the error e that was given
 module _ (r : Result Unit Refused) (e : Refused) (passed : IsErrAnd r (λ y. y ≡ e)) where
-  pub passed_on : (f : Refusal) → Refuses f (Err e) → Refuses f r
-  passed_on f t = go r passed
+  pub passed_is : r ≡ Err e
+  passed_is = go r passed
     where
-      go : (z : Result Unit Refused) → IsErrAnd z (λ y. y ≡ e) → Refuses f z
+      go : (z : Result Unit Refused) → IsErrAnd z (λ y. y ≡ e) → z ≡ Err e
       go (Ok u) q = absurd q
-      go (Err y) q = rw q t
+      go (Err y) q = ap Err q
+
+  pub passed_on : (f : Refusal) → Refuses f (Err e) → Refuses f r
+  passed_on f t = rw passed_is t
 
   -- by `ensure`: the number and the place that it was given
   pub told_by : (f : Refusal) {kept : Bool} (rule : Rule) (place : ℕ) → KeptOr kept rule place (Err e) → Answers f (number_of rule) place

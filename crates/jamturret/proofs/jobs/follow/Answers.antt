@@ -1,36 +1,34 @@
--- `jamturret::jobs::follow` meets its contract: a refused order leaves inbox and report, an accepted one is delivered and
--- reported from what scratch holds. Assumes nothing.
-use Rattle.std.proofs.Common.{Bool, ap, cond, replicate, ℕ, ◌∙◌}
-use mathlib.Core.Option.{none, some}
-use Rattle.rules.specs.Order.{followed}
-use Rattle.orders.specs.Jobs.{represented}
-use Rattle.orders.specs.Follows.{Answered}
-use Rattle.jamturret.specs.Outcomes.{does_refused, does_followed}
+-- `jamturret::jobs::follow` meets its contract: a refusal of sheet or rooms, or what follow does. Assumes nothing.
+use Rattle.std.proofs.Common.{arith, length, refl}
+use Rattle.rules.specs.Limits.{order_room}
+use Rattle.rules.specs.Sheet.{sheet_in, N_of}
+use Rattle.sheet.specs.Refused.{number_of, refuses, passed_is}
+use Rattle.jamturret.specs.Rooms.{Ready, own_order}
+use Rattle.jamturret.specs.Outcomes.{early, unrefused, ready, follow_refused, follow_done}
 use Rattle.jamturret.proofs.jobs.follow.Goals as goal
-use Rattle.jamturret.proofs.jobs.follow.Goals.{After-follow-outcome, Start}
+use Rattle.jamturret.proofs.jobs.follow.Goals.{In_ok-refusal}
 
--- the order was followed from the inboxes that are lent
-module _ (c : After-follow-outcome) where
-  answered : Answered c.args.sheet.now c.args.order.now c.follow-outcome.new.c c.follow-outcome.result c.args.inbox.now
-  answered = c.follow-outcome.ensures c.args.inbox.now c.requires.roomy.inbox
+-- the rooms are enough, with the order's own room
+enough : (c : In_ok-refusal) →
+    Ready c.args.sheet.now (length c.args.inbox.now) (length c.args.report.now)
+    (order_room (N_of (sheet_in c.args.sheet.now))) (length c.args.scratch.now)
+enough c = own_order (ready _ _ _ _ _ _ _ c.in_ok-refusal.ensures refl)
 
-pub returns-then-outcome : goal.returns-then-outcome
-returns-then-outcome c =
+pub returns-in_err-refusal : goal.returns-in_err-refusal
+returns-in_err-refusal c =
     let a = c.args in
-    let w = answered (goal.at.returns-then-outcome c).After-follow-outcome in
-    let at = c.follow-outcome.result.at in
-    let refused = w.said ∙ ap (λ (b : Bool). followed (cond b (some at) none) w.job) c.if-outcome.true in
-    does_refused a.sheet.now a.order.now a.inbox.now a.out.now a.scratch.now c.zero.new.s at w.job refused
-    (c.zero.ensures ∙ ap (λ (n : ℕ). replicate n 0) c.follow-outcome.auto.c)
+    let e = c.in_err-refusal.field-0.0 in
+    rw (passed_is c.from_residual.result e c.from_residual.ensures.1)
+    (follow_refused a.sheet.now a.order.now a.inbox.now a.report.now a.scratch.now _ (number_of e.rule) e.place
+    (λ l. omega arith) (early _ _ _ _ _ _ _ c.in_err-refusal.ensures (refuses e.rule)))
 
-pub finish-requires : goal.finish-requires
-finish-requires c =
-    (represented (answered (goal.at.finish-requires c).After-follow-outcome).represents, c.requires.roomy.inbox, c.requires.roomy.report)
+pub follow_in_rooms-requires : goal.follow_in_rooms-requires
+follow_in_rooms-requires c = enough (goal.at.follow_in_rooms-requires c).In_ok-refusal
 
 pub returns : goal.returns
 returns c =
     let a = c.args in
-    let w = answered (goal.at.returns c).After-follow-outcome in
-    let accepted = w.said ∙ ap (λ (b : Bool). followed (cond b (some c.follow-outcome.result.at) none) w.job) c.if-outcome.false in
-    does_followed a.sheet.now a.order.now a.scratch.now w.job accepted w.represents c.follow-outcome.auto.c
-    c.finish.ensures
+    let f = c.follow_in_rooms in
+    follow_done a.sheet.now a.order.now a.inbox.now a.report.now a.scratch.now
+    (unrefused _ _ _ _ _ _ _ c.in_ok-refusal.ensures refl) (enough (goal.at.returns c).In_ok-refusal).roomy
+    _ _ f.new.inbox f.new.out f.new.scratch f.ensures

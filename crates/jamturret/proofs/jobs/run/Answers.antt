@@ -1,27 +1,24 @@
--- `jamturret::jobs::run` meets its contract: the run is delivered and reported from what scratch holds. Assumes nothing.
-use Rattle.orders.specs.Jobs.{represented}
-use Rattle.orders.specs.Runs.{Ended}
-use Rattle.jamturret.specs.Outcomes.{does_run}
+-- `jamturret::jobs::run` meets its contract: a refusal of sheet or rooms, or what run does. Assumes nothing.
+use Rattle.std.proofs.Common.{refl}
+use Rattle.sheet.specs.Refused.{number_of, refuses, passed_is}
+use Rattle.jamturret.specs.Outcomes.{early, unrefused, ready, run_refused, run_done}
 use Rattle.jamturret.proofs.jobs.run.Goals as goal
-use Rattle.jamturret.proofs.jobs.run.Goals.{After-run-t, Start}
 
--- the run started from the inboxes that are lent
-module _ (c : After-run-t) where
-  ended : Ended c.args.sheet.now c.args.order.now c.run-t.new.c c.run-t.new.out c.run-t.result c.args.inbox.now
-  ended = c.run-t.ensures c.args.inbox.now c.requires.roomy.inbox
+pub returns-in_err-refusal : goal.returns-in_err-refusal
+returns-in_err-refusal c =
+    let a = c.args in
+    let e = c.in_err-refusal.field-0.0 in
+    rw (passed_is c.from_residual.result e c.from_residual.ensures.1)
+    (run_refused a.sheet.now a.inbox.now a.report.now a.order.now a.scratch.now (number_of e.rule) e.place
+    (early _ _ _ _ _ _ _ c.in_err-refusal.ensures (refuses e.rule)))
 
-pub run-t-requires : goal.run-t-requires
-run-t-requires c =
-    let p = c.requires in
-    (p.laid, p.good, p.roomy.scratch, p.roomy.order)
-
-pub finish-requires : goal.finish-requires
-finish-requires c =
-    (represented (ended (goal.at.finish-requires c).After-run-t).represents, c.requires.roomy.inbox, c.requires.roomy.report)
+pub run_in_rooms-requires : goal.run_in_rooms-requires
+run_in_rooms-requires c = ready _ _ _ _ _ _ _ c.in_ok-refusal.ensures refl
 
 pub returns : goal.returns
 returns c =
     let a = c.args in
-    let w = ended (goal.at.returns c).After-run-t in
-    does_run a.sheet.now a.order.now a.scratch.now w.taken w.job w.said w.represents c.run-t.auto.c
-    c.finish.ensures w.out_is
+    let f = c.run_in_rooms in
+    run_done a.sheet.now a.inbox.now a.report.now a.order.now a.scratch.now
+    (unrefused _ _ _ _ _ _ _ c.in_ok-refusal.ensures refl) (ready _ _ _ _ _ _ _ c.in_ok-refusal.ensures refl).roomy
+    f.new.inbox f.new.out f.new.order f.new.scratch f.ensures
