@@ -11,7 +11,7 @@ ghost use Rattle.setup.specs.SetupTables.{Slotted, last_after, op_put, Filled};
 ghost use Rattle.setup.specs.SetupWalk.{Starts};
 
 use sheet::{boards, header, ops};
-use state::{Control, controls, ranks, start, waits};
+use state::{Control, ranks, start, waits};
 
 // What operation i leaves in the table of the latest operation that took each slot: one that takes a slot is its latest, which a
 // later wait on it waits for (document 01, "Slots").
@@ -74,5 +74,5 @@ pub fn start(s: &[u8], c: &mut [u8]) -> Control
     let p = header::boards(s);
     let n = header::ops(s);
     start::init(c, p, n);
-    controls::none()
+    Control::default()
 }
