@@ -12,7 +12,7 @@ ghost use Rattle.simulation.specs.Represents.{Represents};
 ghost use Rattle.deliveries.specs.Deliveries.{Sent, InboxAt, Deliverable, replay_in, ScriptDelivered};
 
 use sheet::{boards, header, ops};
-use state::rows;
+use state::{State, rows};
 
 // How many bytes of message m receive r gets: all, or as many as its capacity where the message is cut.
 #[tactic(auto, unfolding(rules::specs::Step::copied))]
@@ -40,12 +40,13 @@ fn deliver_message(s: &[u8], m: usize, r: usize, start: usize, inbox: &mut [u8])
 }
 
 // Operation i: a receive that is matched has its message delivered.
+#[tactic(auto, unfolding(crate::specs::Deliveries::replay_in))]
 fn deliver_one(s: &[u8], c: &[u8], i: usize, start: usize, inbox: &mut [u8])
     requires { Deliverable s.now c.now × (i < N_of (sheet_in s.now))
         × InboxAt (sheet_in s.now) (rank_of (sheet_in s.now) i) start inbox.old }
     ensures { inbox.new ≡ replay_in (sheet_in s.now) c.now i inbox.old }
 {
-    if ops::is_receive(s, i) && rows::state_of(c, i) == 3 {
+    if ops::is_receive(s, i) && rows::is_in(c, i, State::Matched) {
         let m = rows::partner_of(c, i);
         deliver_message(s, m, i, start, inbox);
     }
