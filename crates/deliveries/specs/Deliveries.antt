@@ -7,22 +7,20 @@
 --   delivered_part    such a copy of what a match copies is a delivery
 --   Replaying         the first i operations are delivered; Scripting, Filling: so far in a board's script, in the scripts
 --   memory_is         all of them are the memory of the job that stands there
-use Rattle.std.specs.Prelude.{◌≡◌, Bool, ◌&&◌, ℕ, zero, suc, ◌+◌, ◌-◌, ◌≤◌, ◌<◌, drop}
+use Rattle.std.specs.Prelude.{◌≡◌, ◌&&◌, ℕ, zero, suc, ◌+◌, ◌-◌, ◌≤◌, ◌<◌, drop}
 use Rattle.std.proofs.Math.Path.{refl, sym, ap}
 use Rattle.std.proofs.Common.{subst, ◌∙◌, arith, add-one, take-append-drop, drop-drop}
-use Rattle.std.proofs.Math.Bool.{true, false, cond}
+use Rattle.std.proofs.Math.Bool.{true, cond}
 use mathlib.Core.List.{List, ◌++◌, append_assoc}
 use Rattle.std.proofs.Math.Dec.{eqb}
 use Rattle.std.proofs.Math.ListN.{length, take, length-drop}
 use Rattle.std.proofs.Math.Seq.{length-take-le}
 use Rattle.std.proofs.lemmas.List.{drop-append-le, take-append-le}
-use borrow.Author.Tests.{eq-eqb, ne_eqb}
 use borrow.Rule.Slice.PartMut.{mid_of, put_mid}
 use Rattle.rules.specs.Limits.{most_inbox, scratch_size, payload_at}
 use Rattle.rules.specs.Sheet.{Sheet, op, board, P_of, N_of, sheet_in, rank_of, counts_before, inbox_start, inbox_total, is_send, is_receive, second_in, P_in, N_in, L_in}
 use Rattle.rules.specs.Job.{Job, Entry, entry_at}
 use Rattle.rules.specs.Step.{splice, area_start, copied, delivered}
-use Rattle.laws.specs.Tests.{true_not_false}
 use Rattle.laws.specs.Laid.{Laid}
 use Rattle.laws.specs.Ranks.{inbox_start_none, counts_none, inbox_start_more, counts_more}
 use Rattle.invariant.specs.sheet.Valid.{Valid, valid_first}
@@ -156,26 +154,6 @@ module _ {bs : List ℕ} {m r : ℕ} (d : Sent bs m r) where
       part_splice inbox area end (take count (drop from bs)) (omega arith) (omega (arith, area_end)) (omega (arith, copied_in_area sheet m r))
       ∙ ap (λ (vs : List ℕ). splice inbox area vs) bytes
       ∙ ap (λ (n : ℕ). splice inbox n (take (copied sheet m r) (drop (op sheet m).offset sheet.payload))) ea
-
--- ONE OPERATION: its row tells a delivery or none
-module _ (s : Sheet) (c : List ℕ) (j : ℕ) (inbox : List ℕ) where
-  pub replay_in_due : is_receive (op s j) ≡ true → (entry_in c (row_at j)).state ≡ 3 →
-      delivered s (entry_in c (row_at j)).partner j inbox ≡ replay_in s c j inbox
-  unfolding replay_in
-  replay_in_due e f = cc (e, eq-eqb (entry_in c (row_at j)).state 3 f)
-
-  pub replay_in_other : is_receive (op s j) ≡ false → inbox ≡ replay_in s c j inbox
-  unfolding replay_in
-  replay_in_other e = cc (e)
-
-  pub replay_in_unmatched : ((entry_in c (row_at j)).state ≡ 3 → ⊥) → inbox ≡ replay_in s c j inbox
-  unfolding replay_in
-  replay_in_unmatched e = sym (go (is_receive (op s j)) (eqb (entry_in c (row_at j)).state 3) (ne_eqb (entry_in c (row_at j)).state 3 e))
-    where
-      go : (a b : Bool) → b ≡ false → cond (a && b) (delivered s (entry_in c (row_at j)).partner j inbox) inbox ≡ inbox
-      go a true h = true_not_false refl h
-      go true false h = refl
-      go false false h = refl
 
 -- ALL
 -- the first i operations are delivered

@@ -5,7 +5,7 @@
 use Rattle.std.specs.Prelude.{◌≡◌, Bool, true, false, cond, List, Option, None, Some, ℕ, zero, suc, ◌+◌, ◌-◌, ◌<◌, ◌≤◌}
 use Rattle.std.proofs.Math.Path.{sym, ap}
 use Rattle.std.proofs.Common.{◌∙◌, arith, add-one}
-use Rattle.std.proofs.Math.Option as rules
+use Rattle.std.proofs.Math.Option.{Option as Maybe, some}
 use Rattle.rules.specs.Sheet.{Sheet, sheet_in, P_of}
 use Rattle.rules.specs.Job.{Job}
 use Rattle.rules.specs.Step.{able, is_none}
@@ -27,13 +27,13 @@ sought_none bs c t = record { left = λ lent x d. ap (λ (n : ℕ). lowest_able 
 
 -- rank r is asked for
 lowest_next : (s : Sheet) (x : Job) (r : ℕ) (b : Bool) → r < P_of s → b ≡ able s x r →
-    lowest_able (P_of s - r) r s x ≡ cond b (rules.some r) (lowest_able (P_of s - (r + 1)) (r + 1) s x)
+    lowest_able (P_of s - r) r s x ≡ cond b (some r) (lowest_able (P_of s - (r + 1)) (r + 1) s x)
 unfolding lowest_able
 lowest_next s x r b l e =
     let left : P_of s - r ≡ suc (P_of s - (r + 1)) = omega arith in
     ap (λ (n : ℕ). lowest_able n r s x) left
-    ∙ (ap (λ (k : ℕ). cond (able s x r) (rules.some r) (lowest_able (P_of s - (r + 1)) k s x)) (sym (add-one r))
-    ∙ ap (λ (f : Bool). cond f (rules.some r) (lowest_able (P_of s - (r + 1)) (r + 1) s x)) (sym e))
+    ∙ (ap (λ (k : ℕ). cond (able s x r) (some r) (lowest_able (P_of s - (r + 1)) k s x)) (sym (add-one r))
+    ∙ ap (λ (f : Bool). cond f (some r) (lowest_able (P_of s - (r + 1)) (r + 1) s x)) (sym e))
 
 module _ {bs c : List ℕ} {t : Control} {r : ℕ} (h : Sought bs c t r) where
   abbrev s : Sheet
@@ -54,12 +54,12 @@ module _ {bs c : List ℕ} {t : Control} {r : ℕ} (h : Sought bs c t r) where
       h.left lent x d ∙ ap (λ (n : ℕ). lowest_able n r s x) none_left
 
 -- WHAT IT SAYS
-lowest_within : (k a r : ℕ) (s : Sheet) (x : Job) → lowest_able k a s x ≡ rules.some r → r < a + k
+lowest_within : (k a r : ℕ) (s : Sheet) (x : Job) → lowest_able k a s x ≡ some r → r < a + k
 unfolding lowest_able
 lowest_within zero a r s x e = absurd (let z : ◌≡◌ {A = ℕ} 0 1 = cc in omega arith)
 lowest_within (suc k) a r s x e = go (able s x a) e (λ later. omega (arith, lowest_within k (suc a) r s x later))
   where
-    go : (b : Bool) → cond b (rules.some a) (lowest_able k (suc a) s x) ≡ rules.some r → (lowest_able k (suc a) s x ≡ rules.some r → r < a + suc k) → r < a + suc k
+    go : (b : Bool) → cond b (some a) (lowest_able k (suc a) s x) ≡ some r → (lowest_able k (suc a) s x ≡ some r → r < a + suc k) → r < a + suc k
     go true e later = let same : a ≡ r = cc in omega arith
     go false e later = later e
 
@@ -72,4 +72,4 @@ module _ (s : Sheet) (x : Job) where
   -- no board is able where there is none
   pub lowest_none_able : (o : Option ℕ) → Lowest s x o → none_able s x ≡ is_none (option_of o)
   unfolding none_able
-  lowest_none_able o low = ap (λ (q : rules.Option ℕ). is_none q) low
+  lowest_none_able o low = ap (λ (q : Maybe ℕ). is_none q) low

@@ -2,37 +2,42 @@
 --   state_finished, state_other   a board's state; row_is: the front of its row, with the figures as they were read
 --   row_first, row_second         its row, by the edition
 --   all_finished_is               all boards are finished where each one's place tells it
---   verdict_stopped, ..           the verdict, by what was found
 --   stop_rank, stop_op            the stop, as the control block has it
+--   verdict_stopped, ..           the verdict, by what was found
 --   front_bytes, back_bytes       the header's two halves; header_is: side by side they are the header
 --   report_whole                  header, board rows and operation rows side by side are the report, in front of what stays
-use Rattle.std.specs.Prelude.{◌≡◌, ◌⊎◌, Bool, false, ◌&&◌, eqb, leb, drop}
+use Rattle.std.specs.Prelude.{◌≡◌, Bool, false, ◌&&◌, leb, drop, Option, None, Some}
 use Rattle.std.specs.List.{list_all, range_with_len}
 use Rattle.std.proofs.Math.Path.{refl, sym, ap, ap₂}
-use Rattle.std.proofs.Common.{◌∙◌, inl, inr, zero-add, add-one}
+use Rattle.std.proofs.Common.{◌∙◌, zero-add, add-one}
 use Rattle.std.proofs.Math.Bool.{true, cond}
 use mathlib.Core.List.{List, [], ◌∷◌, ◌++◌, append_assoc}
-use Rattle.std.proofs.Math.Option.{Option, none, some}
+use Rattle.std.proofs.Math.Option.{Option as Maybe}
 use Prim.Native.Nat.{ℕ, zero, suc, ◌+◌, ◌*◌, ◌/◌, ◌%◌, ◌≤◌, ◌<◌}
 use native.Mathlib.Omega.{arith}
-use Rattle.std.proofs.Math.Decide.{ℕ_discrete}
 use Rattle.std.proofs.Math.ListN.{length, length-append}
-use borrow.Author.Tests.{le-leb, lt-leb, eq-eqb, ne_eqb}
+use borrow.Author.Tests.{le-leb, lt-leb}
 use Rattle.rules.specs.Limits.{absent, report_header_size, board_row_size, op_row_size, report_size}
 use Rattle.rules.specs.Sheet.{Sheet, board, P_of, N_of, sheet_in}
-use Rattle.rules.specs.Job.{Job, Entry, Place, Stop, place_at}
+use Rattle.rules.specs.Job.{Job, Entry, Place, Stop as JobStop, place_at}
 use Rattle.rules.specs.Step.{splice, able, is_finished}
 use Rattle.rules.specs.Order.{none_able}
 use Rattle.rules.specs.Report.{low_two, count_from, pending_messages, pending_receives, cut_messages, all_finished, verdict_of, stop_bytes, header_bytes, board_state, room_bytes, board_row, op_rows, report}
 use Rattle.rules.specs.Service.{in_front}
 use Rattle.state.specs.declared.Control.{Control}
+use Rattle.state.specs.declared.Stop.{Stop}
+use Rattle.state.specs.declared.StopVerdict.TheVariants.{Overflow, NotReady}
 use Rattle.state.specs.Layout.{seat_at}
 use Rattle.state.specs.Decoded.{place_in}
-use Rattle.state.proofs.Decodes.{place_is}
-use Rattle.state.specs.Controls.{stop_of, stop_some}
+use Rattle.state.proofs.Decodes.{place_is, job_stopped, job_goes_on}
+use Rattle.state.specs.Controls.{stop_of, job_stop}
+use Rattle.state.specs.Numbers.{verdict_number as stop_number}
 use Rattle.laws.specs.Splice.{splice_then}
 use Rattle.simulation.specs.Represents.{Represents}
 use Rattle.steps.specs.Able.{finished_is}
+use Rattle.report.specs.declared.Verdict.{Verdict}
+use Rattle.report.specs.declared.Verdict.TheVariants.{Going, Finished, Deadlock, Stopped}
+use Rattle.report.specs.Numbers.{verdict_number}
 use Rattle.report.specs.ReportCounts.{message_row, receive_row, cut_row, messages_are, receives_are, cut_are}
 use Rattle.report.specs.ReportRows.{low_of, four, board_row_at, joined, joined_length, board_rows_long, row_in, row_in_length, board_rows_joined, op_rows_joined}
 
@@ -139,10 +144,17 @@ abbrev pub no_rank : ℕ
 no_rank = 255
 
 abbrev pub stop_rank : Control → ℕ
-stop_rank t = cond (eqb t.verdict 0) no_rank t.rank
+stop_rank t = elim t.stop [ None ↦ no_rank | Some p ↦ p.rank ]
 
 abbrev pub stop_op : Control → ℕ
-stop_op t = cond (eqb t.verdict 0) absent t.op
+stop_op t = elim t.stop [ None ↦ absent | Some p ↦ p.op ]
+
+pub verdict_small : (v : Verdict) → verdict_number v ≤ 4
+verdict_small Going = omega arith
+verdict_small Finished = omega arith
+verdict_small Deadlock = omega arith
+verdict_small (Stopped Overflow) = omega arith
+verdict_small (Stopped NotReady) = omega arith
 
 -- the first eight bytes, verdict and rank as one number; the last eight
 unfoldable pub front_bytes : (verdict : ℕ) → Control → (p : ℕ) → List ℕ
@@ -156,71 +168,48 @@ module _ {bs lent c : List ℕ} {t : Control} {x : Job} (d : Represents bs lent 
   abbrev here : Sheet
   here = sheet_in bs
 
-  abbrev ststop_op : Stop
-  ststop_op =
-      record {
-        verdict = t.verdict;
-        rank = t.rank;
-        at_op = t.op;
-      }
-
-  stop_there : (t.verdict ≡ 0 → ⊥) → x.stop ≡ some ststop_op
-  stop_there h = d.decodes.stop_is ∙ stop_some t.verdict t.rank t.op h
-
-  stop_none : t.verdict ≡ 0 → x.stop ≡ none
-  unfolding stop_of
-  stop_none h = d.decodes.stop_is ∙ ap (λ (v : ℕ). stop_of v t.rank t.op) h
-
   -- VERDICTS
-  pub verdict_small : (t.verdict ≡ 0 → ⊥) → t.verdict ≤ 4
-  verdict_small h = go (d.reached.stop_at ststop_op (stop_there h)).reason
-    where
-      go : (t.verdict ≡ 3) ⊎ (t.verdict ≡ 4) → t.verdict ≤ 4
-      go (inl e) = omega arith
-      go (inr e) = omega arith
-
-  pub verdict_stopped : (t.verdict ≡ 0 → ⊥) → t.verdict ≡ verdict_of x.stop here x
+  pub verdict_stopped : (p : Stop) → t.stop ≡ Some p → stop_number p.verdict ≡ verdict_of x.stop here x
   unfolding verdict_of
-  verdict_stopped h = sym (ap (λ (o : Option Stop). verdict_of o here x) (stop_there h))
+  verdict_stopped p e = sym (ap (λ (o : Maybe JobStop). verdict_of o here x) (job_stopped here c t x d.decodes p e))
 
-  going : t.verdict ≡ 0 → verdict_of x.stop here x ≡ cond (all_finished (P_of here) 0 here x) 1 (cond (none_able here x) 2 0)
+  going : t.stop ≡ None → verdict_of x.stop here x ≡ cond (all_finished (P_of here) 0 here x) 1 (cond (none_able here x) 2 0)
   unfolding verdict_of
-  going h = ap (λ (o : Option Stop). verdict_of o here x) (stop_none h)
+  going h = ap (λ (o : Maybe JobStop). verdict_of o here x) (job_goes_on here c t x d.decodes h)
 
-  pub verdict_finished : t.verdict ≡ 0 → all_finished (P_of here) 0 here x ≡ true → 1 ≡ verdict_of x.stop here x
+  pub verdict_finished : t.stop ≡ None → all_finished (P_of here) 0 here x ≡ true → 1 ≡ verdict_of x.stop here x
   verdict_finished h e = sym (going h ∙ ap (λ (b : Bool). cond b 1 (cond (none_able here x) 2 0)) e)
 
-  pub verdict_deadlock : t.verdict ≡ 0 → all_finished (P_of here) 0 here x ≡ false → none_able here x ≡ true →
+  pub verdict_deadlock : t.stop ≡ None → all_finished (P_of here) 0 here x ≡ false → none_able here x ≡ true →
       2 ≡ verdict_of x.stop here x
   verdict_deadlock h e f = sym (going h ∙ cc (e, f))
 
-  pub verdict_going : t.verdict ≡ 0 → all_finished (P_of here) 0 here x ≡ false → none_able here x ≡ false →
+  pub verdict_going : t.stop ≡ None → all_finished (P_of here) 0 here x ≡ false → none_able here x ≡ false →
       0 ≡ verdict_of x.stop here x
   verdict_going h e f = sym (going h ∙ cc (e, f))
 
   -- THE STOP
   pub rank_small : stop_rank t < 256
-  rank_small = go (ℕ_discrete t.verdict 0)
+  rank_small = go t.stop refl
     where
-      go : Dec (t.verdict ≡ 0) → stop_rank t < 256
-      go (yes e) = omega (arith, ap (λ (b : Bool). cond b no_rank t.rank) (eq-eqb t.verdict 0 e))
-      go (no n) =
-          omega (arith, ap (λ (b : Bool). cond b no_rank t.rank) (ne_eqb t.verdict 0 n), (d.reached.stop_at ststop_op (stop_there n)).rank_small, d.good.boards_few)
+      go : (o : Option Stop) → t.stop ≡ o → elim o [ None ↦ no_rank | Some p ↦ p.rank ] < 256
+      go None e = omega arith
+      go (Some p) e = omega (arith, (d.reached.stop_at (job_stop p) (job_stopped here c t x d.decodes p e)).rank_small, d.good.boards_few)
 
   stop_bytes_are : stop_bytes x.stop ≡ stop_rank t ∷ low_two (stop_op t)
   unfolding stop_bytes low_two
-  stop_bytes_are = go (ℕ_discrete t.verdict 0)
+  stop_bytes_are = ap stop_bytes d.decodes.stop_is ∙ go t.stop
     where
-      go : Dec (t.verdict ≡ 0) → stop_bytes x.stop ≡ stop_rank t ∷ low_two (stop_op t)
-      go (yes e) = ap (λ (o : Option Stop). stop_bytes o) (stop_none e) ∙ ap (λ (b : Bool). cond b no_rank t.rank ∷ low_two (cond b absent t.op)) (sym (eq-eqb t.verdict 0 e))
-      go (no n) = ap (λ (o : Option Stop). stop_bytes o) (stop_there n) ∙ ap (λ (b : Bool). cond b no_rank t.rank ∷ low_two (cond b absent t.op)) (sym (ne_eqb t.verdict 0 n))
+      go : (o : Option Stop) →
+          stop_bytes (stop_of o) ≡ elim o [ None ↦ no_rank | Some p ↦ p.rank ] ∷ low_two (elim o [ None ↦ absent | Some p ↦ p.op ])
+      go None = refl
+      go (Some p) = refl
 
   -- the header behind its verdict and stop
   abbrev rest : (steps messages receives cut : ℕ) → List ℕ
   rest k m r q = low_two k ++ (low_two (P_of here) ++ (low_two (N_of here) ++ (low_two m ++ (low_two r ++ low_two q))))
 
-  pub header_is : (v : ℕ) → v ≡ verdict_of x.stop here x → v ≤ 4 →
-      front_bytes v t (P_of here) ++ back_bytes here c ≡ header_bytes here x
+  pub header_is : (v : ℕ) → v ≡ verdict_of x.stop here x → v ≤ 4 → front_bytes v t (P_of here) ++ back_bytes here c ≡ header_bytes here x
   unfolding front_bytes back_bytes header_bytes low_two
   header_is v e small =
       let m = count_from (N_of here) 0 (message_row here c) in

@@ -15,7 +15,7 @@ ghost use Rattle.state.specs.Layout.{seat_at};
 ghost use Rattle.state.specs.Decoded.{place_in};
 ghost use Rattle.simulation.specs.Represents.{Represented};
 ghost use Rattle.orders.specs.Jobs.{Every};
-ghost use Rattle.report.specs.Numbers.{state_number};
+ghost use Rattle.report.specs.Numbers.{board_state_number, verdict_number};
 ghost use Rattle.report.specs.Report.{stop_rank as report_stop_rank, stop_op as report_stop_op, row_front, front_bytes, back_bytes};
 ghost use Rattle.report.specs.ReportCounts.{message_row, receive_row, cut_row, RowsCounted};
 ghost use Rattle.report.specs.ReportRows.{row_in, joined, board_row_at, four};
@@ -23,7 +23,7 @@ ghost use Rattle.report.specs.ReportRows.{row_in, joined, board_row_at, four};
 use account::Store;
 use orders::lowest;
 use sheet::{boards, header, ops};
-use state::{Control, places, rows};
+use state::{Control, State, StopVerdict, places, rows};
 use steps::able;
 
 // Stop rank where nothing stopped the job.
@@ -69,7 +69,7 @@ enum BoardState {
 }
 
 impl From<BoardState> for usize {
-    ghost from_gives = { λ state n. n ≡ state_number state };
+    ghost from_gives = { λ state n. n ≡ board_state_number state };
 
     fn from(state: BoardState) -> usize {
         state as usize
@@ -79,7 +79,7 @@ impl From<BoardState> for usize {
 // The state of board r.
 fn board_state(s: &[u8], c: &[u8], t: Control, r: usize) -> BoardState
     requires { Represented s.now c.now t × (r < P_of (sheet_in s.now)) }
-    ensures { Every s.now c.now t (λ x. state_number result ≡ board_state (sheet_in s.now) x r) }
+    ensures { Every s.now c.now t (λ x. board_state_number result ≡ board_state (sheet_in s.now) x r) }
 {
     if boards::count(s, r) <= places::finished_of(c, r) {
         BoardState::Finished
@@ -169,36 +169,57 @@ fn none_is_able(s: &[u8], c: &[u8], t: Control) -> bool
     lowest::lowest(s, c, t).is_none()
 }
 
-// The verdict: 3 overflow and 4 not ready stopped the job; else 1 all finished; else 2 none able; else 0.
-fn verdict(s: &[u8], c: &[u8], t: Control) -> usize
+// What became of a job.
+#[derive(Clone, Copy)]
+enum Verdict {
+    Going,
+    Finished,
+    Deadlock,
+    Stopped(StopVerdict),
+}
+
+impl From<Verdict> for usize {
+    ghost from_gives = { λ v n. n ≡ verdict_number v };
+
+    fn from(verdict: Verdict) -> usize {
+        match verdict {
+            Verdict::Going => 0,
+            Verdict::Finished => 1,
+            Verdict::Deadlock => 2,
+            Verdict::Stopped(by) => usize::from(by),
+        }
+    }
+}
+
+// The verdict: what stopped the job; else finished where all boards are, deadlock where none is able.
+fn verdict_of(s: &[u8], c: &[u8], t: Control) -> Verdict
     requires { Represented s.now c.now t }
-    ensures { Every s.now c.now t (λ x. result ≡ verdict_of x.stop (sheet_in s.now) x)
-        × (result ≤ 4) }
+    ensures { Every s.now c.now t
+        (λ x. verdict_number result ≡ verdict_of x.stop (sheet_in s.now) x) }
 {
-    if t.verdict != 0 {
-        return t.verdict;
+    if let Some(stop) = t.stop {
+        Verdict::Stopped(stop.verdict)
+    } else if all_are_finished(s, c) {
+        Verdict::Finished
+    } else if none_is_able(s, c, t) {
+        Verdict::Deadlock
+    } else {
+        Verdict::Going
     }
-    if all_are_finished(s, c) {
-        return 1;
-    }
-    if none_is_able(s, c, t) {
-        return 2;
-    }
-    0
 }
 
 // The rank of the board that stopped the job.
 fn stop_rank(t: Control) -> usize
     ensures { result ≡ report_stop_rank t }
 {
-    if t.verdict == 0 { NO_RANK } else { t.rank }
+    t.stop.map_or(NO_RANK, |stop| stop.rank)
 }
 
 // The operation that stopped it.
 fn stop_op(t: Control) -> usize
     ensures { result ≡ report_stop_op t }
 {
-    if t.verdict == 0 { limits::ABSENT } else { t.op }
+    t.stop.map_or(limits::ABSENT, |stop| stop.op)
 }
 
 // Whether operation i is a pending message: state 2, buffered, counts as one.
@@ -207,8 +228,7 @@ fn message_at(s: &[u8], c: &[u8], i: usize) -> bool
     requires { Laid s.now × (scratch_size ≤ length c.now) × (i < N_of (sheet_in s.now)) }
     ensures { result ≡ message_row (sheet_in s.now) c.now i }
 {
-    let state = rows::state_of(c, i);
-    ops::is_send(s, i) && (state == 1 || state == 2)
+    ops::is_send(s, i) && (rows::is_in(c, i, State::Pending) || rows::is_in(c, i, State::Buffered))
 }
 
 // Whether it is a pending receive.
@@ -217,7 +237,7 @@ fn receive_at(s: &[u8], c: &[u8], i: usize) -> bool
     requires { Laid s.now × (scratch_size ≤ length c.now) × (i < N_of (sheet_in s.now)) }
     ensures { result ≡ receive_row (sheet_in s.now) c.now i }
 {
-    ops::is_receive(s, i) && rows::state_of(c, i) == 1
+    ops::is_receive(s, i) && rows::is_in(c, i, State::Pending)
 }
 
 // Whether its message was cut.
@@ -253,11 +273,11 @@ fn count_rows(s: &[u8], c: &[u8]) -> Counts
 }
 
 // The header's first eight bytes: verdict and stop rank, a byte each, stop operation, steps, P.
-fn header_front(s: &[u8], t: Control, v: usize, out: &mut [u8])
-    requires { Laid s.now × (v ≤ 4) × (report_stop_rank t < 256) × (report_header_size ≤ length out.old) }
-    ensures { out.new ≡ splice out.old 0 (front_bytes v t (P_of (sheet_in s.now))) }
+fn header_front(s: &[u8], t: Control, v: Verdict, out: &mut [u8])
+    requires { Laid s.now × (report_stop_rank t < 256) × (report_header_size ≤ length out.old) }
+    ensures { out.new ≡ splice out.old 0 (front_bytes (verdict_number v) t (P_of (sheet_in s.now))) }
 {
-    let front = v + 256 * stop_rank(t);
+    let front = usize::from(v) + 256 * stop_rank(t);
     let op = stop_op(t);
     let p = header::boards(s);
     put_four(out, 0, front, op, t.steps, p);
@@ -279,7 +299,7 @@ fn put_header(s: &[u8], c: &[u8], t: Control, out: &mut [u8])
     ensures { Every s.now c.now t
         (λ x. out.new ≡ splice out.old 0 (header_bytes (sheet_in s.now) x)) }
 {
-    let v = verdict(s, c, t);
+    let v = verdict_of(s, c, t);
     header_front(s, t, v, out);
     header_back(s, c, out);
 }
