@@ -35,11 +35,12 @@ fn buffer_or_stop(s: &Sheet, c: &mut Scratch, t: Control, r: usize, i: usize) ->
 }
 
 // Send i is a standard one, and its board r has a room: where it has none, nothing is kept, not even an empty message.
+#[tactic(auto, unfolding(crate::specs::Unmatched::has_room))]
 fn has_room(s: &Sheet, r: usize, i: usize) -> bool
     requires { (r < P_of (sheet_in s.now)) × (i < N_of (sheet_in s.now)) }
     ensures { result ≡ has_room (sheet_in s.now) r i }
 {
-    s.is_standard(i) & (0 < s.room(r))
+    s.is_standard(i) && 0 < s.room(r)
 }
 
 // A standard send is kept where its length fits its board's room; else it is pending, not complete, as a synchronous one is.

@@ -18,7 +18,7 @@ fn uncounted(s: &Sheet, c: &mut Scratch, t: Control, r: usize) -> Control
     ensures { Simulates s.entry.now c.old t c.new result (AbleBoard r) (λ s x. moved s r x) }
 {
     let i = s.first(r) + c.finished_of(r);
-    if c.waiting_of(r) | s.is_only_half(i) {
+    if parts::in_half(s, c, r, i) {
         parts::end_half(s, c, t, r, i);
         return t;
     }
