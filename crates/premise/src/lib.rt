@@ -4,7 +4,6 @@
 
 ghost use Rattle.rules.specs.Sheet.{sheet_in};
 ghost use Rattle.rules.specs.Premise.{calm_refusal, premise_refusal};
-ghost use Rattle.laws.specs.Laid.{Laid};
 ghost use Rattle.laws.specs.Tabled.{Tabled};
 ghost use Rattle.sheet.specs.Refused.{Refuses};
 
@@ -14,20 +13,20 @@ use account::Store;
 use cover::{is_covering, is_none_or_covering};
 use refusals::check;
 use sheet::refusal::{Refusal, Rule, first_broken};
-use sheet::{boards, header, ops};
+use sheet::Sheet;
 
 // Why a sheet that passes check is not calm: 20 no receive or probe is from any source; 21 no send is ready; 22 attached buffers cover
 // the sends that are kept there; 23 nothing is queried (document 02, K9); 24 so do standard rooms, or they are 0 and nothing is kept.
-fn calm(s: &[u8]) -> Result<(), Refusal>
-    requires { Laid s.now × Tabled (sheet_in s.now) }
+fn calm(s: &Sheet) -> Result<(), Refusal>
+    requires { Tabled (sheet_in s.now) }
     ensures { Refuses (calm_refusal (sheet_in s.now)) result }
 {
-    let n = header::ops(s);
-    let p = header::boards(s);
-    first_broken(0, n, Rule::AnySource, |i| !ops::is_any_source(s, i))?;
-    first_broken(0, n, Rule::ReadySend, |i| !ops::is_ready(s, i))?;
+    let n = s.ops();
+    let p = s.boards();
+    first_broken(0, n, Rule::AnySource, |i| !s.is_any_source(i))?;
+    first_broken(0, n, Rule::ReadySend, |i| !s.is_ready(i))?;
     first_broken(0, p, Rule::Attached, |r| is_covering(s, Store::Attached, r))?;
-    first_broken(0, n, Rule::Query, |i| !ops::tells_completion(s, i))?;
+    first_broken(0, n, Rule::Query, |i| !s.tells_completion(i))?;
     first_broken(0, p, Rule::StandardRoom, |r| is_none_or_covering(s, r))
 }
 

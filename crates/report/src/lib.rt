@@ -9,7 +9,6 @@ ghost use Rattle.rules.specs.Step.{splice};
 ghost use Rattle.rules.specs.Order.{none_able};
 ghost use Rattle.rules.specs.Report.{all_finished, verdict_of, header_bytes, board_state, room_bytes, board_row, report};
 ghost use Rattle.rules.specs.Service.{in_front};
-ghost use Rattle.laws.specs.Laid.{Laid};
 ghost use Rattle.state.specs.declared.Control.{Control};
 ghost use Rattle.state.specs.Layout.{seat_at};
 ghost use Rattle.state.specs.Decoded.{place_in};
@@ -22,8 +21,8 @@ ghost use Rattle.report.specs.ReportRows.{row_in, joined, board_row_at, four};
 
 use account::Store;
 use orders::lowest;
-use sheet::{boards, header, ops};
-use state::{Control, State, StopVerdict, places, rows};
+use sheet::Sheet;
+use state::{Control, Scratch, State, StopVerdict};
 use steps::able;
 
 // Stop rank where nothing stopped the job.
@@ -42,17 +41,19 @@ fn put_four(out: &mut [u8], at: usize, k: usize, l: usize, m: usize, n: usize)
 }
 
 // The row of operation i. Scratch has it in the report's own format, but for the two zero bytes at its end.
-fn op_row(c: &[u8], i: usize, at: usize, out: &mut [u8])
-    requires { (i < most_ops) × (scratch_size ≤ length c.now) × (at + op_row_size ≤ length out.old) }
+fn op_row(c: &Scratch, i: usize, at: usize, out: &mut [u8])
+    requires { (i < most_ops) × (at + op_row_size ≤ length out.old) }
     ensures { out.new ≡ splice out.old at (row_in c.now i) }
 {
-    words::copy(out, at, c, limits::OP_ROW_SIZE * i, ROW_FIGURES);
+    c.known();
+    let bytes = c.bytes();
+    words::copy(out, at, bytes, limits::OP_ROW_SIZE * i, ROW_FIGURES);
     words::put_two(out, at + ROW_FIGURES, 0);
 }
 
 // The rows of n operations.
-fn op_rows(c: &[u8], n: usize, at: usize, out: &mut [u8])
-    requires { (n ≤ most_ops) × (scratch_size ≤ length c.now) × (at + op_row_size * n ≤ length out.old) }
+fn op_rows(c: &Scratch, n: usize, at: usize, out: &mut [u8])
+    requires { (n ≤ most_ops) × (at + op_row_size * n ≤ length out.old) }
     ensures { out.new ≡ splice out.old at (joined (row_in c.now) 0 n) }
 {
     for i in 0..n {
@@ -77,11 +78,11 @@ impl From<BoardState> for usize {
 }
 
 // The state of board r.
-fn board_state(s: &[u8], c: &[u8], t: Control, r: usize) -> BoardState
+fn board_state(s: &Sheet, c: &Scratch, t: Control, r: usize) -> BoardState
     requires { Represented s.now c.now t × (r < P_of (sheet_in s.now)) }
     ensures { Every s.now c.now t (λ x. board_state_number result ≡ board_state (sheet_in s.now) x r) }
 {
-    if boards::count(s, r) <= places::finished_of(c, r) {
+    if s.count(r) <= c.finished_of(r) {
         BoardState::Finished
     } else if able::is_able(s, c, t, r) {
         BoardState::Able
@@ -99,13 +100,13 @@ fn board_row_place(second: bool, r: usize) -> usize
 }
 
 // The front of board r's row, which both editions have: operations finished, buffer in use, peak, state and a zero byte.
-fn row_front(s: &[u8], c: &[u8], t: Control, r: usize, at: usize, out: &mut [u8])
+fn row_front(s: &Sheet, c: &Scratch, t: Control, r: usize, at: usize, out: &mut [u8])
     requires { Represented s.now c.now t × (r < P_of (sheet_in s.now)) × (at + 8 ≤ length out.old) }
     ensures { Every s.now c.now t
         (λ x. out.new ≡ splice out.old at (row_front (sheet_in s.now) x r)) }
 {
-    let finished = places::finished_of(c, r);
-    let attached = places::figures_of(c, r, Store::Attached);
+    let finished = c.finished_of(r);
+    let attached = c.figures_of(r, Store::Attached);
     let state = board_state(s, c, t, r);
     put_four(
         out,
@@ -118,16 +119,16 @@ fn row_front(s: &[u8], c: &[u8], t: Control, r: usize, at: usize, out: &mut [u8]
 }
 
 // What the second edition has besides: room in use, and its peak (document 02, K6).
-fn row_room(c: &[u8], r: usize, at: usize, out: &mut [u8])
-    requires { (r < most_boards) × (scratch_size ≤ length c.now) × (at + 4 ≤ length out.old) }
+fn row_room(c: &Scratch, r: usize, at: usize, out: &mut [u8])
+    requires { (r < most_boards) × (at + 4 ≤ length out.old) }
     ensures { out.new ≡ splice out.old at (room_bytes true (place_in c.now (seat_at r))) }
 {
-    let room = places::figures_of(c, r, Store::Room);
+    let room = c.figures_of(r, Store::Room);
     words::put_pair(out, at, room.in_use, room.peak);
 }
 
 // The row of board r.
-fn board_row(s: &[u8], c: &[u8], t: Control, second: bool, r: usize, out: &mut [u8])
+fn board_row(s: &Sheet, c: &Scratch, t: Control, second: bool, r: usize, out: &mut [u8])
     requires { Represented s.now c.now t × (r < P_of (sheet_in s.now))
         × (board_row_at second r + board_row_size second ≤ length out.old) }
     ensures { Every s.now c.now t
@@ -141,28 +142,28 @@ fn board_row(s: &[u8], c: &[u8], t: Control, second: bool, r: usize, out: &mut [
 }
 
 // The rows of all boards.
-fn board_rows(s: &[u8], c: &[u8], t: Control, second: bool, out: &mut [u8])
+fn board_rows(s: &Sheet, c: &Scratch, t: Control, second: bool, out: &mut [u8])
     requires { Represented s.now c.now t × (board_row_at second (P_of (sheet_in s.now)) ≤ length out.old) }
     ensures { Every s.now c.now t
         (λ x. out.new ≡ splice out.old report_header_size
         (joined (board_row second (sheet_in s.now) x) 0 (P_of (sheet_in s.now)))) }
 {
-    for r in 0..header::boards(s) {
+    for r in 0..s.boards() {
         board_row(s, c, t, second, r, out);
     }
 }
 
 // Whether all boards are finished.
-fn all_are_finished(s: &[u8], c: &[u8]) -> bool
-    requires { Laid s.now × (scratch_size ≤ length c.now) }
+fn all_are_finished(s: &Sheet, c: &Scratch) -> bool
     ensures { (t : Control) → Every s.now c.now t
         (λ x. result ≡ all_finished (P_of (sheet_in s.now)) 0 (sheet_in s.now) x) }
 {
-    (0..header::boards(s)).all(|r| boards::count(s, r) <= places::finished_of(c, r))
+    s.known();
+    (0..s.boards()).all(|r| s.count(r) <= c.finished_of(r))
 }
 
 // Whether no board is able: there is no lowest rank that is.
-fn none_is_able(s: &[u8], c: &[u8], t: Control) -> bool
+fn none_is_able(s: &Sheet, c: &Scratch, t: Control) -> bool
     requires { Represented s.now c.now t }
     ensures { Every s.now c.now t (λ x. result ≡ none_able (sheet_in s.now) x) }
 {
@@ -192,7 +193,7 @@ impl From<Verdict> for usize {
 }
 
 // The verdict: what stopped the job; else finished where all boards are, deadlock where none is able.
-fn verdict_of(s: &[u8], c: &[u8], t: Control) -> Verdict
+fn verdict_of(s: &Sheet, c: &Scratch, t: Control) -> Verdict
     requires { Represented s.now c.now t }
     ensures { Every s.now c.now t
         (λ x. verdict_number result ≡ verdict_of x.stop (sheet_in s.now) x) }
@@ -224,29 +225,31 @@ fn stop_op(t: Control) -> usize
 
 // Whether operation i is a pending message: state 2, buffered, counts as one.
 #[tactic(auto, unfolding(crate::specs::ReportCounts::message_row))]
-fn message_at(s: &[u8], c: &[u8], i: usize) -> bool
-    requires { Laid s.now × (scratch_size ≤ length c.now) × (i < N_of (sheet_in s.now)) }
+fn message_at(s: &Sheet, c: &Scratch, i: usize) -> bool
+    requires { i < N_of (sheet_in s.now) }
     ensures { result ≡ message_row (sheet_in s.now) c.now i }
 {
-    ops::is_send(s, i) && (rows::is_in(c, i, State::Pending) || rows::is_in(c, i, State::Buffered))
+    s.known();
+    s.is_send(i) && (c.is_in(i, State::Pending) || c.is_in(i, State::Buffered))
 }
 
 // Whether it is a pending receive.
 #[tactic(auto, unfolding(crate::specs::ReportCounts::receive_row))]
-fn receive_at(s: &[u8], c: &[u8], i: usize) -> bool
-    requires { Laid s.now × (scratch_size ≤ length c.now) × (i < N_of (sheet_in s.now)) }
+fn receive_at(s: &Sheet, c: &Scratch, i: usize) -> bool
+    requires { i < N_of (sheet_in s.now) }
     ensures { result ≡ receive_row (sheet_in s.now) c.now i }
 {
-    ops::is_receive(s, i) && rows::is_in(c, i, State::Pending)
+    s.known();
+    s.is_receive(i) && c.is_in(i, State::Pending)
 }
 
 // Whether its message was cut.
 #[tactic(auto, unfolding(crate::specs::ReportCounts::cut_row))]
-fn cut_at(c: &[u8], i: usize) -> bool
-    requires { (i < most_ops) × (scratch_size ≤ length c.now) }
+fn cut_at(c: &Scratch, i: usize) -> bool
+    requires { i < most_ops }
     ensures { result ≡ cut_row c.now i }
 {
-    rows::cut_of(c, i) == 1
+    c.cut_of(i) == 1
 }
 
 // Pending messages, pending receives and cut messages.
@@ -259,12 +262,12 @@ struct Counts {
 
 // The three of them, in one pass over the rows.
 #[tactic(auto, using(crate::specs::ReportCounts::counted_none))]
-fn count_rows(s: &[u8], c: &[u8]) -> Counts
-    requires { Laid s.now × (scratch_size ≤ length c.now) }
+fn count_rows(s: &Sheet, c: &Scratch) -> Counts
     ensures { RowsCounted (sheet_in s.now) c.now result.messages result.receives result.cut }
 {
     let mut counts = Counts::default();
-    for i in 0..header::ops(s) {
+    s.known();
+    for i in 0..s.ops() {
         counts.messages += usize::from(message_at(s, c, i));
         counts.receives += usize::from(receive_at(s, c, i));
         counts.cut += usize::from(cut_at(c, i));
@@ -273,28 +276,28 @@ fn count_rows(s: &[u8], c: &[u8]) -> Counts
 }
 
 // The header's first eight bytes: verdict and stop rank, a byte each, stop operation, steps, P.
-fn header_front(s: &[u8], t: Control, v: Verdict, out: &mut [u8])
-    requires { Laid s.now × (report_stop_rank t < 256) × (report_header_size ≤ length out.old) }
+fn header_front(s: &Sheet, t: Control, v: Verdict, out: &mut [u8])
+    requires { (report_stop_rank t < 256) × (report_header_size ≤ length out.old) }
     ensures { out.new ≡ splice out.old 0 (front_bytes (verdict_number v) t (P_of (sheet_in s.now))) }
 {
     let front = usize::from(v) + 256 * stop_rank(t);
     let op = stop_op(t);
-    let p = header::boards(s);
+    let p = s.boards();
     put_four(out, 0, front, op, t.steps, p);
 }
 
 // Its last eight: N, pending messages, pending receives, cut messages.
-fn header_back(s: &[u8], c: &[u8], out: &mut [u8])
-    requires { Laid s.now × (scratch_size ≤ length c.now) × (report_header_size ≤ length out.old) }
+fn header_back(s: &Sheet, c: &Scratch, out: &mut [u8])
+    requires { report_header_size ≤ length out.old }
     ensures { out.new ≡ splice out.old 8 (back_bytes (sheet_in s.now) c.now) }
 {
     let k = count_rows(s, c);
-    let n = header::ops(s);
+    let n = s.ops();
     put_four(out, 8, n, k.messages, k.receives, k.cut);
 }
 
 // The header.
-fn put_header(s: &[u8], c: &[u8], t: Control, out: &mut [u8])
+fn put_header(s: &Sheet, c: &Scratch, t: Control, out: &mut [u8])
     requires { Represented s.now c.now t × (report_header_size ≤ length out.old) }
     ensures { Every s.now c.now t
         (λ x. out.new ≡ splice out.old 0 (header_bytes (sheet_in s.now) x)) }
@@ -305,25 +308,25 @@ fn put_header(s: &[u8], c: &[u8], t: Control, out: &mut [u8])
 }
 
 // How many bytes a sheet's report has: its board rows are of the sheet's edition (document 02, K6). Sums of it never wrap.
-pub fn size(s: &[u8]) -> usize
-    requires { Laid s.now }
+pub fn size(s: &Sheet) -> usize
     ensures { (result ≡ report_size (second_in s.now) (P_of (sheet_in s.now)) (N_of (sheet_in s.now)))
         × (result ≤ report_header_size + board_row_size true * most_boards + op_row_size * most_ops) }
 {
-    limits::report_size(header::is_second(s), header::boards(s), header::ops(s))
+    s.known();
+    limits::report_size(s.is_second(), s.boards(), s.ops())
 }
 
 // The whole report, in front of what else the room holds; its board rows are of the sheet's edition (document 02, K6).
-pub fn write(s: &[u8], c: &[u8], t: Control, out: &mut [u8])
+pub fn write(s: &Sheet, c: &Scratch, t: Control, out: &mut [u8])
     requires { Represented s.now c.now t
         × (report_size (second_in s.now) (P_of (sheet_in s.now)) (N_of (sheet_in s.now)) ≤ length out.old) }
     ensures { Every s.now c.now t
         (λ x. out.new ≡ in_front (report (second_in s.now) (sheet_in s.now) x) out.old) }
 {
     put_header(s, c, t, out);
-    let second = header::is_second(s);
+    let second = s.is_second();
     board_rows(s, c, t, second, out);
-    let n = header::ops(s);
-    let at = board_row_place(second, header::boards(s));
+    let n = s.ops();
+    let at = board_row_place(second, s.boards());
     op_rows(c, n, at, out);
 }

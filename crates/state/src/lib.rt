@@ -51,6 +51,13 @@ impl Scratch<'_> {
     {
         let _size = self.bytes.len();
     }
+
+    // Its bytes.
+    pub fn bytes(&self) -> &[u8]
+        ensures { result.now ≡ self.now }
+    {
+        self.bytes
+    }
 }
 
 // The state of an operation, with the number that its row tells (document 01, "The report"). Finished is a wait, a probe or a query.

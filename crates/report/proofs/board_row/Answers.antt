@@ -18,7 +18,6 @@ pub row_room-requires : goal.row_room-requires
 row_room-requires c =
     let whole = ap (λ (e : Bool). board_row_size e) c.if-second.true in (
       omega (arith, c.requires.1, c.requires.0.represents.good.boards_few),
-      c.requires.0.represents.decodes.roomy,
       omega (arith, c.board_row_place-at.ensures, c.requires.2, whole),
     )
 

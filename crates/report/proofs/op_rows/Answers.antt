@@ -12,14 +12,14 @@ loop-i-init c =
 
 pub op_row-requires : goal.op_row-requires
 op_row-requires c =
-    (omega arith, c.requires.1, omega (arith, c.requires.2, c.loop-i.invariant.size))
+    (omega arith, omega (arith, c.requires.1, c.loop-i.invariant.size))
 
 pub loop-i-preserved : goal.loop-i-preserved
 loop-i-preserved c =
     let l = c.loop-i in
     let rows = row_in c.args.c.now in
     let each = row_in_length c.args.c.now in
-    rowing_more (op_row_size * l.i) (joined_length op_row_size rows each 0 l.i) l.invariant c.op_row.ensures (omega (arith, c.requires.2, each l.i))
+    rowing_more (op_row_size * l.i) (joined_length op_row_size rows each 0 l.i) l.invariant c.op_row.ensures (omega (arith, c.requires.1, each l.i))
 
 pub returns : goal.returns
 returns c =

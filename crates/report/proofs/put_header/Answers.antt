@@ -11,7 +11,7 @@ use Rattle.report.proofs.put_header.Goals as goal
 pub header_front-requires : goal.header_front-requires
 header_front-requires c =
     let d = c.requires.0.represents in
-    (d.laid, rank_small d, c.requires.1)
+    (rank_small d, c.requires.1)
 
 pub returns : goal.returns
 unfolding front_bytes back_bytes low_two

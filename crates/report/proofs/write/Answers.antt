@@ -1,6 +1,6 @@
 -- `report::write` meets its contract: header, board rows and operation rows side by side are the report. Assumes
 -- nothing.
-use Rattle.std.proofs.Common.{Bool, ap, ap₂, arith, sym, ℕ, ◌∙◌}
+use Rattle.std.proofs.Common.{Bool, ap, ap₂, arith, ℕ, ◌∙◌}
 use Rattle.rules.specs.Limits.{report_header_size, board_rows_size}
 use Rattle.rules.specs.Sheet.{second_in, sheet_in, P_of}
 use Rattle.rules.specs.Step.{splice}
@@ -20,8 +20,8 @@ op_rows-requires c =
     let l = c.requires.0.represents.laid in
     let at =
     c.board_row_place-at.ensures
-    ∙ ap₂ (λ (e : Bool) (k : ℕ). board_row_at e k) c.is_second-second.ensures (c.boards.ensures.is ∙ sym l.P_is) in
-    (omega (arith, l), c.requires.0.represents.decodes.roomy, omega (arith, at, c.requires.1, c.ops-n.ensures.is, l.N_is))
+    ∙ ap₂ (λ (e : Bool) (k : ℕ). board_row_at e k) c.is_second-second.ensures c.boards.ensures.is in
+    (omega (arith, l), omega (arith, at, c.requires.1, c.ops-n.ensures.is, l.N_is))
 
 pub returns : goal.returns
 returns c =
@@ -30,9 +30,8 @@ returns c =
     let second = c.is_second-second in
     let a = c.args in
     let s = sheet_in a.s.now in
-    let l = c.requires.0.represents.laid in
-    let p = c.boards.ensures.is ∙ sym l.P_is in
-    let n = c.ops-n.ensures.is ∙ sym l.N_is in
+    let p = c.boards.ensures.is in
+    let n = c.ops-n.ensures.is in
     let at = c.board_row_place-at.ensures ∙ ap₂ (λ (e : Bool) (k : ℕ). board_row_at e k) second.ensures p in
     let last = all.ensures ∙ ap₂ (λ (j k : ℕ). splice two.new.out j (joined (row_in a.c.now) 0 k)) at n in
     let head = c.put_header in
