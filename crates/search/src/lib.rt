@@ -20,10 +20,5 @@ pub fn find(s: &Sheet, c: &Scratch, list: Queue, count: usize, i: usize) -> Opti
 {
     let asked = candidates::asked_by(s, c, i);
     let base = list.base();
-    for k in 0..count {
-        if candidates::candidate_fits(s, c, list, asked, c.word_of(base, k)) {
-            return Some(k);
-        }
-    }
-    None
+    (0..count).find(|k| candidates::candidate_fits(s, c, list, asked, c.word_of(base, *k)))
 }
