@@ -32,7 +32,8 @@ fn put_pair(line: &mut [u8], at: usize, b: u8, behind: u8)
     line[at + 2] = behind;
 }
 
-// A hex digit in upper case. The kit's crate `hex` writes lower case alone, and of what std's `{:X}` writes no clause tells.
+// A hex digit in upper case, by hand: the kit's crate `hex` writes lower case alone, and `write!` to a slice answers an error and
+// states no byte of what it wrote.
 #[tactic(auto, unfolding(crate::specs::Text::digit_of))]
 fn digit(d: u8) -> u8
     requires { d < 16 }
