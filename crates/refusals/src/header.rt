@@ -44,5 +44,5 @@ pub fn crc_is_good(s: &[u8]) -> bool
     requires { 15 < length s.now }
     ensures { result ≡ crc_good s.now }
 {
-    crc::crc_of(s) == header::crc(s)
+    usize::from(crc::crc_of(s)) == header::crc(s)
 }

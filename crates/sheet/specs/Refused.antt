@@ -36,18 +36,18 @@ number_of Query = 23
 number_of StandardRoom = 24
 
 -- what a service tells of a result
-abbrev pub number_told : Result Unit Refused → ℕ
+abbrev pub number_told : {T : Type 0} → Result T Refused → ℕ
 number_told (Ok u) = 0
 number_told (Err e) = number_of e.rule
 
-abbrev pub place_told : Result Unit Refused → ℕ
+abbrev pub place_told : {T : Type 0} → Result T Refused → ℕ
 place_told (Ok u) = 0
 place_told (Err e) = e.place
 
-abbrev pub Told : Result Unit Refused → Answer → Type 0
+abbrev pub Told : {T : Type 0} → Result T Refused → Answer → Type 0
 Told r a = (a.number ≡ number_told r) × (a.place ≡ place_told r)
 
-abbrev pub Refuses : Refusal → Result Unit Refused → Type 0
+abbrev pub Refuses : {T : Type 0} → Refusal → Result T Refused → Type 0
 Refuses f r = Answers f (number_told r) (place_told r)
 
 abbrev pub KeptOr : (kept : Bool) → Rule → (place : ℕ) → Result Unit Refused → Type 0
@@ -74,15 +74,15 @@ refuses Query e = absurd (omega arith)
 refuses StandardRoom e = absurd (omega arith)
 
 -- BY `?`: a result r that is passed on is the error e that was given
-module _ (r : Result Unit Refused) (e : Refused) (passed : IsErrAnd r (λ y. y ≡ e)) where
+module _ {T : Type 0} (r : Result T Refused) (e : Refused) (passed : IsErrAnd r (λ y. y ≡ e)) where
   pub passed_is : r ≡ Err e
   passed_is = go r passed
     where
-      go : (z : Result Unit Refused) → IsErrAnd z (λ y. y ≡ e) → z ≡ Err e
+      go : (z : Result T Refused) → IsErrAnd z (λ y. y ≡ e) → z ≡ Err e
       go (Ok u) q = absurd q
       go (Err y) q = ap Err q
 
-  pub passed_on : (f : Refusal) → Refuses f (Err e) → Refuses f r
+  pub passed_on : (f : Refusal) → Refuses {T = T} f (Err e) → Refuses f r
   passed_on f t = rw passed_is t
 
   -- by `ensure`: the number and the place that it was given
@@ -91,7 +91,7 @@ module _ (r : Result Unit Refused) (e : Refused) (passed : IsErrAnd r (λ y. y �
   told_by f rule place k t = passed_on f (rw (k.1, k.2) t)
 
   -- of a chain: the first refusal that is an error is the chain's
-  pub chain_stops : (a b : Refusal) → Refuses a (Err e) → Refuses (or_else a b) r
+  pub chain_stops : (a b : Refusal) → Refuses {T = T} a (Err e) → Refuses (or_else a b) r
   chain_stops a b t = passed_on (or_else a b) (or_else_told a b (number_of e.rule) e.place t (refuses e.rule))
 
 -- what `ensure` returns is the refusal of its test
@@ -102,8 +102,8 @@ kept_or kept rule place (Ok u) k = rw k (refl, refl)
 kept_or kept rule place (Err e) k = rw k.0 (ap number_of k.1, k.2)
 
 -- behind one that accepts, the chain is what is left of it
-pub accepts : (a : Refusal) → Refuses a (Ok tt) → a.number ≡ 0
+pub accepts : (a : Refusal) → Answers a 0 0 → a.number ≡ 0
 accepts a t = sym (answers_number a 0 0 t)
 
-pub chain_goes_on : (a b : Refusal) → Refuses a (Ok tt) → (r : Result Unit Refused) → Refuses b r → Refuses (or_else a b) r
+pub chain_goes_on : {T : Type 0} (a b : Refusal) → Answers a 0 0 → (r : Result T Refused) → Refuses b r → Refuses (or_else a b) r
 chain_goes_on a b t r u = or_else_next a b 0 0 t refl (number_told r) (place_told r) u

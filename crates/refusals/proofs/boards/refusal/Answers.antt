@@ -13,7 +13,7 @@ loop-r-init c = walked_none (sheet_in c.args.s.now)
 pub entry_is_good-requires : goal.entry_is_good-requires
 entry_is_good-requires c =
     let w = c.loop-r.invariant in
-    (c.requires, omega arith, w.sum_is, walked_inboxes w (omega arith) _ c.inbox-total.ensures.is)
+    (omega arith, w.sum_is, walked_inboxes w (omega arith) _ c.inbox-total.ensures.is)
 
 pub returns-in_err-ensure : goal.returns-in_err-ensure
 returns-in_err-ensure c =

@@ -4,7 +4,8 @@ use Rattle.rules.specs.Sheet.{sheet_in}
 use Rattle.rules.specs.Refusal.{op_good, ops_refusal}
 use Rattle.laws.specs.Tabled.{Tabled, tabled}
 use Rattle.laws.specs.Fields.{fielded}
-use Rattle.sheet.specs.Refused.{Refuses, accepts}
+use Rattle.rules.specs.Service.{Answers}
+use Rattle.sheet.specs.Refused.{accepts}
 use Rattle.refusals.proofs.check.tables.Goals as goal
 use Rattle.refusals.proofs.check.tables.Goals.{In_ok-refusal}
 
@@ -14,11 +15,11 @@ boards_settled c = tabled _ (accepts _ c.in_ok-refusal.ensures)
 pub refusal-requires-2 : goal.refusal-requires-2
 refusal-requires-2 c =
     let settled = boards_settled c in
-    (c.requires, settled, λ r l. search rules)
+    (settled, λ r l. search rules)
 
 pub requests-requires : goal.requests-requires
 unfolding ops_refusal
 requests-requires c =
     let s = sheet_in c.args.s.now in
-    let sixth : Refuses (ops_refusal s) (Ok tt) = c.in_ok-refusal-2.ensures 6 (op_good s) (omega arith) (λ r l said p. search rules) in
-    (c.requires, boards_settled (goal.at.requests-requires c).In_ok-refusal, fielded s (accepts _ sixth))
+    let sixth : Answers (ops_refusal s) 0 0 = c.in_ok-refusal-2.ensures 6 (op_good s) (omega arith) (λ r l said p. search rules) in
+    (boards_settled (goal.at.requests-requires c).In_ok-refusal, fielded s (accepts _ sixth))

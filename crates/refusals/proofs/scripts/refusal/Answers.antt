@@ -5,7 +5,7 @@ use Rattle.sheet.specs.Refused.{number_of, refuses, passed_on}
 use Rattle.refusals.proofs.scripts.refusal.Goals as goal
 
 pub loop-r-init : goal.loop-r-init
-loop-r-init g c = λ n f h t. passed_none c.requires.1 h
+loop-r-init g c = λ n f h t. passed_none c.requires.0 h
 
 pub returns-in_err-in_script : goal.returns-in_err-in_script
 returns-in_err-in_script g c =
