@@ -42,7 +42,8 @@ fn follow_in_rooms(
 {
     let mut held = Scratch::new(scratch);
     let outcome = follow::follow(sheet, order, &mut held);
-    if let Some(place) = outcome.refused_at {
+    let refused_at = outcome.refused_at;
+    if let Some(place) = refused_at {
         words::zero(scratch);
         return Err(Refusal {
             rule: Rule::Order,
