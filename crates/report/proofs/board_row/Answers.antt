@@ -1,26 +1,12 @@
 -- `report::board_row` meets its contract: the front, and in the second edition the room behind it. Assumes nothing.
-use Rattle.std.proofs.Common.{Bool, List, ap, arith, true, ℕ, ◌+◌, ◌∙◌}
-use Rattle.rules.specs.Limits.{board_row_size}
+use Rattle.std.proofs.Common.{List, ap, arith, true, ℕ, ◌+◌, ◌∙◌}
 use Rattle.rules.specs.Sheet.{sheet_in}
 use Rattle.rules.specs.Job.{Place}
 use Rattle.rules.specs.Step.{splice}
 use Rattle.rules.specs.Report.{board_row, room_bytes}
-use Rattle.laws.specs.Editions.{at_least_eight}
 use Rattle.state.proofs.Decodes.{place_is}
 use Rattle.report.specs.Report.{row_first, row_second}
 use Rattle.report.proofs.board_row.Goals as goal
-
-pub row_front-requires : goal.row_front-requires
-row_front-requires c =
-    (c.requires.0, c.requires.1, omega (arith, c.board_row_place-at.ensures, c.requires.2, (at_least_eight c.args.second).1))
-
-pub row_room-requires : goal.row_room-requires
-row_room-requires c =
-    let whole = ap (λ (e : Bool). board_row_size e) c.if-second.true in (
-      omega (arith, c.requires.1, c.requires.0.represents.good.boards_few),
-      c.requires.0.represents.decodes.roomy,
-      omega (arith, c.board_row_place-at.ensures, c.requires.2, whole),
-    )
 
 pub returns-then-second : goal.returns-then-second
 returns-then-second c =

@@ -10,10 +10,6 @@ loop-i-init c =
     let a = c.args in
     rowing_none (row_in a.c.now) a.at a.out.now (omega arith)
 
-pub op_row-requires : goal.op_row-requires
-op_row-requires c =
-    (omega arith, c.requires.1, omega (arith, c.requires.2, c.loop-i.invariant.size))
-
 pub loop-i-preserved : goal.loop-i-preserved
 loop-i-preserved c =
     let l = c.loop-i in

@@ -1,27 +1,13 @@
 -- `report::write` meets its contract: header, board rows and operation rows side by side are the report. Assumes
 -- nothing.
-use Rattle.std.proofs.Common.{Bool, ap, ap₂, arith, sym, ℕ, ◌∙◌}
-use Rattle.rules.specs.Limits.{report_header_size, board_rows_size}
+use Rattle.std.proofs.Common.{Bool, ap, ap₂, sym, ℕ, ◌∙◌}
+use Rattle.rules.specs.Limits.{report_header_size}
 use Rattle.rules.specs.Sheet.{second_in, sheet_in, P_of}
 use Rattle.rules.specs.Step.{splice}
 use Rattle.rules.specs.Report.{board_row}
 use Rattle.report.specs.Report.{report_whole}
 use Rattle.report.specs.ReportRows.{row_in, joined, board_row_at}
 use Rattle.report.proofs.write.Goals as goal
-
--- the edition that was read is the sheet's
-pub board_rows-requires : goal.board_rows-requires
-board_rows-requires c =
-    let p = P_of (sheet_in c.args.s.now) in
-    (c.requires.0, omega (arith, c.requires.1, ap (λ (e : Bool). board_rows_size e p) c.is_second-second.ensures))
-
-pub op_rows-requires : goal.op_rows-requires
-op_rows-requires c =
-    let l = c.requires.0.represents.laid in
-    let at =
-    c.board_row_place-at.ensures
-    ∙ ap₂ (λ (e : Bool) (k : ℕ). board_row_at e k) c.is_second-second.ensures (c.boards.ensures.is ∙ sym l.P_is) in
-    (omega (arith, l), c.requires.0.represents.decodes.roomy, omega (arith, at, c.requires.1, c.ops-n.ensures.is, l.N_is))
 
 pub returns : goal.returns
 returns c =
