@@ -6,62 +6,39 @@
 use account::Account;
 use limits::ANY;
 use std::io;
-use waiting::{Envelope, Found};
+use waiting::Envelope;
 
-fn number(rt: &impl Print, n: usize) -> io::Result<()> {
-    rt.print(n)
+fn account(size: usize, in_use: usize, peak: usize) -> Account {
+    Account { size, in_use, peak }
 }
 
-fn figures(rt: &impl Print, a: Account) -> io::Result<()> {
-    number(rt, a.size)?;
-    rt.print(" ")?;
-    number(rt, a.in_use)?;
-    rt.print(" ")?;
-    number(rt, a.peak)
+fn figures(rt: &HostRuntime, a: Account) -> io::Result<()> {
+    print!(rt; "{} {} {}", a.size, a.in_use, a.peak)
 }
 
 // An account that is charged n bytes.
-fn charge_line(
-    rt: &impl Print,
-    size: usize,
-    in_use: usize,
-    peak: usize,
-    n: usize,
-) -> io::Result<()> {
-    let r = account::charging(size, in_use, peak, n);
-    let ok = r.ok;
-    figures(rt, r.account)?;
-    if ok {
-        rt.println(" 1")
-    } else {
-        rt.println(" 0")
-    }
+fn charge_line(rt: &HostRuntime, mut a: Account, n: usize) -> io::Result<()> {
+    let taken = u8::from(a.charge(n));
+    figures(rt, a)?;
+    println!(rt; " {taken}")
 }
 
 // An account from which a charge of n bytes goes.
-fn release_line(
-    rt: &impl Print,
-    size: usize,
-    in_use: usize,
-    peak: usize,
-    n: usize,
-) -> io::Result<()> {
-    figures(rt, account::releasing(size, in_use, peak, n))?;
-    rt.println("")
+fn release_line(rt: &HostRuntime, mut a: Account, n: usize) -> io::Result<()> {
+    a.release(n);
+    figures(rt, a)?;
+    println!(rt; "")
 }
 
-fn found_line(rt: &impl Print, f: Found) -> io::Result<()> {
-    match f {
-        Found::Nothing => rt.println("none"),
-        Found::At(k) => {
-            number(rt, k)?;
-            rt.println("")
-        }
+fn found_line(rt: &HostRuntime, found: Option<usize>) -> io::Result<()> {
+    match found {
+        None => println!(rt; "none"),
+        Some(k) => println!(rt; "{k}"),
     }
 }
 
 // Four messages wait: from 0 in communicator 0 with tag 5; from 1 in 1 with 5; from 1 in 0 with 6; from 0 in 0 with 6.
-fn search_line(rt: &impl Print, source: usize, communicator: usize, tag: usize) -> io::Result<()> {
+fn search_line(rt: &HostRuntime, source: usize, communicator: usize, tag: usize) -> io::Result<()> {
     let sources = [0, 1, 1, 0];
     let communicators = [0, 1, 0, 0];
     let tags = [5, 5, 6, 6];
@@ -73,17 +50,17 @@ fn search_line(rt: &impl Print, source: usize, communicator: usize, tag: usize) 
 
 fn envelope(source: usize, communicator: usize, tag: usize, operation: usize) -> Envelope {
     Envelope {
-        source: source,
-        communicator: communicator,
-        tag: tag,
-        operation: operation,
+        source,
+        communicator,
+        tag,
+        operation,
     }
 }
 
 // The same four in an array, and after them messages from 1 in communicator 2 with tag 9, but for the one at place 1,000, which
 // is from 3 in communicator 2 with tag 9; the first `count` are searched.
 fn array_line(
-    rt: &impl Print,
+    rt: &HostRuntime,
     count: usize,
     source: usize,
     communicator: usize,
@@ -102,19 +79,19 @@ fn array_line(
     )
 }
 
-fn accounts(rt: &impl Print) -> io::Result<()> {
-    charge_line(rt, 10, 0, 0, 10)?;
-    charge_line(rt, 10, 0, 0, 11)?;
-    charge_line(rt, 10, 6, 8, 4)?;
-    charge_line(rt, 10, 6, 8, 5)?;
-    charge_line(rt, 10, 1, 8, 5)?;
-    charge_line(rt, 0, 0, 0, 0)?;
-    release_line(rt, 10, 6, 8, 6)?;
-    release_line(rt, 10, 6, 8, 5)?;
-    release_line(rt, 10, 3, 9, 5)
+fn accounts(rt: &HostRuntime) -> io::Result<()> {
+    charge_line(rt, account(10, 0, 0), 10)?;
+    charge_line(rt, account(10, 0, 0), 11)?;
+    charge_line(rt, account(10, 6, 8), 4)?;
+    charge_line(rt, account(10, 6, 8), 5)?;
+    charge_line(rt, account(10, 1, 8), 5)?;
+    charge_line(rt, account(0, 0, 0), 0)?;
+    release_line(rt, account(10, 6, 8), 6)?;
+    release_line(rt, account(10, 6, 8), 5)?;
+    release_line(rt, account(10, 3, 9), 5)
 }
 
-fn searches(rt: &impl Print) -> io::Result<()> {
+fn searches(rt: &HostRuntime) -> io::Result<()> {
     search_line(rt, 0, 0, 5)?;
     search_line(rt, ANY, 1, ANY)?;
     search_line(rt, 1, 0, ANY)?;
@@ -124,7 +101,7 @@ fn searches(rt: &impl Print) -> io::Result<()> {
     search_line(rt, ANY, 2, ANY)
 }
 
-fn arrays(rt: &impl Print) -> io::Result<()> {
+fn arrays(rt: &HostRuntime) -> io::Result<()> {
     array_line(rt, 4, 0, 0, 5)?;
     array_line(rt, 4, ANY, 1, ANY)?;
     array_line(rt, 4, 0, 0, 6)?;

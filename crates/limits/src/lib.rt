@@ -2,7 +2,7 @@
 // is made there and here.
 #![tactic(auto)]
 
-ghost use Rattle.std.specs.Prelude.{◌≡◌, ◌<◌};
+ghost use Rattle.std.specs.Prelude.{◌≡◌, cond, ◌*◌, ◌<◌, ◌≤◌};
 ghost use Rattle.rules.specs.Limits.{boards_size, board_rows_size, ops_at, payload_at, sheet_size, report_size, order_room};
 
 // "The sheet, byte by byte": boards, communicators, operations (document 02, K11) and payload bytes at the most.
@@ -71,18 +71,22 @@ pub const MOST_ORDER: usize = 2 * MOST_OPS;
 
 pub const SCRATCH_SIZE: usize = 65536;
 
-// The bytes of p board entries of an edition. What a size is and that it is small stand together, so that sums of sizes never
-// wrap.
+// The bytes of n entries of an edition, which have one size in the first and another in the second. What a size is and that it is
+// small stand together, so that sums of sizes never wrap.
+fn entries_size<const FIRST: usize, const SECOND: usize>(second: bool, n: usize) -> usize
+    requires { (n < 65536) × (FIRST ≤ 16) × (SECOND ≤ 16) }
+    ensures { (result ≡ cond second SECOND FIRST * n) × (result < 1048576) }
+{
+    if second { SECOND * n } else { FIRST * n }
+}
+
+// The bytes of p board entries.
 #[tactic(auto, unfolding(rules::specs::Limits::boards_size))]
 pub fn boards_size(second: bool, p: usize) -> usize
     requires { p < 65536 }
     ensures { (result ≡ boards_size second p) × (result < 1048576) }
 {
-    if second {
-        SECOND_BOARD_SIZE * p
-    } else {
-        BOARD_SIZE * p
-    }
+    entries_size::<BOARD_SIZE, SECOND_BOARD_SIZE>(second, p)
 }
 
 // The bytes of p board rows.
@@ -91,11 +95,7 @@ pub fn board_rows_size(second: bool, p: usize) -> usize
     requires { p < 65536 }
     ensures { (result ≡ board_rows_size second p) × (result < 1048576) }
 {
-    if second {
-        SECOND_BOARD_ROW_SIZE * p
-    } else {
-        BOARD_ROW_SIZE * p
-    }
+    entries_size::<BOARD_ROW_SIZE, SECOND_BOARD_ROW_SIZE>(second, p)
 }
 
 // Where the operation table stands in a sheet of p boards.

@@ -6,16 +6,19 @@
 --   and-..           a test that is made where the one before it holds
 --   candidate_read   so a candidate fits what was read exactly where rules' fit says so
 -- Assumes nothing.
-use Rattle.std.specs.Prelude.{◌≡◌, Bool, ◌&&◌, ℕ, eqb}
+use Rattle.std.specs.Prelude.{◌≡◌, Bool, ◌&&◌, List, ℕ, eqb}
 use Rattle.std.proofs.Math.Path.{refl}
 use Rattle.std.proofs.Common.{sym, ◌∙◌, ap, arith, eq-eqb}
 use Rattle.std.proofs.Math.Bool.{true, false}
 use Rattle.rules.specs.Limits.{any}
-use Rattle.rules.specs.Sheet.{Sheet, op, rank_of}
+use Rattle.rules.specs.Sheet.{Sheet, op, rank_of, two}
 use Rattle.waiting.specs.Envelopes.{is_asked, envelope_fits}
 use Rattle.waiting.proofs.Envelopes.{any_is_asked, named_is_asked}
 use Rattle.state.specs.declared.Queue.{Queue}
 use Rattle.state.specs.declared.Queue.TheVariants.{Messages, Receives}
+use Rattle.state.specs.Layout.{word_at}
+use Rattle.state.specs.Queues.{base_of}
+use Rattle.words.specs.Read.{Word}
 use Rattle.search.specs.declared.candidates.Asked.{Asked}
 use Rattle.search.specs.Search.{pair_fits, fits_read}
 
@@ -126,3 +129,9 @@ candidate_is Receives s i a j h =
 -- the same of a candidate whose number n was read, and of which b was answered
 pub candidate_read : (list : Queue) (s : Sheet) (i : ℕ) (a : Asked) (n j : ℕ) (b : Bool) → Asks s i a → n ≡ j → b ≡ candidate_fits list s a n → pair_fits list s i j ≡ b
 candidate_read list s i a n j b h e f = sym (f ∙ ap (λ (k : ℕ). candidate_fits list s a k) e ∙ candidate_is list s i a j h)
+
+-- and of the j-th of the list that stands at base
+pub candidate_told : (list : Queue) (s : Sheet) (i : ℕ) (a : Asked) (c : List ℕ) (base n j : ℕ) (b : Bool) → Asks s i a → base ≡ base_of list →
+    Word (two c (word_at base j)) n → b ≡ candidate_fits list s a n → pair_fits list s i (two c (word_at (base_of list) j)) ≡ b
+candidate_told list s i a c base n j b h e w f =
+    candidate_read list s i a n (two c (word_at (base_of list) j)) b h (w.is ∙ ap (λ (k : ℕ). two c (word_at k j)) e) f

@@ -1,6 +1,7 @@
 -- The earliest that fits: what a search over a waiting list in scratch has found is what rules' searches find (document 01,
 -- "How a board steps"). Assumes nothing.
 use Rattle.std.specs.Prelude.{◌≡◌, Option, None, Some, Bool, true, ◌&&◌, List, eqb, length}
+use Rattle.std.specs.Option.{MatchOption}
 use Rattle.std.proofs.Math.Path.{refl, ap, subst}
 use Rattle.std.proofs.Common.{sym, ◌∙◌, zero-add}
 use Rattle.std.proofs.Math.Bool.{false}
@@ -57,6 +58,17 @@ pub record FirstBelow (f : ℕ → Bool) (count k : ℕ) : Type 0 where
 abbrev pub First : (ℕ → Bool) → (count : ℕ) → Option ℕ → Type 0
 First f count None = (j : ℕ) → j < count → f j ≡ false
 First f count (Some k) = FirstBelow f count k
+
+pub first_of : (f : ℕ → Bool) (count : ℕ) (o : Option ℕ) →
+    MatchOption o ((j : ℕ) → 0 ≤ j → j < count → f j ≡ false)
+    (λ k. (0 ≤ k) × (k < count) × (f k ≡ true) × ((j : ℕ) → 0 ≤ j → j < k → f j ≡ false)) → First f count o
+first_of f count None h = λ j l. h j (omega arith) l
+first_of f count (Some k) h =
+    record {
+      inside = h.1;
+      before = λ j l. h.3 j (omega arith) l;
+      found = h.2;
+    }
 
 module _ (f : ℕ → Bool) (g : ℕ → ℕ) where
   tab_first : (i n k : ℕ) → k < n → ((j : ℕ) → j < k → f (g (i + j)) ≡ false) → f (g (i + k)) ≡ true → first_by f (tab g i n) ≡ some (g (i + k))

@@ -19,10 +19,5 @@ pub fn find(s: &[u8], c: &[u8], list: Queue, count: usize, i: usize) -> Option<u
 {
     let asked = candidates::asked_by(s, c, i);
     let base = list.base();
-    for k in 0..count {
-        if candidates::candidate_fits(s, c, list, asked, lists::word_of(c, base, k)) {
-            return Some(k);
-        }
-    }
-    None
+    (0..count).find(|k| candidates::candidate_fits(s, c, list, asked, lists::word_of(c, base, *k)))
 }

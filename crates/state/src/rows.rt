@@ -69,7 +69,8 @@ fn put_front(c: &mut [u8], at: usize, state: State, cut: bool, partner: usize)
     words::put_two(c, at + 2, partner);
 }
 
-// The whole row of operation i; its last two bytes are zero.
+// The whole row of operation i; its last two bytes are zero. Partner, source and tag are ABSENT where there is none, as in the
+// report: an Option of each would say no more.
 fn put_row(
     c: &mut [u8],
     i: usize,

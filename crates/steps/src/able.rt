@@ -7,6 +7,7 @@ ghost use Rattle.rules.specs.Step.{able};
 ghost use Rattle.simulation.specs.Represents.{Represents, Represented};
 ghost use Rattle.steps.specs.Able.{Next, RepresentedNext, can_go_on};
 
+use crate::parts;
 use sheet::{boards, header, ops};
 use state::{Control, places, rows, waits};
 
@@ -16,7 +17,7 @@ fn next_is_able(s: &[u8], c: &[u8], t: Control, r: usize, i: usize) -> bool
     ensures { (lent : List ℕ) (x : Job) → Represents s.now lent c.now t x →
         Next (sheet_in s.now) x r i → result ≡ can_go_on (sheet_in s.now) x r i }
 {
-    if !(places::waiting_of(c, r) | ops::is_only_half(s, i)) {
+    if !parts::in_half(s, c, r, i) {
         return true;
     }
     if ops::tells(s, i) {

@@ -1,7 +1,12 @@
-// The ends of the two parts of an operation: its initiating step and its waiting half (document 01, "How a board steps").
-ghost use Rattle.std.specs.Prelude.{◌<◌};
-ghost use Rattle.rules.specs.Sheet.{sheet_in, N_of};
+// The two parts of an operation, its initiating step and its waiting half (document 01, "How a board steps"): which one is next,
+// what ends each, and that an operation waits in a list.
+ghost use Rattle.std.specs.Prelude.{◌≡◌, ◌||◌, ◌<◌, ◌≤◌, length};
+ghost use Rattle.rules.specs.Limits.{most_boards, scratch_size};
+ghost use Rattle.rules.specs.Sheet.{sheet_in, op, only_half, N_of};
 ghost use Rattle.rules.specs.Step.{initiated, ended};
+ghost use Rattle.laws.specs.Laid.{Laid};
+ghost use Rattle.state.specs.Layout.{seat_at};
+ghost use Rattle.state.specs.Decoded.{place_in};
 ghost use Rattle.state.specs.Numbers.{state_number};
 ghost use Rattle.state.specs.Queues.{pended};
 ghost use Rattle.state.specs.Changes.{CanFinish};
@@ -10,7 +15,15 @@ ghost use Rattle.steps.specs.Parts.{Ends};
 ghost use Rattle.steps.specs.Pairing.{Unentered};
 
 use sheet::ops;
-use state::{Control, Queue, State, changes};
+use state::{Control, Queue, State, changes, places};
+
+// Operation i, the next of board r, is in its waiting half: its initiating step is made, or it has none.
+pub fn in_half(s: &[u8], c: &[u8], r: usize, i: usize) -> bool
+    requires { Laid s.now × (i < N_of (sheet_in s.now)) × (r < most_boards) × (scratch_size ≤ length c.now) }
+    ensures { result ≡ ((place_in c.now (seat_at r)).waiting || only_half (op (sheet_in s.now) i)) }
+{
+    places::waiting_of(c, r) || ops::is_only_half(s, i)
+}
 
 // After the initiating step of operation i: without a waiting half it is finished, else it is in its waiting half.
 pub fn initiate(s: &[u8], c: &mut [u8], t: Control, r: usize, i: usize)

@@ -36,11 +36,12 @@ fn buffer_or_stop(s: &[u8], c: &mut [u8], t: Control, r: usize, i: usize) -> Con
 }
 
 // Send i is a standard one, and its board r has a room: where it has none, nothing is kept, not even an empty message.
+#[tactic(auto, unfolding(crate::specs::Unmatched::has_room))]
 fn has_room(s: &[u8], r: usize, i: usize) -> bool
     requires { Laid s.now × (r < P_of (sheet_in s.now)) × (i < N_of (sheet_in s.now)) }
     ensures { result ≡ has_room (sheet_in s.now) r i }
 {
-    ops::is_standard(s, i) & (0 < boards::room(s, r))
+    ops::is_standard(s, i) && 0 < boards::room(s, r)
 }
 
 // A standard send is kept where its length fits its board's room; else it is pending, not complete, as a synchronous one is.

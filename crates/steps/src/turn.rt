@@ -9,7 +9,7 @@ ghost use Rattle.steps.specs.Initiate.{AbleBoard};
 ghost use Rattle.steps.specs.Turn.{moved};
 
 use crate::{initiating, parts};
-use sheet::{boards, ops};
+use sheet::boards;
 use state::{Control, places};
 
 // The step of board r, before it is counted.
@@ -18,7 +18,7 @@ fn uncounted(s: &[u8], c: &mut [u8], t: Control, r: usize) -> Control
     ensures { Simulates s.entry.now c.old t c.new result (AbleBoard r) (λ s x. moved s r x) }
 {
     let i = boards::first(s, r) + places::finished_of(c, r);
-    if places::waiting_of(c, r) | ops::is_only_half(s, i) {
+    if parts::in_half(s, c, r, i) {
         parts::end_half(s, c, t, r, i);
         return t;
     }

@@ -1,14 +1,15 @@
 -- What a search through waiting envelopes finds (specs/Envelopes): what any source or tag asks for, a fit by its parts, and that the
 -- first that passes from the front is the definition's. Assumes nothing.
-use Rattle.std.specs.Prelude.{◌≡◌, Bool, ◌&&◌, List, [], ◌∷◌, ℕ, zero, suc, ◌+◌, ◌<◌, ◌≤◌, min, eqb, leb, length, get_or, take}
+use Rattle.std.specs.Prelude.{None, Some, position, option_map, cond, not, nat_lt, ◌≡◌, Bool, ◌&&◌, List, [], ◌∷◌, ℕ, zero, suc, ◌+◌, ◌<◌, ◌≤◌, min, eqb, leb, length, get_or, take}
 use Rattle.std.proofs.Math.Path.{refl, sym}
 use Rattle.std.proofs.Common.{◌∙◌, ap, subst, arith, take_all, below_more, leb-true, leb-false, eq-eqb, ne_eqb}
 use Rattle.std.proofs.Math.Bool.{true, false}
+use Rattle.std.specs.List.{prefix_len}
+use Rattle.std.proofs.lemmas.Bool.{ltb-true, ltb-false, lt-ltb, le-ltb}
 use Rattle.rules.specs.Limits.{any, most_ops}
-use Rattle.laws.specs.Tests.{and_both, cond_true, cond_false}
+use Rattle.laws.specs.Tests.{and_both}
 use Rattle.waiting.specs.declared.Envelope.{Envelope}
-use Rattle.waiting.specs.declared.Found.TheVariants.{Nothing, At}
-use Rattle.waiting.specs.Envelopes.{envelope, is_asked, envelope_fits, fits_receive, one_on, first_place, earliest_fit, listed, Passed}
+use Rattle.waiting.specs.Envelopes.{envelope, is_asked, envelope_fits, fits_receive, earliest_fit, listed, Passed}
 
 pub any_is_asked : (asked told : ℕ) → asked ≡ any → true ≡ is_asked asked told
 any_is_asked asked told e = rw (eq-eqb asked any e) refl
@@ -63,27 +64,38 @@ take_fewer es n l = go (leb n most_ops) refl
 pub passed_on : (f : Envelope → Bool) (es : List Envelope) (k : ℕ) → Passed f es k → f (get_or es k (envelope 0 0 0 0)) ≡ false → Passed f es (k + 1)
 passed_on f es k past h = below_more (λ j. f (get_or es j (envelope 0 0 0 0)) ≡ false) k past h
 
-pub first_here : (f : Envelope → Bool) (es : List Envelope) (k : ℕ) → k < length es → Passed f es k → f (get_or es k (envelope 0 0 0 0)) ≡ true → At k ≡ first_place f es
-unfolding first_place one_on
-first_here f [] k l past h = absurd (omega arith)
-first_here f (e ∷ es) zero l past h = sym (cond_true (f e) (At 0) (one_on (first_place f es)) h)
-first_here f (e ∷ es) (suc k) l past h =
-    ap one_on (first_here f es k (omega arith) (λ j m. past (suc j) (omega arith)) h)
-    ∙ sym (cond_false (f e) (At 0) (one_on (first_place f es)) (past 0 (omega arith)))
+-- the library's position, seen from one place before it
+counted_on : (n l : ℕ) → cond (nat_lt (1 + n) (suc l)) (Some (1 + n)) None ≡ option_map suc (cond (nat_lt n l) (Some n) None)
+counted_on n l = go (nat_lt n l) refl
+  where
+    go : (b : Bool) → nat_lt n l ≡ b → cond (nat_lt (1 + n) (suc l)) (Some (1 + n)) None ≡ option_map suc (cond b (Some n) None)
+    go true h = rw (lt-ltb (1 + n) (suc l) (omega (arith, ltb-true n l h))) (ap Some (omega arith))
+    go false h = rw (le-ltb (1 + n) (suc l) (omega (arith, ltb-false n l h))) refl
 
-pub first_nowhere : (f : Envelope → Bool) (es : List Envelope) → Passed f es (length es) → Nothing ≡ first_place f es
-unfolding first_place one_on
+pub position_found : (f : Envelope → Bool) (e : Envelope) (es : List Envelope) → f e ≡ true → position f (e ∷ es) ≡ Some 0
+position_found f e es h = rw (h, lt-ltb 0 (suc (length es)) (omega arith)) refl
+
+pub position_on : (f : Envelope → Bool) (e : Envelope) (es : List Envelope) → f e ≡ false → position f (e ∷ es) ≡ option_map suc (position f es)
+position_on f e es h = rw h (counted_on (prefix_len (λ x. not (f x)) es) (length es))
+
+pub first_here : (f : Envelope → Bool) (es : List Envelope) (k : ℕ) → k < length es → Passed f es k → f (get_or es k (envelope 0 0 0 0)) ≡ true → Some k ≡ position f es
+first_here f [] k l past h = absurd (omega arith)
+first_here f (e ∷ es) zero l past h = sym (position_found f e es h)
+first_here f (e ∷ es) (suc k) l past h =
+    ap (option_map suc) (first_here f es k (omega arith) (λ j m. past (suc j) (omega arith)) h) ∙ sym (position_on f e es (past 0 (omega arith)))
+
+pub first_nowhere : (f : Envelope → Bool) (es : List Envelope) → Passed f es (length es) → None ≡ position f es
 first_nowhere f [] past = refl
 first_nowhere f (e ∷ es) past =
-    ap one_on (first_nowhere f es (λ j m. past (suc j) (omega arith))) ∙ sym (cond_false (f e) (At 0) (one_on (first_place f es)) (past 0 (omega arith)))
+    ap (option_map suc) (first_nowhere f es (λ j m. past (suc j) (omega arith))) ∙ sym (position_on f e es (past 0 (omega arith)))
 
 -- so a search through a list finds the definition's place
 module _ (es : List Envelope) (s c t k : ℕ) where
-  pub found_here : k < length es → Passed (λ e. fits_receive e s c t) es k → fits_receive (get_or es k (envelope 0 0 0 0)) s c t ≡ true → At k ≡ earliest_fit es s c t
+  pub found_here : k < length es → Passed (λ e. fits_receive e s c t) es k → fits_receive (get_or es k (envelope 0 0 0 0)) s c t ≡ true → Some k ≡ earliest_fit es s c t
   unfolding earliest_fit
   found_here l past h = first_here (λ e. fits_receive e s c t) es k l past h
 
-  pub found_nowhere : length es ≤ k → Passed (λ e. fits_receive e s c t) es k → Nothing ≡ earliest_fit es s c t
+  pub found_nowhere : length es ≤ k → Passed (λ e. fits_receive e s c t) es k → None ≡ earliest_fit es s c t
   unfolding earliest_fit
   found_nowhere l past = first_nowhere (λ e. fits_receive e s c t) es (λ j m. past j (omega arith))
 
@@ -115,11 +127,11 @@ module _ (ss cs ts : List ℕ) (p : length cs ≡ length ss) (q : length ts ≡ 
   listed_fit : k < length ss → fit (get_or (listed ss cs ts) k (envelope 0 0 0 0)) ≡ fit_at
   listed_fit l = ap fit (sym (listed_at ss cs ts k p q l))
 
-  pub searched_here : {b : Bool} → k < length ss → Passed fit (listed ss cs ts) k → b ≡ fit_at → b ≡ true → At k ≡ earliest_fit (listed ss cs ts) s c t
+  pub searched_here : {b : Bool} → k < length ss → Passed fit (listed ss cs ts) k → b ≡ fit_at → b ≡ true → Some k ≡ earliest_fit (listed ss cs ts) s c t
   searched_here l past e h = found_here (listed ss cs ts) s c t k (subst (λ (n : ℕ). k < n) (sym (listed_length ss cs ts p q)) l) past (listed_fit l ∙ (sym e ∙ h))
 
   pub searched_on : {b : Bool} → k < length ss → Passed fit (listed ss cs ts) k → b ≡ fit_at → b ≡ false → Passed fit (listed ss cs ts) (k + 1)
   searched_on l past e h = passed_on fit (listed ss cs ts) k past (listed_fit l ∙ (sym e ∙ h))
 
-  pub searched_nowhere : length ss ≤ k → Passed fit (listed ss cs ts) k → Nothing ≡ earliest_fit (listed ss cs ts) s c t
+  pub searched_nowhere : length ss ≤ k → Passed fit (listed ss cs ts) k → None ≡ earliest_fit (listed ss cs ts) s c t
   searched_nowhere l past = found_nowhere (listed ss cs ts) s c t k (subst (λ (n : ℕ). n ≤ k) (sym (listed_length ss cs ts p q)) l) past

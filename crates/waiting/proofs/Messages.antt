@@ -1,8 +1,8 @@
 -- In the waiting list of one receiver (specs/Messages) the earliest envelope that fits a receive is the message that rules'
 -- `first_message` gives. Assumes nothing.
-use Rattle.std.specs.Prelude.{◌≡◌, Bool, ◌&&◌, ◌||◌, ℕ}
+use Rattle.std.specs.Prelude.{None, Some, ◌≡◌, Bool, ◌&&◌, ◌||◌, ℕ}
 use Rattle.std.proofs.Math.Path.{refl, sym}
-use Rattle.std.proofs.Common.{◌∙◌}
+use Rattle.std.proofs.Common.{◌∙◌, ap, option_map, suc}
 use Rattle.std.proofs.Math.Bool.{true, false, cond}
 use mathlib.Core.List.{List, [], ◌∷◌}
 use Rattle.std.proofs.Math.Option.{Option, some}
@@ -11,15 +11,14 @@ use Rattle.rules.specs.Limits.{any}
 use Rattle.rules.specs.Sheet.{Sheet, op, rank_of}
 use Rattle.rules.specs.Step.{fits_with, first_by, first_message}
 use Rattle.waiting.specs.declared.Envelope.{Envelope}
-use Rattle.waiting.specs.declared.Found.{Found}
-use Rattle.waiting.specs.declared.Found.TheVariants.{Nothing, At}
-use Rattle.waiting.specs.Envelopes.{envelope_fits, fits_receive, one_on, first_place, earliest_fit}
+use Rattle.waiting.specs.Envelopes.{envelope_fits, fits_receive, earliest_fit}
+use Rattle.waiting.proofs.Envelopes.{position_found, position_on}
 use Rattle.waiting.specs.Messages.{envelope_of, waiting_for, operation_of}
 
-next_operation : (e : Envelope) (es : List Envelope) (found : Found) → operation_of (e ∷ es) (one_on found) ≡ operation_of es found
-unfolding operation_of one_on
-next_operation e es Nothing = refl
-next_operation e es (At k) = refl
+next_operation : (e : Envelope) (es : List Envelope) (found : Rattle.std.specs.Prelude.Option ℕ) → operation_of (e ∷ es) (option_map suc found) ≡ operation_of es found
+unfolding operation_of
+next_operation e es None = refl
+next_operation e es (Some k) = refl
 
 regroup : (x y z : Bool) → ((x && y) && z) ≡ (x && (y && z))
 regroup true y z = refl
@@ -47,15 +46,16 @@ module _ (s : Sheet) (r : ℕ) where
   -- a message in front that is the receiver's, and fits or doesn't
   front : (m : ℕ) (ms : List ℕ) → (test : Bool) → fits_r (envelope_of s m) ≡ test → Given ms
       → cond test (some m) (first_by (λ n. fits_with s n r) ms) ≡ found_in (envelope_of s m ∷ waiting_for s (rank_of s r) ms)
-  unfolding earliest_fit first_place first_message operation_of envelope_of
-  front m ms true e h = rw e refl
+  unfolding earliest_fit first_message operation_of envelope_of
+  front m ms true e h = ap (operation_of (envelope_of s m ∷ waiting_for s (rank_of s r) ms)) (sym (position_found fits_r (envelope_of s m) (waiting_for s (rank_of s r) ms) e))
   front m ms false e h =
-      rw e (h ∙ sym (next_operation (envelope_of s m) (waiting_for s (rank_of s r) ms)
-      (earliest_fit (waiting_for s (rank_of s r) ms) (op s r).peer (op s r).comm (op s r).tag)))
+      let rest = waiting_for s (rank_of s r) ms in
+      h ∙ (sym (next_operation (envelope_of s m) rest (earliest_fit rest (op s r).peer (op s r).comm (op s r).tag))
+      ∙ ap (operation_of (envelope_of s m ∷ rest)) (sym (position_on fits_r (envelope_of s m) rest e)))
 
   -- the earliest that fits, of the envelopes that wait for the receiver, is rules' message
   pub earliest_message : (ms : List ℕ) → Given ms
-  unfolding first_message first_by waiting_for earliest_fit first_place operation_of envelope_of
+  unfolding first_message first_by waiting_for earliest_fit operation_of envelope_of
   earliest_message [] = refl
   earliest_message (m ∷ ms) = go (eqb (op s m).peer (rank_of s r)) refl (earliest_message ms)
     where

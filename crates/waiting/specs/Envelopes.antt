@@ -1,11 +1,9 @@
 -- Envelopes of waiting messages, and the first in order of waiting that fits what a receive asks for (document 01, "How a board
 -- steps": fit, and the earliest that fits). What a search that goes from the front shows is proved in proofs/Envelopes. Assumes nothing.
-use Rattle.std.specs.Prelude.{◌≡◌, Bool, ◌&&◌, ◌||◌, cond, List, [], ◌∷◌, ℕ, suc, ◌<◌, eqb, get_or}
+use Rattle.std.specs.Prelude.{Option, position, ◌≡◌, Bool, ◌&&◌, ◌||◌, List, [], ◌∷◌, ℕ, ◌<◌, eqb, get_or}
 use Rattle.std.proofs.Math.Bool.{false}
 use Rattle.rules.specs.Limits.{any}
 use Rattle.waiting.specs.declared.Envelope.{Envelope}
-use Rattle.waiting.specs.declared.Found.{Found}
-use Rattle.waiting.specs.declared.Found.TheVariants.{Nothing, At}
 
 -- an envelope of plain numbers
 abbrev pub envelope : (source communicator tag operation : ℕ) → Envelope
@@ -30,19 +28,9 @@ envelope_fits sender context mark s c t = eqb context c && ((eqb s any || eqb s 
 abbrev pub fits_receive : Envelope → (source communicator tag : ℕ) → Bool
 fits_receive e s c t = envelope_fits e.source e.communicator e.tag s c t
 
--- a place in a list, seen from one place before it
-unfoldable pub one_on : Found → Found
-one_on Nothing = Nothing
-one_on (At k) = At (suc k)
-
--- the first that passes a test
-unfoldable pub first_place : (Envelope → Bool) → List Envelope → Found
-first_place f [] = Nothing
-first_place f (e ∷ es) = cond (f e) (At 0) (one_on (first_place f es))
-
--- the earliest that fits a receive
-unfoldable pub earliest_fit : List Envelope → (source communicator tag : ℕ) → Found
-earliest_fit es s c t = first_place (λ e. fits_receive e s c t) es
+-- the place of the earliest that fits a receive, none where none fits
+unfoldable pub earliest_fit : List Envelope → (source communicator tag : ℕ) → Option ℕ
+earliest_fit es s c t = position (λ e. fits_receive e s c t) es
 
 -- the list whose sources, communicators and tags stand apart, and whose operations don't matter
 unfoldable pub listed : (sources communicators tags : List ℕ) → List Envelope

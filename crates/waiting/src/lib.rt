@@ -4,9 +4,8 @@
 // callers that have envelopes in an array.
 #![tactic(auto)]
 
-ghost use Rattle.std.specs.Prelude.{◌≡◌, ◌<◌, min, length, get_or, take};
-ghost use Rattle.rules.specs.Limits.{most_ops};
-ghost use Rattle.waiting.specs.Envelopes.{envelope, is_asked, envelope_fits, fits_receive, earliest_fit, listed};
+ghost use Rattle.std.specs.Prelude.{◌≡◌, ◌<◌, length, get_or, take};
+ghost use Rattle.waiting.specs.Envelopes.{is_asked, envelope_fits, fits_receive, earliest_fit, listed};
 
 use limits::{ANY, MOST_OPS};
 
@@ -20,34 +19,29 @@ pub struct Envelope {
     pub operation: usize,
 }
 
-// The place of the envelope in the list, counted from 0; or that none fits.
-#[derive(Clone, Copy)]
-pub enum Found {
-    Nothing,
-    At(usize),
+impl Envelope {
+    // Fit (004) of a message that is addressed to the receiver: communicators equal; source equal or any; tag equal or any. Of its
+    // envelope those fields are read that decide: most messages are another sender's or have another tag, few are of another
+    // communicator.
+    #[tactic(auto, unfolding(crate::specs::Envelopes::envelope_fits))]
+    fn fits(&self, source: usize, communicator: usize, tag: usize) -> bool
+        ensures { result ≡ fits_receive self.now source communicator tag }
+    {
+        asks_for(source, self.source)
+            && asks_for(tag, self.tag)
+            && self.communicator == communicator
+    }
 }
 
 // A receive asks for a source or a tag, or for any.
 pub fn asks_for(asked: usize, told: usize) -> bool
     ensures { result ≡ is_asked asked told }
 {
-    (asked == ANY) | (asked == told)
+    asked == ANY || asked == told
 }
 
-// The same of the number at place i of a slice, which is read only where the receive names one.
-fn asks_for_at(asked: usize, told: &[usize], i: usize) -> bool
-    requires { i < length told.now }
-    ensures { result ≡ is_asked asked (get_or told.now i 0) }
-{
-    if asked == ANY {
-        return true;
-    }
-    asked == told[i]
-}
-
-// Fit (004) of the message at place i of three slices, which is addressed to the receiver: communicators equal; source equal or
-// any; tag equal or any. Of its numbers those are read that decide: most messages are another sender's or have another tag, few
-// are of another communicator.
+// The same fit of the message at place i of three slices.
+#[tactic(auto, unfolding(crate::specs::Envelopes::envelope_fits))]
 fn fits_at(
     sources: &[usize],
     communicators: &[usize],
@@ -61,16 +55,12 @@ fn fits_at(
     ensures { result ≡ envelope_fits (get_or sources.now i 0) (get_or communicators.now i 0) (get_or tags.now i 0)
         source communicator tag }
 {
-    if !asks_for_at(source, sources, i) {
-        return false;
-    }
-    if !asks_for_at(tag, tags, i) {
-        return false;
-    }
-    communicators[i] == communicator
+    (source == ANY || source == sources[i])
+        && (tag == ANY || tag == tags[i])
+        && communicators[i] == communicator
 }
 
-// The earliest of the messages whose sources, communicators and tags stand in three slices.
+// The place, counted from 0, of the earliest of the messages whose sources, communicators and tags stand in three slices.
 pub fn search(
     sources: &[usize],
     communicators: &[usize],
@@ -78,57 +68,24 @@ pub fn search(
     source: usize,
     communicator: usize,
     tag: usize,
-) -> Found
+) -> Option<usize>
     requires { (length communicators.now ≡ length sources.now) × (length tags.now ≡ length sources.now) }
     ensures { result ≡ earliest_fit (listed sources.now communicators.now tags.now) source communicator tag }
 {
-    let mut i = 0;
-    while i < sources.len() {
+    for i in 0..sources.len() {
         if fits_at(sources, communicators, tags, i, source, communicator, tag) {
-            return Found::At(i);
+            return Some(i);
         }
-        i += 1;
     }
-    Found::Nothing
+    None
 }
 
-// The fit of the message at place k of a lent list. Of its envelope those fields are read that decide, as in `fits_at`.
-fn fits_in(list: &[Envelope], k: usize, source: usize, communicator: usize, tag: usize) -> bool
-    requires { k < length list.now }
-    ensures { result ≡ fits_receive (get_or list.now k (envelope 0 0 0 0)) source communicator tag }
-{
-    if source != ANY {
-        if list[k].source != source {
-            return false;
-        }
-    }
-    if tag != ANY {
-        if list[k].tag != tag {
-            return false;
-        }
-    }
-    list[k].communicator == communicator
-}
-
-// The earliest of a lent list of envelopes.
-pub fn earliest(list: &[Envelope], source: usize, communicator: usize, tag: usize) -> Found
+// The place of the earliest of a lent list of envelopes.
+#[tactic(auto, unfolding(crate::specs::Envelopes::earliest_fit))]
+pub fn earliest(list: &[Envelope], source: usize, communicator: usize, tag: usize) -> Option<usize>
     ensures { result ≡ earliest_fit list.now source communicator tag }
 {
-    let mut k = 0;
-    while k < list.len() {
-        if fits_in(list, k, source, communicator, tag) {
-            return Found::At(k);
-        }
-        k += 1;
-    }
-    Found::Nothing
-}
-
-// How many of an array's envelopes wait: the count, or all of them where it exceeds their number.
-fn waiting_of(count: usize) -> usize
-    ensures { result ≡ min count most_ops }
-{
-    if count < MOST_OPS { count } else { MOST_OPS }
+    list.iter().position(|e| e.fits(source, communicator, tag))
 }
 
 // The earliest of the first `count` envelopes of an array; of all, where the count exceeds their number.
@@ -138,9 +95,8 @@ pub fn earliest_of(
     source: usize,
     communicator: usize,
     tag: usize,
-) -> Found
+) -> Option<usize>
     ensures { result ≡ earliest_fit (take count list) source communicator tag }
 {
-    let first = waiting_of(count);
-    earliest(&list[..first], source, communicator, tag)
+    earliest(&list[..count.min(MOST_OPS)], source, communicator, tag)
 }

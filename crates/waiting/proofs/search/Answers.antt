@@ -1,5 +1,4 @@
--- `waiting::search` meets its contract. The loop's invariant: none of the i passed fits. The measure is how many are left.
--- Assumes nothing.
+-- `waiting::search` meets its contract. The loop's invariant: none of the i passed fits. Assumes nothing.
 use Rattle.std.proofs.Common.{arith}
 use Rattle.waiting.proofs.Envelopes.{searched_here, searched_on, searched_nowhere}
 use Rattle.waiting.proofs.search.Goals as goal
@@ -34,6 +33,3 @@ returns c =
     let l = c.loop-i in
     searched_nowhere a.sources.now a.communicators.now a.tags.now p.0 p.1 a.source a.communicator a.tag l.i
     c.loop-i-test.false l.invariant.1
-
-pub loop-i-smaller : goal.loop-i-smaller
-loop-i-smaller c = omega arith
