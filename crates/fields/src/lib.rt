@@ -8,8 +8,8 @@ ghost use Rattle.laws.specs.Tabled.{Tabled};
 ghost use Rattle.laws.specs.Scripts.{script_broken};
 ghost use Rattle.sheet.specs.Refused.{Refuses};
 
-use sheet::refusal::{Refusal, Rule, first_broken};
 use sheet::Sheet;
+use sheet::refusal::{Refusal, Rule, first_broken};
 
 // Peer, communicator and tag of a send, a receive or a probe, among p boards and so many communicators.
 fn envelope_is_good(s: &Sheet, i: usize, p: usize, comms: usize) -> bool
@@ -60,11 +60,7 @@ fn probe_is_good(s: &Sheet, i: usize) -> bool
     requires { i < N_of (sheet_in s.now) }
     ensures { result ≡ probe_good (op (sheet_in s.now) i) }
 {
-    s.flag(i) == 0
-        && s.zero_field(i) == 0
-        && s.offset(i) == 0
-        && s.long(i) == 0
-        && s.slot(i) == 0
+    s.flag(i) == 0 && s.zero_field(i) == 0 && s.offset(i) == 0 && s.long(i) == 0 && s.slot(i) == 0
 }
 
 // A receive's room is its board's inbox, a send's the payload.
@@ -72,15 +68,18 @@ fn room(s: &Sheet, i: usize, inbox: usize, payload: usize) -> usize
     requires { i < N_of (sheet_in s.now) }
     ensures { result ≡ cond (is_receive (op (sheet_in s.now) i)) inbox payload }
 {
-    if s.is_receive(i) {
-        inbox
-    } else {
-        payload
-    }
+    if s.is_receive(i) { inbox } else { payload }
 }
 
 // The fields of one operation, among p boards and so many communicators, with the sizes of its board's inbox and of the payload.
-fn fields_are_good(s: &Sheet, i: usize, p: usize, comms: usize, inbox: usize, payload: usize) -> bool
+fn fields_are_good(
+    s: &Sheet,
+    i: usize,
+    p: usize,
+    comms: usize,
+    inbox: usize,
+    payload: usize,
+) -> bool
     requires { i < N_of (sheet_in s.now) }
     ensures { result ≡ fields_good p comms (cond (is_receive (op (sheet_in s.now) i)) inbox payload) (op (sheet_in s.now) i) }
 {

@@ -4,8 +4,8 @@ ghost use Rattle.rules.specs.Sheet.{sheet_in, P_of, counts_before, inbox_start};
 ghost use Rattle.rules.specs.Refusal.{board_good, boards_refusal};
 ghost use Rattle.sheet.specs.Refused.{Refuses};
 
-use sheet::refusal::{Refusal, Rule, ensure};
 use sheet::Sheet;
+use sheet::refusal::{Refusal, Rule, ensure};
 
 // Board r's entry is good, with the counts of the boards before it and the inboxes up to it.
 #[tactic(auto, unfolding(rules::specs::Refusal::board_good))]

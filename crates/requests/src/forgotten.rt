@@ -8,8 +8,8 @@ ghost use Rattle.laws.specs.Tabled.{Tabled};
 ghost use Rattle.laws.specs.Fields.{Fielded};
 ghost use Rattle.laws.specs.Scripts.{script_broken};
 
-use sheet::refusal::{Refusal, Rule};
 use sheet::Sheet;
+use sheet::refusal::{Refusal, Rule};
 
 // The first operation of board r's script that takes a slot which nothing behind it frees. The table is written only where a
 // slot is freed: with a store in each turn, each would wait for the one before.

@@ -14,8 +14,8 @@ ghost use Rattle.requests.specs.Slots.{hit, table_good, starts_after, ends_after
 
 pub mod forgotten;
 
-use sheet::refusal::{Refusal, Rule};
 use sheet::Sheet;
+use sheet::refusal::{Refusal, Rule};
 
 // The start of a slot that nobody holds: a number and no Option, so that `any_hit` compares every row in the same way.
 const FREE: u16 = limits::ABSENT as u16;

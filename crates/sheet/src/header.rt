@@ -1,4 +1,5 @@
-// The header: field readers (document 01, "The sheet, byte by byte"), and the edition that its offsets tell (document 02, K6).
+// The header: field readers (document 01, "The sheet, byte by byte"), and the edition that its offsets tell (document 02, K6). The
+// functions read any bytes that are as long as a header, as refusals 2 to 4 need them; the methods read a sheet.
 #![tactic(auto, unfolding(rules::specs::Sheet::second_in))]
 
 ghost use Rattle.std.specs.Prelude.{◌≡◌, ◌<◌, length};

@@ -1,6 +1,7 @@
 // The kinds of operations (document 01, "The sheet, byte by byte"; probes and queries: document 02, K9).
 ghost use Rattle.sheet.specs.Kinds.{Names};
 
+// What an operation is.
 #[derive(Clone, Copy, PartialEq, Eq)]
 pub enum Kind {
     Standard,

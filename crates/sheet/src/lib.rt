@@ -1,6 +1,6 @@
-// The bytes of a job sheet (document 01, "The sheet, byte by byte"; document 02, K6): readers of its fields, tests of an operation's
-// roles, and what it says of a board's stores. No other crate knows where a field stands, which edition a sheet is of, or what
-// number a kind has.
+// A job sheet (document 01, "The sheet, byte by byte"; document 02, K6): readers of its fields, tests of an operation's roles, what it
+// says of a board's stores, and what is told of one that is refused. No other crate knows where a field stands, which edition a sheet
+// is of, or what number a kind has.
 #![tactic(auto)]
 
 ghost use Rattle.std.specs.Prelude.{◌≡◌, List, ℕ};

@@ -95,7 +95,7 @@ impl Sheet<'_> {
         words::two_at(self.bytes, at(self.bytes, i) + 14)
     }
 
-    // KINDS: 1 standard, 2 buffered, 3 synchronous, 4 ready send, 5 receive, 6 wait, 7 blocking probe, 8 status query. A send.
+    // TESTS OF KINDS. A send, of any mode.
     pub fn is_send(&self, i: usize) -> bool
         requires { i < N_of (sheet_in self.now) }
         ensures { result ≡ is_send (op (sheet_in self.now) i) }

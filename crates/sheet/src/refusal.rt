@@ -26,6 +26,7 @@ pub enum Rule {
     StandardRoom,
 }
 
+// A broken rule, and the place that is told of it.
 #[derive(Clone, Copy, PartialEq, Eq)]
 pub struct Refusal {
     pub rule: Rule,

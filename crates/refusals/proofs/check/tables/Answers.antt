@@ -1,5 +1,5 @@
 -- `refusals::check::tables` meets its contract: each refusal that accepts settles what the next one asks. Assumes nothing.
-use Rattle.std.proofs.Common.{arith, rules, Ok}
+use Rattle.std.proofs.Common.{arith, rules}
 use Rattle.rules.specs.Sheet.{sheet_in}
 use Rattle.rules.specs.Refusal.{op_good, ops_refusal}
 use Rattle.laws.specs.Tabled.{Tabled, tabled}
