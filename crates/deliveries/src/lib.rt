@@ -41,6 +41,7 @@ fn deliver_message(s: &Sheet, m: usize, r: usize, start: usize, inbox: &mut [u8]
 }
 
 // Operation i: a receive that is matched has its message delivered.
+#[tactic(auto, unfolding(crate::specs::Deliveries::replay_in))]
 fn deliver_one(s: &Sheet, c: &Scratch, i: usize, start: usize, inbox: &mut [u8])
     requires { Deliverable s.now c.now × (i < N_of (sheet_in s.now))
         × InboxAt (sheet_in s.now) (rank_of (sheet_in s.now) i) start inbox.old }

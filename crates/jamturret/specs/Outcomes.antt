@@ -60,10 +60,9 @@ module _ (bs : List ℕ) (i r o c n p : ℕ) (t : Answers (run_refusal bs i r o 
         }
 
 -- THE END of a job that stands in scratch
-pub record Finished (bs : List ℕ) (t : Control) (i i_now r r_now c c_now : List ℕ) : Type 0 where
+pub record Finished (bs : List ℕ) (t : Control) (i i_now r r_now c : List ℕ) : Type 0 where
   pub delivered : (x : Job) → Represents bs i c t x → i_now ≡ x.memory
   pub reported : (x : Job) → Represents bs i c t x → r_now ≡ in_front (report (second_in bs) (sheet_in bs) x) r
-  pub zeroed : c_now ≡ replicate (length c) 0
 
 -- FOLLOW, past sheet and rooms
 unfoldable pub FollowDoes : (sheet order : List ℕ) → (number place : ℕ) →
@@ -83,11 +82,10 @@ does_refused bs o i r c c_now k x e z = rw e ((refl, refl), refl, refl, z)
 
 -- `d` is scratch as the steps left it
 pub does_followed : (bs o : List ℕ) {i i_now r r_now : List ℕ} (c : List ℕ) {c_now d : List ℕ} {t : Control} (x : Job) →
-    follow (sheet_in bs) o i ≡ followed none x → Represents bs i d t x → length d ≡ length c →
-    Finished bs t i i_now r r_now d c_now → FollowDoes bs o 0 0 i i_now r r_now c c_now
+    follow (sheet_in bs) o i ≡ followed none x → Represents bs i d t x → Finished bs t i i_now r r_now d →
+    c_now ≡ replicate (length c) 0 → FollowDoes bs o 0 0 i i_now r r_now c c_now
 unfolding FollowDoes followed order_refusal refusal Answers kept_or
-does_followed bs o c x e h l q =
-    rw e ((refl, refl), q.delivered x h, q.reported x h, q.zeroed ∙ ap (λ (n : ℕ). replicate n 0) l)
+does_followed bs o c x e h q z = rw e ((refl, refl), q.delivered x h, q.reported x h, z)
 
 module _ (bs o i r c : List ℕ) where
   abbrev rooms : Refusal
@@ -140,10 +138,10 @@ RunDoes bs i i_now r r_now o o_now c c_now =
     × (c_now ≡ replicate (length c) 0)
 
 pub does_run : (bs : List ℕ) {i i_now r r_now o_now : List ℕ} (o c : List ℕ) {c_now d : List ℕ} (taken : List ℕ) {t : Control} (x : Job) →
-    run (sheet_in bs) i ≡ ran taken x → Represents bs i d t x → length d ≡ length c → Finished bs t i i_now r r_now d c_now →
-    o_now ≡ in_front taken o → RunDoes bs i i_now r r_now o o_now c c_now
+    run (sheet_in bs) i ≡ ran taken x → Represents bs i d t x → Finished bs t i i_now r r_now d →
+    o_now ≡ in_front taken o → c_now ≡ replicate (length c) 0 → RunDoes bs i i_now r r_now o o_now c c_now
 unfolding RunDoes ran
-does_run bs o c taken x e h l q w = rw e (q.delivered x h, q.reported x h, w, q.zeroed ∙ ap (λ (n : ℕ). replicate n 0) l)
+does_run bs o c taken x e h q w z = rw e (q.delivered x h, q.reported x h, w, z)
 
 module _ (bs i r o c : List ℕ) where
   abbrev run_rooms : Refusal

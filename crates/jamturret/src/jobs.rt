@@ -11,25 +11,24 @@ ghost use Rattle.jamturret.specs.Outcomes.{Finished, FollowDoes, RunDoes};
 
 use crate::rooms;
 use orders::{follow, run};
+use sheet::Sheet;
 use sheet::refusal::{Refusal, Rule};
-use state::Control;
+use state::{Control, Scratch};
 
-// The end of both, for the job that stands in scratch: its deliveries, its report, and scratch zeroed.
-fn finish(sheet: &[u8], scratch: &mut [u8], t: Control, inbox: &mut [u8], out: &mut [u8])
-    requires { Represented sheet.now scratch.old t × (inbox_total (sheet_in sheet.now) ≤ length inbox.old)
+// The end of both, for the job that stands in scratch: its deliveries and its report.
+fn finish(sheet: &Sheet, scratch: &Scratch, t: Control, inbox: &mut [u8], out: &mut [u8])
+    requires { Represented sheet.now scratch.now t × (inbox_total (sheet_in sheet.now) ≤ length inbox.old)
         × (report_size (second_in sheet.now) (P_of (sheet_in sheet.now)) (N_of (sheet_in sheet.now)) ≤ length out.old) }
-    ensures { Finished sheet.now t inbox.old inbox.new out.old out.new
-        scratch.old scratch.new }
+    ensures { Finished sheet.now t inbox.old inbox.new out.old out.new scratch.now }
 {
     deliveries::deliver(sheet, scratch, inbox);
     report::write(sheet, scratch, t, out);
-    words::zero(scratch);
 }
 
 // Follow where sheet and rooms are accepted: refusal 9 at the first rank of the order that isn't able, or the job that the order
 // leads to.
 fn follow_in_rooms(
-    sheet: &[u8],
+    sheet: &Sheet,
     order: &[u8],
     inbox: &mut [u8],
     out: &mut [u8],
@@ -37,36 +36,41 @@ fn follow_in_rooms(
 ) -> Result<(), Refusal>
     requires { Ready sheet.now (length inbox.old) (length out.old) (order_room (N_of (sheet_in sheet.now)))
         (length scratch.old) }
-    ensures { FollowDoes sheet.now order.now (number_told result) (place_told result)
+    ensures { FollowDoes sheet.entry.now order.entry.now (number_told result) (place_told result)
         inbox.old inbox.new out.old out.new
         scratch.old scratch.new }
 {
-    let outcome = follow::follow(sheet, order, scratch);
-    if outcome.refused {
+    let mut held = Scratch::new(scratch);
+    let outcome = follow::follow(sheet, order, &mut held);
+    let refused_at = outcome.refused_at;
+    if let Some(place) = refused_at {
         words::zero(scratch);
         return Err(Refusal {
             rule: Rule::Order,
-            place: outcome.at,
+            place,
         });
     }
-    finish(sheet, scratch, outcome.control, inbox, out);
+    finish(sheet, &held, outcome.control, inbox, out);
+    words::zero(scratch);
     Ok(())
 }
 
 // Run where sheet and rooms are accepted: the job that the desk's own choice leads to, and that order written down.
 fn run_in_rooms(
-    sheet: &[u8],
+    sheet: &Sheet,
     inbox: &mut [u8],
     out: &mut [u8],
     order: &mut [u8],
     scratch: &mut [u8],
 )
     requires { Ready sheet.now (length inbox.old) (length out.old) (length order.old) (length scratch.old) }
-    ensures { RunDoes sheet.now inbox.old inbox.new out.old out.new
+    ensures { RunDoes sheet.entry.now inbox.old inbox.new out.old out.new
         order.old order.new scratch.old scratch.new }
 {
-    let t = run::run(sheet, scratch, order);
-    finish(sheet, scratch, t, inbox, out);
+    let mut held = Scratch::new(scratch);
+    let t = run::run(sheet, &mut held, order);
+    finish(sheet, &held, t, inbox, out);
+    words::zero(scratch);
 }
 
 // A call of follow. It is lent no room for an order: the longest one is never short.
@@ -81,14 +85,14 @@ pub fn follow(
         inbox.old inbox.new report.old report.new
         scratch.old scratch.new }
 {
-    rooms::refusal(
+    let sheet = rooms::refusal(
         sheet,
         inbox.len(),
         report.len(),
         limits::MOST_ORDER,
         scratch.len(),
     )?;
-    follow_in_rooms(sheet, order, inbox, report, scratch)
+    follow_in_rooms(&sheet, order, inbox, report, scratch)
 }
 
 // A call of run.
@@ -103,7 +107,7 @@ pub fn run(
         inbox.old inbox.new report.old report.new
         order.old order.new scratch.old scratch.new }
 {
-    rooms::refusal(sheet, inbox.len(), report.len(), order.len(), scratch.len())?;
-    run_in_rooms(sheet, inbox, report, order, scratch);
+    let sheet = rooms::refusal(sheet, inbox.len(), report.len(), order.len(), scratch.len())?;
+    run_in_rooms(&sheet, inbox, report, order, scratch);
     Ok(())
 }

@@ -5,7 +5,7 @@ ghost use Rattle.judge.specs.Calls.{Ran, Reported, Lines};
 
 use crate::rooms;
 use jamturret::{jamturret_premise, jamturret_run};
-use sheet::Answer;
+use sheet::{Answer, Sheet};
 
 // The longest line: three places a byte of a report.
 pub const LINE_SIZE: usize = 3 * limits::MOST_REPORT;
@@ -65,7 +65,7 @@ fn reported(sheet: &[u8], report: &[u8], line: &mut [u8], told: &mut [u8]) -> Si
     requires { Reported sheet.now report.now × (line_size ≡ length line.old) × (told_size ≡ length told.old) }
     ensures { Lines (report_line sheet.now) (facts_line sheet.now) result.line line.new result.told told.new }
 {
-    let own = report::size(sheet);
+    let own = report::size(&Sheet::new(sheet));
     text::hex_line(&report[..own], line);
     let answer = jamturret_premise(sheet);
     let numbers = facts(report, answer.number as u64, answer.place);

@@ -8,7 +8,8 @@ use sheet::Sheet;
 use state::{Control, Scratch};
 use steps::able;
 
-// That rank, if any board is able.
+// That rank, if any board is able. A closure for `find` would want a contract of its own: what `is_able` says is of every job that
+// stands in scratch, which is not inferred.
 pub fn lowest(s: &Sheet, c: &Scratch, t: Control) -> Option<usize>
     requires { Represented s.now c.now t }
     ensures { Every s.now c.now t (λ x. Lowest (sheet_in s.now) x result) }

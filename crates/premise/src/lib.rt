@@ -34,6 +34,6 @@ fn calm(s: &Sheet) -> Result<(), Refusal>
 pub fn premise(sheet: &[u8]) -> Result<(), Refusal>
     ensures { Refuses (premise_refusal sheet.now) result }
 {
-    check::check(sheet)?;
-    calm(sheet)
+    let sheet = check::check(sheet)?;
+    calm(&sheet)
 }

@@ -223,7 +223,7 @@ fn stop_op(t: Control) -> usize
     t.stop.map_or(limits::ABSENT, |stop| stop.op)
 }
 
-// Whether operation i is a pending message: state 2, buffered, counts as one.
+// Whether operation i is a pending message: a buffered one counts, too.
 #[tactic(auto, unfolding(crate::specs::ReportCounts::message_row))]
 fn message_at(s: &Sheet, c: &Scratch, i: usize) -> bool
     requires { i < N_of (sheet_in s.now) }

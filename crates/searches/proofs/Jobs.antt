@@ -1,6 +1,6 @@
 -- The loop that adds up what the engine's searches find in a job comes to the definition's sum (specs/Jobs), and each thing that is
 -- not so to 0. Assumes nothing.
-use Rattle.std.specs.Prelude.{◌≡◌, Bool, ◌&&◌, cond, List, eqb, leb, replicate}
+use Rattle.std.specs.Prelude.{Option as Found, None, Some, unwrap_or, ◌≡◌, Bool, ◌&&◌, cond, List, eqb, leb, replicate}
 use Rattle.std.proofs.Math.Path.{refl, sym, ap, subst}
 use Rattle.std.proofs.Common.{◌∙◌, add-zero, zero-add, eq-eqb, ne_eqb, le-leb}
 use Rattle.std.proofs.Math.Bool.{true, false}
@@ -38,12 +38,21 @@ module _ (f : ℕ → Bool) (g : ℕ → ℕ) where
       (λ h. subst (λ (m : ℕ). f (g m) ≡ true) (omega arith) (t (omega arith))))
       ∙ sym (cond_false (f (g i)) 0 (suc (place_by f (tab g (suc i) n))) (subst (λ (m : ℕ). f (g m) ≡ false) (add-zero i) (b 0 (omega arith))))
 
-pub first_place_by : (f : ℕ → Bool) (c : List ℕ) (base count k : ℕ) → First (λ j. f (two c (word_at base j))) count k → k ≡ place_by f (words_in c base count)
+pub first_place_by : (f : ℕ → Bool) (c : List ℕ) (base count : ℕ) (o : Found ℕ) → First (λ j. f (two c (word_at base j))) count o
+    → unwrap_or o count ≡ place_by f (words_in c base count)
 unfolding words_in
-first_place_by f c base count k h =
+first_place_by f c base count None h =
     let g : ℕ → ℕ = λ j. two c (word_at base j) in
-    tab_place f g 0 count k h.within (λ j q. subst (λ (m : ℕ). f (g m) ≡ false) (sym (zero-add j)) (h.before j q))
-    (λ q. subst (λ (m : ℕ). f (g m) ≡ true) (sym (zero-add k)) (h.found q))
+    tab_place f g 0 count count (omega arith) (λ j q. subst (λ (m : ℕ). f (g m) ≡ false) (sym (zero-add j)) (h j q)) (λ q. absurd (omega arith))
+first_place_by f c base count (Some k) h =
+    let g : ℕ → ℕ = λ j. two c (word_at base j) in
+    tab_place f g 0 count k (omega (arith, h.inside)) (λ j q. subst (λ (m : ℕ). f (g m) ≡ false) (sym (zero-add j)) (h.before j q))
+    (λ q. subst (λ (m : ℕ). f (g m) ≡ true) (sym (zero-add k)) h.found)
+
+-- what is found is one of those that wait, or their number
+pub first_within : (f : ℕ → Bool) (count : ℕ) (o : Found ℕ) → First f count o → unwrap_or o count ≤ count
+first_within f count None h = omega arith
+first_within f count (Some k) h = omega (arith, h.inside)
 
 places_step : (s : Sheet) (ms : List ℕ) (i n : ℕ) → sum_places s ms i (suc n) ≡ place_by (λ m. fits_with s m i) ms + sum_places s ms (suc i) n
 unfolding sum_places
@@ -78,10 +87,10 @@ places_all s ms i n j total l e =
     omega (arith, e, g, places_zero s ms (i + j))
 
 -- what a search over scratch has found, of the pending messages
-pub found_place : (s : Sheet) (c : List ℕ) (count i k : ℕ) → First (λ j. pair_fits Messages s i (two c (word_at (base_of Messages) j))) count k →
-    k ≡ place_by (λ m. fits_with s m i) (words_in c (base_of Messages) count)
+pub found_place : (s : Sheet) (c : List ℕ) (count i : ℕ) (o : Found ℕ) → First (λ j. pair_fits Messages s i (two c (word_at (base_of Messages) j))) count o →
+    unwrap_or o count ≡ place_by (λ m. fits_with s m i) (words_in c (base_of Messages) count)
 unfolding pair_fits
-found_place s c count i k h = first_place_by (λ m. fits_with s m i) c (base_of Messages) count k h
+found_place s c count i o h = first_place_by (λ m. fits_with s m i) c (base_of Messages) count o h
 
 -- THE ANSWER: of the job that the order led to, and where nothing is asked
 pub found_in_job : (bs order c : List ℕ) (t : Control) (x : Job) → Decodes (sheet_in bs) c t x → (i n r : ℕ) (o : Option ℕ) →

@@ -1,9 +1,7 @@
 // The engine's search in a job that an order leads to, made by one receive after another, so that it can be timed: a search does not
 // change scratch.
-ghost use Rattle.std.specs.Prelude.{◌≡◌, ◌+◌, ◌≤◌, length};
-ghost use Rattle.rules.specs.Limits.{scratch_size};
+ghost use Rattle.std.specs.Prelude.{◌≡◌, ◌+◌, ◌≤◌};
 ghost use Rattle.rules.specs.Sheet.{sheet_in, N_of};
-ghost use Rattle.laws.specs.Laid.{Laid};
 ghost use Rattle.invariant.specs.sheet.Valid.{Valid};
 ghost use Rattle.state.specs.declared.Queue.TheVariants.{Messages};
 ghost use Rattle.state.specs.Queues.{base_of};
@@ -12,29 +10,27 @@ ghost use Rattle.search.specs.Search.{Readable, Listed};
 ghost use Rattle.searches.specs.Jobs.{sum_places, places_in_job};
 
 use orders::follow;
-use state::{Queue, controls};
+use sheet::Sheet;
+use state::{Queue, Scratch};
 
 // The places that n receives from operation i on find among `count` pending messages, added up.
-fn places(s: &[u8], c: &[u8], count: usize, i: usize, n: usize) -> usize
+fn places(s: &Sheet, c: &Scratch, count: usize, i: usize, n: usize) -> usize
     requires { Readable s.now c.now × Listed s.now c.now Messages count × (i + n ≤ N_of (sheet_in s.now)) }
     ensures { result ≡ sum_places (sheet_in s.now) (words_in c.now (base_of Messages) count) i n }
 {
-    let mut total: usize = 0;
-    let mut j = 0;
-    while j < n {
-        total += search::find(s, c, Queue::Messages, count, i + j);
-        j += 1;
+    let mut total = 0;
+    for j in 0..n {
+        total += search::find(s, c, Queue::Messages, count, i + j).unwrap_or(count);
     }
     total
 }
 
 // The order followed, and then the searches of the messages that are pending.
-pub fn after(s: &[u8], order: &[u8], c: &mut [u8], i: usize, n: usize) -> usize
-    requires { Laid s.now × Valid (sheet_in s.now) × (scratch_size ≤ length c.old) × (i + n ≤ N_of (sheet_in s.now)) }
-    ensures { result ≡ places_in_job s.now order.now i n }
+pub fn after(s: &Sheet, order: &[u8], c: &mut Scratch, i: usize, n: usize) -> usize
+    requires { Valid (sheet_in s.now) × (i + n ≤ N_of (sheet_in s.now)) }
+    ensures { result ≡ places_in_job s.entry.now order.entry.now i n }
 {
     let outcome = follow::follow(s, order, c);
-    let t = outcome.control;
-    let count = controls::count(t, Queue::Messages);
+    let count = outcome.control.count(Queue::Messages);
     places(s, c, count, i, n)
 }

@@ -3,26 +3,16 @@
 // of those that wait where none does.
 #![tactic(auto)]
 
-ghost use Rattle.std.specs.Prelude.{◌≡◌, length};
+ghost use Rattle.std.specs.Prelude.{◌≡◌, length, unwrap_or};
 ghost use Rattle.waiting.specs.Envelopes.{earliest_fit};
-ghost use Rattle.searches.specs.Places.{place_or, place_in_slices};
+ghost use Rattle.searches.specs.Places.{place_in_slices};
 ghost use Rattle.searches.specs.Jobs.{searched_places};
 
 use refusals::check;
-use sheet::header;
-use waiting::{Envelope, Found};
+use state::Scratch;
+use waiting::Envelope;
 
 mod job;
-
-// The place that a search found, or n.
-fn place_or(found: Found, n: usize) -> usize
-    ensures { result ≡ place_or n found }
-{
-    match found {
-        Found::Nothing => n,
-        Found::At(k) => k,
-    }
-}
 
 // The search through plain slices: sources, communicators and tags of the messages that wait. Slices that differ in length are no
 // list of messages: nothing is found in them, and the answer is the number of sources. Shut out, among others: one that tells
@@ -40,16 +30,10 @@ pub extern "C" fn searches_in_slices(
         source communicator tag }
 {
     let n = sources.len();
-    if communicators.len() != n {
+    if communicators.len() != n || tags.len() != n {
         return n;
     }
-    if tags.len() != n {
-        return n;
-    }
-    place_or(
-        waiting::search(sources, communicators, tags, source, communicator, tag),
-        n,
-    )
+    waiting::search(sources, communicators, tags, source, communicator, tag).unwrap_or(n)
 }
 
 // The search through a list of envelopes. Shut out, among others: one that tells nothing found as the first place, and one that
@@ -61,12 +45,9 @@ pub extern "C" fn searches_in_envelopes(
     communicator: usize,
     tag: usize,
 ) -> usize
-    ensures { result ≡ place_or (length list.now) (earliest_fit list.now source communicator tag) }
+    ensures { result ≡ unwrap_or (earliest_fit list.now source communicator tag) (length list.now) }
 {
-    place_or(
-        waiting::earliest(list, source, communicator, tag),
-        list.len(),
-    )
+    waiting::earliest(list, source, communicator, tag).unwrap_or(list.len())
 }
 
 // The engine's search: n receives from operation i on, one after another, search the messages that are pending after an order, and
@@ -84,19 +65,15 @@ pub extern "C" fn searches_in_job(
 ) -> usize
     ensures { result ≡ searched_places sheet.now order.now (length scratch.old) i n }
 {
-    let checked = check::check(sheet);
-    if checked.number != 0 {
+    let Ok(sheet) = check::check(sheet) else {
         return 0;
-    }
+    };
     if scratch.len() < limits::SCRATCH_SIZE {
         return 0;
     }
-    let ops = header::ops(sheet);
-    if ops < n {
+    let ops = sheet.ops();
+    if ops < n || ops - n < i {
         return 0;
     }
-    if ops - n < i {
-        return 0;
-    }
-    job::after(sheet, order, scratch, i, n)
+    job::after(&sheet, order, &mut Scratch::new(scratch), i, n)
 }

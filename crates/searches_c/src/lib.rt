@@ -2,9 +2,9 @@
 // pointer and a length.
 #![tactic(auto)]
 
-ghost use Rattle.std.specs.Prelude.{◌≡◌, length};
+ghost use Rattle.std.specs.Prelude.{◌≡◌, length, unwrap_or};
 ghost use Rattle.waiting.specs.Envelopes.{earliest_fit};
-ghost use Rattle.searches.specs.Places.{place_or, place_in_slices};
+ghost use Rattle.searches.specs.Places.{place_in_slices};
 ghost use Rattle.searches.specs.Jobs.{searched_places};
 
 use waiting::Envelope;
@@ -36,7 +36,7 @@ pub extern "C" fn searches_in_envelopes(
     communicator: usize,
     tag: usize,
 ) -> usize
-    ensures { result ≡ place_or (length list.now) (earliest_fit list.now source communicator tag) }
+    ensures { result ≡ unwrap_or (earliest_fit list.now source communicator tag) (length list.now) }
 {
     searches::searches_in_envelopes(list, source, communicator, tag)
 }

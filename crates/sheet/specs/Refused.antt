@@ -1,18 +1,16 @@
 -- What a result of the code says of a refusal (rules' Refusal): Ok that nothing is refused, an error which number is told and at which
 -- place. Assumes nothing.
---   number_of                 the number that a rule is refused with
---   Told                      the answer tells the result
---   Refuses                   the result is that refusal
---   KeptOr                    a rule is kept, or the result is its refusal
---   Tests                     what a closure answers of an index, from one to before another, is a rule's test of it
+--   number_of         the number that a rule is refused with: refuses, none with 0
+--   Told              the answer tells the result
+--   Refuses           the result is that refusal: accepts, Ok that it is none
+--   KeptOr            a rule is kept, or the result is its refusal: kept_or
+--   Tests             what a closure answers of an index, from one to before another, is a rule's test of it
 --   passed_is, passed_on, told_by   what `?` passes on
---   kept_or                   what `ensure` returns
---   chain_stops, chain_goes_on, accepts   of refusals in their order
 use Rattle.std.specs.Prelude.{◌≡◌, refl, Bool, true, false, cond, ℕ, ◌<◌, ◌≤◌, Result, Ok, Err, MatchResult, IsErrAnd}
 use Rattle.std.proofs.Common.{sym, ap, arith}
-use Rattle.rules.specs.Refusal.{Refusal, refusal, accepted, or_else}
+use Rattle.rules.specs.Refusal.{Refusal, refusal, accepted}
 use Rattle.rules.specs.Service.{Answers}
-use Rattle.laws.specs.Answers.{answers_number, or_else_told, or_else_next}
+use Rattle.laws.specs.Answers.{answers_number}
 use Rattle.sheet.specs.declared.Answer.{Answer}
 use Rattle.sheet.specs.declared.refusal.Refusal.{Refusal as Refused}
 use Rattle.sheet.specs.declared.refusal.Rule.{Rule}
@@ -90,10 +88,6 @@ module _ {T : Type 0} (r : Result T Refused) (e : Refused) (passed : IsErrAnd r 
       → Refuses f r
   told_by f rule place k t = passed_on f (rw (k.1, k.2) t)
 
-  -- of a chain: the first refusal that is an error is the chain's
-  pub chain_stops : (a b : Refusal) → Refuses {T = T} a (Err e) → Refuses (or_else a b) r
-  chain_stops a b t = passed_on (or_else a b) (or_else_told a b (number_of e.rule) e.place t (refuses e.rule))
-
 -- what `ensure` returns is the refusal of its test
 pub kept_or : (kept : Bool) (rule : Rule) (place : ℕ) (r : Result Unit Refused) → KeptOr kept rule place r
     → Refuses (cond kept accepted (refusal (number_of rule) place)) r
@@ -101,9 +95,6 @@ unfolding Answers refusal
 kept_or kept rule place (Ok u) k = rw k (refl, refl)
 kept_or kept rule place (Err e) k = rw k.0 (ap number_of k.1, k.2)
 
--- behind one that accepts, the chain is what is left of it
+-- where nothing is refused, rules' refusal accepts
 pub accepts : (a : Refusal) → Answers a 0 0 → a.number ≡ 0
 accepts a t = sym (answers_number a 0 0 t)
-
-pub chain_goes_on : {T : Type 0} (a b : Refusal) → Answers a 0 0 → (r : Result T Refused) → Refuses b r → Refuses (or_else a b) r
-chain_goes_on a b t r u = or_else_next a b 0 0 t refl (number_told r) (place_told r) u

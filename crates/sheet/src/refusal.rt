@@ -57,12 +57,12 @@ impl Rule {
     }
 }
 
-impl From<Result<(), Refusal>> for Answer {
+impl<T: Drop> From<Result<T, Refusal>> for Answer {
     ghost from_gives = { Told };
 
-    fn from(refused: Result<(), Refusal>) -> Answer {
+    fn from(refused: Result<T, Refusal>) -> Answer {
         match refused {
-            Ok(()) => Answer {
+            Ok(_) => Answer {
                 number: 0,
                 place: 0,
             },

@@ -44,7 +44,15 @@ impl<'a> Model for Scratch<'a> {
     ghost invariant = { λ c. scratch_size ≤ length c.bytes.now };
 }
 
-impl Scratch<'_> {
+impl<'a> Scratch<'a> {
+    // The scratch of bytes that are enough.
+    pub fn new(bytes: &'a mut [u8]) -> Scratch<'a>
+        requires { scratch_size ≤ length bytes.old }
+        ensures { result ≡ bytes.entry.now }
+    {
+        Scratch { bytes }
+    }
+
     // What every scratch keeps. A caller learns it here, at no cost.
     pub fn known(&self)
         ensures { scratch_size ≤ length self.now }

@@ -10,11 +10,6 @@ loop-r-init c =
     let a = c.args in
     filling_none (sheet_in a.s.now) a.c.now a.inbox.now
 
-pub deliver_script-requires : goal.deliver_script-requires
-deliver_script-requires c =
-    let l = c.loop-r in
-    (c.requires.0, omega arith, record { starts = l.invariant.start_is; room = omega (arith, c.requires.1, l.invariant.replaying.size) })
-
 pub overflow_add-start : goal.overflow_add-start
 overflow_add-start c =
     let l = c.loop-r in

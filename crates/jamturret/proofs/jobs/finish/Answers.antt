@@ -1,5 +1,4 @@
--- `jamturret::jobs::finish` meets its contract: inboxes and report are those of every job that stands in scratch, and scratch
--- is zeroed. Assumes nothing.
+-- `jamturret::jobs::finish` meets its contract: inboxes and report are those of every job that stands in scratch. Assumes nothing.
 use Rattle.deliveries.specs.Deliveries.{deliverable}
 use Rattle.jamturret.proofs.jobs.finish.Goals as goal
 
@@ -12,5 +11,4 @@ returns c =
     record {
       delivered = λ x d. c.deliver.ensures c.args.t x d;
       reported = λ x d. c.write.ensures c.args.inbox.now x d;
-      zeroed = c.zero.ensures;
     }

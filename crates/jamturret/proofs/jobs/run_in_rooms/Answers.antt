@@ -1,4 +1,5 @@
 -- `jamturret::jobs::run_in_rooms` meets its contract: the run is delivered and reported from what scratch holds. Assumes nothing.
+use Rattle.std.proofs.Common.{ap, arith, replicate, ℕ, ◌∙◌}
 use Rattle.orders.specs.Jobs.{represented}
 use Rattle.orders.specs.Runs.{Ended}
 use Rattle.jamturret.specs.Outcomes.{does_run}
@@ -13,7 +14,7 @@ module _ (c : After-run-t) where
 pub run-t-requires : goal.run-t-requires
 run-t-requires c =
     let p = c.requires in
-    (p.laid, p.good, p.roomy.scratch, p.roomy.order)
+    (p.good, p.roomy.order)
 
 pub finish-requires : goal.finish-requires
 finish-requires c =
@@ -23,5 +24,4 @@ pub returns : goal.returns
 returns c =
     let a = c.args in
     let w = ended (goal.at.returns c).After-run-t in
-    does_run a.sheet.now a.order.now a.scratch.now w.taken w.job w.said w.represents c.run-t.auto.c
-    c.finish.ensures w.out_is
+    does_run a.sheet.now a.order.now a.scratch.now w.taken w.job w.said w.represents c.finish.ensures w.out_is (c.zero.ensures ∙ ap (λ (n : ℕ). replicate n 0) (omega arith))

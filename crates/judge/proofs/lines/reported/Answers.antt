@@ -1,6 +1,8 @@
 -- The text of the report's own bytes, and the numbers that are told of it. Assumes nothing.
 use Rattle.std.proofs.Common.{◌≡◌, ◌∙◌, ap, List, ℕ, ◌*◌, ◌≤◌, length, take, arith}
 use Rattle.std.proofs.Math.Seq.{length-take-le}
+use Rattle.rules.specs.Limits.{report_size}
+use Rattle.rules.specs.Sheet.{sheet_in, second_in, P_of, N_of}
 use Rattle.rules.specs.Step.{splice}
 use Rattle.text.specs.Text.{hex_line, numbers_line}
 use Rattle.text.specs.Lines.{line_stands}
@@ -28,7 +30,9 @@ module _ (c : After-size-own) where
   -- and are the report
   printed_is : hex_line (take own room) ≡ report_line c.args.sheet.now
   unfolding report_line
-  printed_is = ap hex_line (ap (λ (k : ℕ). take k room) c.size-own.ensures.0 ∙ c.requires.0.own)
+  printed_is =
+      let size_is = c.size-own.ensures.0 ∙ ap (λ (bs : List ℕ). report_size (second_in bs) (P_of (sheet_in bs)) (N_of (sheet_in bs))) c.new.ensures in
+      ap hex_line (ap (λ (k : ℕ). take k room) size_is ∙ c.requires.0.own)
 
   size : 3 * own ≡ length (report_line c.args.sheet.now)
   size = omega (arith, ap length printed_is, hex_line_length (take own room), long)

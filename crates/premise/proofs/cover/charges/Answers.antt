@@ -4,7 +4,7 @@ use Rattle.premise.specs.Charges.{summed_none, summed_more, summed_all}
 use Rattle.premise.proofs.cover.charges.Goals as goal
 
 pub loop-i-init : goal.loop-i-init
-loop-i-init c = summed_none c.requires.1 c.requires.2 c.first-first.ensures.is (omega arith)
+loop-i-init c = summed_none c.requires.0 c.requires.1 c.first-first.ensures.is (omega arith)
 
 pub loop-i-preserved : goal.loop-i-preserved
 loop-i-preserved c =

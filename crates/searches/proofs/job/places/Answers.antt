@@ -1,30 +1,30 @@
 -- `searches::job::places` meets its contract. The loop's invariant: what was added, with what is left to add, is the whole sum, and
--- each summand is at most the most operations. The measure is how many are left. Assumes nothing.
-use Rattle.std.proofs.Common.{arith, ◌+◌, ◌≤◌}
+-- each summand is at most the most operations. Assumes nothing.
+use Rattle.std.proofs.Common.{arith, ◌+◌, ◌≤◌, ◌∙◌}
 use Rattle.rules.specs.Limits.{most_ops}
 use Rattle.rules.specs.Sheet.{sheet_in}
 use Rattle.state.specs.declared.Queue.TheVariants.{Messages}
 use Rattle.state.specs.Queues.{base_of}
 use Rattle.state.specs.Decoded.{words_in}
-use Rattle.searches.proofs.Jobs.{places_none, places_more, places_all, found_place}
+use Rattle.searches.proofs.Jobs.{places_none, places_more, places_all, found_place, first_within}
 use Rattle.searches.proofs.job.places.Goals as goal
-use Rattle.searches.proofs.job.places.Goals.{After-find-total, Start}
+use Rattle.searches.proofs.job.places.Goals.{After-unwrap_or-total}
 
 pub overflow_add-i : goal.overflow_add-i
 overflow_add-i c = let p = c.requires in omega (arith, p.2, p.0.few, c.loop-j-test.true)
 
-pub find-total-requires : goal.find-total-requires
-find-total-requires c = let p = c.requires in (p.0, p.1, omega (arith, p.2, c.loop-j-test.true))
+pub find-requires : goal.find-requires
+find-requires c = let p = c.requires in (p.0, p.1, omega (arith, p.2, c.loop-j-test.true))
 
 -- a summand is at most the most operations
-module _ (c : After-find-total) where
-  small : c.find-total.result ≤ most_ops
-  small = omega (arith, c.find-total.ensures.within, c.requires.1.short)
+module _ (c : After-unwrap_or-total) where
+  small : c.unwrap_or-total.result ≤ most_ops
+  small = omega (arith, first_within _ _ _ c.find.ensures, c.unwrap_or-total.ensures, c.requires.1.short)
 
 pub overflow_add-total : goal.overflow_add-total
 overflow_add-total c =
     let p = c.requires in
-    omega (arith, c.loop-j.invariant.1, small c, p.2, p.0.few, c.loop-j-test.true)
+    omega (arith, c.loop-j.invariant.1, small (goal.at.overflow_add-total c).After-unwrap_or-total, p.2, p.0.few, c.loop-j-test.true)
 
 pub loop-j-preserved : goal.loop-j-preserved
 loop-j-preserved c =
@@ -33,9 +33,9 @@ loop-j-preserved c =
     let s = sheet_in a.s.now in
     let ms = words_in a.c.now (base_of Messages) a.count in (
       omega (arith, c.loop-j-test.true),
-      omega (arith, v.invariant.1, small c),
-      places_more s ms a.i a.n v.j v.total c.find-total.result c.loop-j-test.true v.invariant.2
-          (found_place s a.c.now a.count (a.i + v.j) c.find-total.result c.find-total.ensures),
+      omega (arith, v.invariant.1, small (goal.at.loop-j-preserved c).After-unwrap_or-total),
+      places_more s ms a.i a.n v.j v.total c.unwrap_or-total.result c.loop-j-test.true v.invariant.2
+          (c.unwrap_or-total.ensures ∙ found_place s a.c.now a.count (a.i + v.j) c.find.result c.find.ensures),
     )
 
 pub returns : goal.returns
@@ -48,9 +48,3 @@ pub loop-j-init : goal.loop-j-init
 loop-j-init c =
     let a = c.args in
     (omega arith, omega arith, places_none (sheet_in a.s.now) (words_in a.c.now (base_of Messages) a.count) a.i a.n)
-
-pub overflow_add-j : goal.overflow_add-j
-overflow_add-j c = omega arith
-
-pub loop-j-smaller : goal.loop-j-smaller
-loop-j-smaller c = omega arith

@@ -13,5 +13,3 @@ invariant-loop-j l =
     (l.j ≤ l.n) × (l.total ≤ l.j * most_ops)
     × (l.total + sum_places (sheet_in l.s) (words_in l.c (base_of Messages) l.count) (l.i + l.j) (l.n - l.j) ≡ sum_places (sheet_in l.s) (words_in l.c (base_of Messages) l.count) l.i l.n)
 
-abbrev pub decreases-loop-j : goal.decreases-loop-j
-decreases-loop-j l = l.n - l.j
