@@ -37,7 +37,7 @@ const REMAINDERS: [u16; 256] = [
     0x2e93, 0x3eb2, 0x0ed1, 0x1ef0,
 ];
 
-// The CRC `start`, carried on over the bytes of s.
+// The CRC `start`, carried on over the bytes of s. By `/` and `%`, as crc_byte of rules states it.
 fn crc_over(table: &[u16; 256], start: u16, s: &[u8]) -> u16
     requires { Remainders table.now }
     ensures { result ≡ crc_from start s.now }

@@ -17,6 +17,7 @@ pub fn run(s: &Sheet, c: &mut Scratch, out: &mut [u8]) -> Control
     ensures { Runs s.now out.old c.new out.new result }
 {
     let mut t = setup::start(s, c);
+    // The steps are as many as there come to be, so that k counts beside them. A cast, since the library has no From of a usize.
     let mut k = 0;
     while let Some(r) = lowest::lowest(s, c, t) {
         out[k] = r as u8;

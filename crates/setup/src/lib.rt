@@ -26,7 +26,7 @@ fn note(s: &Sheet, i: usize, last: &mut [usize; limits::SLOT_LIMIT])
 }
 
 // The entries of operation i of board r: its rank, and where it names a slot the latest operation that took it. The others'
-// words are never read.
+// words are never read. A cast, since the library has no From of a usize, and no rank is above 15.
 #[tactic(auto, unfolding(crate::specs::SetupTables::op_put))]
 fn put_op(s: &Sheet, c: &mut Scratch, i: usize, r: usize, last: &[usize; limits::SLOT_LIMIT])
     requires { Slotted s.now i × (r < most_boards) }

@@ -15,7 +15,8 @@ pub mod ops;
 pub mod refusal;
 pub mod stores;
 
-// What a service answers: number 0 and place 0, or the number of a refusal and its place.
+// What a service answers: number 0 and place 0, or the number of a refusal and its place. Two numbers and no Result, because C
+// calls the services.
 #[repr(C)]
 #[derive(Clone, Copy)]
 pub struct Answer {

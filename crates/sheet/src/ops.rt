@@ -194,7 +194,8 @@ impl Sheet<'_> {
         self.is(i, Kind::Wait) || self.is(i, Kind::Probe) || self.is(i, Kind::Query)
     }
 
-    // Finished after its initiating step.
+    // Finished after its initiating step. (A byte compared with 1 here and in takes_slot, since refusal 6, which bounds it, comes
+    // after these readers.)
     pub fn has_no_half(&self, i: usize) -> bool
         requires { i < N_of (sheet_in self.now) }
         ensures { result ≡ no_half (op (sheet_in self.now) i) }

@@ -66,6 +66,7 @@ impl<T: Drop> From<Result<T, Refusal>> for Answer {
                 number: 0,
                 place: 0,
             },
+            // A cast, since the library has no From of a usize.
             Err(refusal) => Answer {
                 number: refusal.rule.number(),
                 place: refusal.place as u64,

@@ -10,6 +10,7 @@ impl From<StopVerdict> for usize {
     ghost from_gives = { λ v n. n ≡ verdict_number v };
 
     fn from(verdict: StopVerdict) -> usize {
+        // The number of a case can be read by a cast alone.
         verdict as usize
     }
 }

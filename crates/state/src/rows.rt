@@ -15,6 +15,7 @@ impl From<State> for u8 {
     ghost from_gives = { λ state n. n ≡ state_number state };
 
     fn from(state: State) -> u8 {
+        // The number of a case can be read by a cast alone.
         state as u8
     }
 }

@@ -32,7 +32,7 @@ pub fn put_byte(s: &mut [u8], at: usize, v: u8)
     s[at] = v;
 }
 
-// A number put at a place, low byte first.
+// A number put at a place, low byte first. A cast of what is below 65536: try_from would answer an error that never comes.
 pub fn put_two(s: &mut [u8], at: usize, v: usize)
     requires { at + 2 ≤ length s.old }
     ensures { s.new ≡ splice s.old at (low_two v) }
