@@ -25,7 +25,7 @@ pub fn crc_and_check(sheet: &mut [u8]) -> Answer
         return jamturret_check(sheet);
     }
     let value = jamturret_crc(sheet);
-    words::put_two(sheet, crc::CRC_AT, value as usize);
+    words::put_two(sheet, crc::CRC_AT, usize::from(value));
     jamturret_check(sheet)
 }
 

@@ -1,6 +1,4 @@
 // Following a given order: the first index whose rank isn't able, or the whole order.
-ghost use Rattle.std.specs.Prelude.{◌≤◌, length};
-ghost use Rattle.rules.specs.Limits.{scratch_size};
 ghost use Rattle.rules.specs.Sheet.{sheet_in};
 ghost use Rattle.invariant.specs.sheet.Valid.{Valid};
 ghost use Rattle.orders.specs.Follows.{Follows};

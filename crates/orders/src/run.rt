@@ -1,6 +1,6 @@
 // The desk's own run: at each step the lowest rank that is able, written down in the order's room.
 ghost use Rattle.std.specs.Prelude.{◌≤◌, length};
-ghost use Rattle.rules.specs.Limits.{scratch_size, order_room};
+ghost use Rattle.rules.specs.Limits.{order_room};
 ghost use Rattle.rules.specs.Sheet.{sheet_in, N_of};
 ghost use Rattle.invariant.specs.sheet.Valid.{Valid};
 ghost use Rattle.orders.specs.Runs.{Runs};

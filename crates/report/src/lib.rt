@@ -3,7 +3,7 @@
 #![tactic(auto)]
 
 ghost use Rattle.std.specs.Prelude.{◌≡◌, true, ◌+◌, ◌*◌, ◌<◌, ◌≤◌, length};
-ghost use Rattle.rules.specs.Limits.{most_ops, most_boards, scratch_size, report_header_size, board_row_size, op_row_size, report_size};
+ghost use Rattle.rules.specs.Limits.{most_ops, most_boards, report_header_size, board_row_size, op_row_size, report_size};
 ghost use Rattle.rules.specs.Sheet.{second_in, sheet_in, P_of, N_of};
 ghost use Rattle.rules.specs.Step.{splice};
 ghost use Rattle.rules.specs.Order.{none_able};

@@ -2,8 +2,8 @@
 // pinned down": nothing entered, no buffer in use). The tables come first: rows and places lie below them and leave them.
 #![tactic(auto)]
 
-ghost use Rattle.std.specs.Prelude.{◌≡◌, ◌+◌, ◌<◌, ◌≤◌, length};
-ghost use Rattle.rules.specs.Limits.{most_boards, scratch_size};
+ghost use Rattle.std.specs.Prelude.{◌≡◌, ◌+◌, ◌<◌};
+ghost use Rattle.rules.specs.Limits.{most_boards};
 ghost use Rattle.rules.specs.Sheet.{sheet_in, op, P_of, N_of, counts_before};
 ghost use Rattle.invariant.specs.sheet.Valid.{Valid};
 ghost use Rattle.setup.specs.SetupTables.{Slotted, last_after, op_put, Filled};

@@ -2,13 +2,13 @@
 // of an operation are found from the header's own offset of the operation table.
 #![tactic(auto, unfolding(rules::specs::Sheet::is_send, rules::specs::Sheet::is_standard, rules::specs::Sheet::is_buffered, rules::specs::Sheet::is_ready, rules::specs::Sheet::is_receive, rules::specs::Sheet::is_wait, rules::specs::Sheet::is_probe, rules::specs::Sheet::is_query, rules::specs::Sheet::tells_message, rules::specs::Sheet::tells_completion, rules::specs::Sheet::tells, rules::specs::Sheet::selects, rules::specs::Sheet::only_half, rules::specs::Sheet::names_slot, rules::specs::Sheet::frees_slot, rules::specs::Sheet::is_nonblocking, rules::specs::Sheet::no_half, rules::specs::Sheet::takes_slot, rules::specs::Claims::is_any_source))]
 
-ghost use Rattle.std.specs.Prelude.{◌≡◌, ◌+◌, ◌<◌, length};
+ghost use Rattle.std.specs.Prelude.{◌≡◌, ◌+◌, ◌<◌, length, eqb};
 ghost use Rattle.rules.specs.Sheet.{sheet_in, op, N_of, is_send, is_standard, is_buffered, is_ready, is_receive, only_half, no_half, takes_slot, names_slot, frees_slot};
 ghost use Rattle.rules.specs.Sheet.{tells_message, tells_completion, tells, selects};
 ghost use Rattle.rules.specs.Claims.{is_any_source};
 ghost use Rattle.laws.specs.Laid.{Laid};
 ghost use Rattle.sheet.specs.Fields.{OpAt};
-ghost use Rattle.sheet.specs.Kinds.{Names};
+ghost use Rattle.sheet.specs.Kinds.{Names, kind_number};
 ghost use Rattle.words.specs.Read.{Word, Byte};
 
 use crate::kind::{Kind, UnknownKind};
@@ -29,6 +29,14 @@ impl Sheet<'_> {
         ensures { Names (op (sheet_in self.now) i).kind result }
     {
         Kind::try_from(self.bytes[at(self.bytes, i)])
+    }
+
+    // Its kind is k. The tests of roles ask kind by kind: from a match over several, the compiler makes more than comparisons of a byte.
+    fn is(&self, i: usize, k: Kind) -> bool
+        requires { i < N_of (sheet_in self.now) }
+        ensures { result ≡ eqb (op (sheet_in self.now) i).kind (kind_number k) }
+    {
+        self.kind(i) == Ok(k)
     }
 
     // Its flag: 0 blocking, 1 nonblocking.
@@ -100,10 +108,10 @@ impl Sheet<'_> {
         requires { i < N_of (sheet_in self.now) }
         ensures { result ≡ is_send (op (sheet_in self.now) i) }
     {
-        matches!(
-            self.kind(i),
-            Ok(Kind::Standard | Kind::Buffered | Kind::Synchronous | Kind::Ready)
-        )
+        self.is(i, Kind::Standard)
+            || self.is(i, Kind::Buffered)
+            || self.is(i, Kind::Synchronous)
+            || self.is(i, Kind::Ready)
     }
 
     // A standard send.
@@ -111,7 +119,7 @@ impl Sheet<'_> {
         requires { i < N_of (sheet_in self.now) }
         ensures { result ≡ is_standard (op (sheet_in self.now) i) }
     {
-        matches!(self.kind(i), Ok(Kind::Standard))
+        self.is(i, Kind::Standard)
     }
 
     // A buffered send.
@@ -119,7 +127,7 @@ impl Sheet<'_> {
         requires { i < N_of (sheet_in self.now) }
         ensures { result ≡ is_buffered (op (sheet_in self.now) i) }
     {
-        matches!(self.kind(i), Ok(Kind::Buffered))
+        self.is(i, Kind::Buffered)
     }
 
     // A ready send.
@@ -127,7 +135,7 @@ impl Sheet<'_> {
         requires { i < N_of (sheet_in self.now) }
         ensures { result ≡ is_ready (op (sheet_in self.now) i) }
     {
-        matches!(self.kind(i), Ok(Kind::Ready))
+        self.is(i, Kind::Ready)
     }
 
     // A receive.
@@ -135,7 +143,7 @@ impl Sheet<'_> {
         requires { i < N_of (sheet_in self.now) }
         ensures { result ≡ is_receive (op (sheet_in self.now) i) }
     {
-        matches!(self.kind(i), Ok(Kind::Receive))
+        self.is(i, Kind::Receive)
     }
 
     // A receive or a probe from any source.
@@ -151,7 +159,7 @@ impl Sheet<'_> {
         requires { i < N_of (sheet_in self.now) }
         ensures { result ≡ tells_message (op (sheet_in self.now) i) }
     {
-        matches!(self.kind(i), Ok(Kind::Probe))
+        self.is(i, Kind::Probe)
     }
 
     // Tells whether the operation that holds its slot is complete: a query.
@@ -159,7 +167,7 @@ impl Sheet<'_> {
         requires { i < N_of (sheet_in self.now) }
         ensures { result ≡ tells_completion (op (sheet_in self.now) i) }
     {
-        matches!(self.kind(i), Ok(Kind::Query))
+        self.is(i, Kind::Query)
     }
 
     // Tells one or the other.
@@ -167,7 +175,7 @@ impl Sheet<'_> {
         requires { i < N_of (sheet_in self.now) }
         ensures { result ≡ tells (op (sheet_in self.now) i) }
     {
-        matches!(self.kind(i), Ok(Kind::Probe | Kind::Query))
+        self.is(i, Kind::Probe) || self.is(i, Kind::Query)
     }
 
     // Names a source and a tag, or any, by which messages are selected.
@@ -175,7 +183,7 @@ impl Sheet<'_> {
         requires { i < N_of (sheet_in self.now) }
         ensures { result ≡ selects (op (sheet_in self.now) i) }
     {
-        matches!(self.kind(i), Ok(Kind::Receive | Kind::Probe))
+        self.is(i, Kind::Receive) || self.is(i, Kind::Probe)
     }
 
     // Only a waiting half: it has no initiating step.
@@ -183,7 +191,7 @@ impl Sheet<'_> {
         requires { i < N_of (sheet_in self.now) }
         ensures { result ≡ only_half (op (sheet_in self.now) i) }
     {
-        matches!(self.kind(i), Ok(Kind::Wait | Kind::Probe | Kind::Query))
+        self.is(i, Kind::Wait) || self.is(i, Kind::Probe) || self.is(i, Kind::Query)
     }
 
     // Finished after its initiating step.
@@ -207,7 +215,7 @@ impl Sheet<'_> {
         requires { i < N_of (sheet_in self.now) }
         ensures { result ≡ names_slot (op (sheet_in self.now) i) }
     {
-        matches!(self.kind(i), Ok(Kind::Wait | Kind::Query))
+        self.is(i, Kind::Wait) || self.is(i, Kind::Query)
     }
 
     // Frees the slot that it names, once the operation that took it is complete.
@@ -215,6 +223,6 @@ impl Sheet<'_> {
         requires { i < N_of (sheet_in self.now) }
         ensures { result ≡ frees_slot (op (sheet_in self.now) i) }
     {
-        matches!(self.kind(i), Ok(Kind::Wait))
+        self.is(i, Kind::Wait)
     }
 }

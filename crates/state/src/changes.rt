@@ -1,7 +1,7 @@
 // The changes that steps are made of (document 01, "How a board steps"). Contracts are in the words of rules: what is left in
 // scratch holds the job that the definition makes of the job that scratch held.
-ghost use Rattle.std.specs.Prelude.{◌≡◌, ℕ, ◌<◌, ◌≤◌, length};
-ghost use Rattle.rules.specs.Limits.{most_ops, most_boards, scratch_size, absent};
+ghost use Rattle.std.specs.Prelude.{◌≡◌, ℕ, ◌<◌, ◌≤◌};
+ghost use Rattle.rules.specs.Limits.{most_ops, most_boards, absent};
 ghost use Rattle.rules.specs.Sheet.{N_of, P_of};
 ghost use Rattle.rules.specs.Job.{entry, place_at, with_account};
 ghost use Rattle.rules.specs.Step.{splice, without, with_place, with_row, with_state, matched_rows, one_finished, now_waiting};

@@ -1,4 +1,4 @@
-// What is kept beside scratch, by value: each method gives a control block with one part changed.
+// What is kept beside scratch, by value: how many a waiting list has, and a control block with one part changed.
 ghost use Rattle.std.specs.Prelude.{◌≡◌};
 ghost use Rattle.state.specs.Controls.{halted};
 ghost use Rattle.state.specs.Numbers.{verdict_number};

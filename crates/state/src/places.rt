@@ -29,7 +29,7 @@ impl Scratch<'_> {
         words::byte_at(self.bytes, PLACES + SEAT_SIZE * r + 6) == 1
     }
 
-    // The figures of its store.
+    // The figures of a store of board r.
     pub fn figures_of(&self, r: usize, w: Store) -> StoreFigures
         requires { r < most_boards }
         ensures { FiguresRead (account (stands_for w) (place_in self.now (seat_at r))) result }
@@ -74,7 +74,7 @@ fn figures_at(w: Store) -> usize
     }
 }
 
-// The figures of its store, in the bytes of scratch.
+// The figures of a store of board r, in the bytes of scratch.
 fn figures_in(c: &[u8], r: usize, w: Store) -> StoreFigures
     requires { (r < most_boards) × (scratch_size ≤ length c.now) }
     ensures { FiguresRead (account (stands_for w) (place_in c.now (seat_at r))) result }

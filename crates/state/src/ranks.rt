@@ -1,6 +1,6 @@
 // The rank of each operation, a byte each: a table that is written once, so that a search need not look a rank up.
-ghost use Rattle.std.specs.Prelude.{◌≡◌, [], ◌∷◌, ◌+◌, ◌<◌, ◌≤◌, length, get_or, replicate};
-ghost use Rattle.rules.specs.Limits.{most_ops, scratch_size};
+ghost use Rattle.std.specs.Prelude.{◌≡◌, [], ◌∷◌, ◌+◌, ◌<◌, ◌≤◌, get_or, replicate};
+ghost use Rattle.rules.specs.Limits.{most_ops};
 ghost use Rattle.rules.specs.Step.{splice};
 ghost use Rattle.state.specs.Layout.{rank_at};
 ghost use Rattle.words.specs.Read.{Byte};

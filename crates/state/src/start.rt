@@ -1,6 +1,6 @@
 // The start of a job: nothing entered, no buffer in use, whatever scratch held before.
-ghost use Rattle.std.specs.Prelude.{◌≡◌, ◌≤◌, length};
-ghost use Rattle.rules.specs.Limits.{most_ops, most_boards, scratch_size};
+ghost use Rattle.std.specs.Prelude.{◌≡◌, ◌≤◌};
+ghost use Rattle.rules.specs.Limits.{most_ops, most_boards};
 ghost use Rattle.rules.specs.Step.{splice};
 ghost use Rattle.state.specs.Start.{bare_rows, started_bytes};
 

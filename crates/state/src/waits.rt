@@ -1,6 +1,6 @@
 // For each operation that names a slot, a wait or a query, the one that holds it, two bytes each: a table that is written once.
-ghost use Rattle.std.specs.Prelude.{◌≡◌, ◌<◌, ◌≤◌, length};
-ghost use Rattle.rules.specs.Limits.{most_ops, scratch_size};
+ghost use Rattle.std.specs.Prelude.{◌≡◌, ◌<◌};
+ghost use Rattle.rules.specs.Limits.{most_ops};
 ghost use Rattle.rules.specs.Sheet.{two};
 ghost use Rattle.rules.specs.Step.{splice};
 ghost use Rattle.rules.specs.Report.{low_two};
@@ -18,6 +18,7 @@ impl Scratch<'_> {
         words::two_at(self.bytes, WAITS + 2 * i)
     }
 
+    // That operation is j.
     pub fn put_waited(&mut self, i: usize, j: usize)
         requires { i < most_ops }
         ensures { self.new ≡ splice self.old (word_at waits_at i) (low_two j) }

@@ -21,11 +21,7 @@ fn release_charge(s: &Sheet, c: &mut Scratch, t: Control, m: usize)
     if c.is_in(m, State::Buffered) {
         let sender = c.rank_at(m);
         let w = s.store_of(m);
-        c.release(sender,
-            w,
-            s.size(w, sender),
-            s.charge(w, m),
-        );
+        c.release(sender, w, s.size(w, sender), s.charge(w, m));
     }
 }
 

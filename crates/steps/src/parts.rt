@@ -1,7 +1,7 @@
 // The two parts of an operation, its initiating step and its waiting half (document 01, "How a board steps"): which one is next,
 // what ends each, and that an operation waits in a list.
-ghost use Rattle.std.specs.Prelude.{◌≡◌, ◌||◌, ◌<◌, ◌≤◌, length};
-ghost use Rattle.rules.specs.Limits.{most_boards, scratch_size};
+ghost use Rattle.std.specs.Prelude.{◌≡◌, ◌||◌, ◌<◌};
+ghost use Rattle.rules.specs.Limits.{most_boards};
 ghost use Rattle.rules.specs.Sheet.{sheet_in, op, only_half, N_of};
 ghost use Rattle.rules.specs.Step.{initiated, ended};
 ghost use Rattle.state.specs.Layout.{seat_at};

@@ -1,5 +1,5 @@
 -- `report::size` meets its contract: of the edition, P and N that were read. Assumes nothing.
-use Rattle.std.proofs.Common.{Bool, List, ap₂, arith, ℕ, ◌∙◌, ◌≡◌}
+use Rattle.std.proofs.Common.{Bool, List, ap₂, arith, ℕ, ◌≡◌}
 use Rattle.rules.specs.Limits.{board_rows_size}
 use Rattle.rules.specs.Sheet.{second_in, sheet_in, P_of}
 use Rattle.laws.specs.Editions.{rows_most}

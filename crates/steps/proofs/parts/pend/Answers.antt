@@ -1,5 +1,4 @@
 -- `steps::parts::pend` meets its contract: it becomes pending, and its board goes on. Assumes nothing.
-use Rattle.std.proofs.Common.{arith}
 use Rattle.state.specs.Numbers.{state_number}
 use Rattle.steps.specs.Pending.{enters, pended_holds, pended_initiated}
 use Rattle.steps.proofs.parts.pend.Goals as goal
