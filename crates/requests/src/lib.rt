@@ -17,7 +17,8 @@ pub mod forgotten;
 use sheet::Sheet;
 use sheet::refusal::{Refusal, Rule};
 
-// The start of a slot that nobody holds.
+// The start of a slot that nobody holds. (Here and below `as u16`: refusal 6 has bounded what is cast, and try_from would answer an
+// error that never comes.)
 const FREE: u16 = limits::ABSENT as u16;
 
 // The area of each slot that a board holds: from its start to before its end. Two tables side by side, FREE and no Option: with a
