@@ -30,6 +30,8 @@ PATTERNS = {
     "5a the sheet's layout in a clause": r"\bLaid (s|sheet|bytes)\.(now|old)",
     "5b scratch's room in a clause": r"scratch_size ≤ length (c|scratch|self|bytes)\b",
     "5c the script tables, the fields or the whole sheet's rules in a clause": r"\b(Tabled|Fielded|Valid) \(sheet_in",
+    "5d sheet, scratch and control block side by side": None,  # over whole heads of functions, below
+    "5e source, communicator and tag side by side": None,
     "6a tables side by side, or a length beside a buffer": r"(starts|sources): &(mut )?\[|count: usize,?$|, count: usize[,)]",
     "7a a switch on which rule to run": r"match rule\b|enum Rule\b",
     "7b a switch on one of two stores or lists": r"match (w|list|q|self) \{",
@@ -54,6 +56,12 @@ TWINS = [
     ("searches_c", "the exports", "searches' functions", "searches::searches_in_slices(sources"),
 ]
 
+# Parameters that travel together, by name.
+TOGETHER = {
+    "5d sheet, scratch and control block side by side": ("s", "c", "t"),
+    "5e source, communicator and tag side by side": ("source", "communicator", "tag"),
+}
+
 
 def sources(commit):
     if commit is None:
@@ -75,6 +83,10 @@ def places(files):
             for point, pattern in PATTERNS.items():
                 if pattern and pattern != "TWIN" and re.search(pattern, code):
                     found[point].append(f"{name}:{number}: {code.strip()}")
+        for m in re.finditer(r"\bfn (\w+)(?:<[^>]*>)?\(([^)]*)\)", text):
+            for point, names in TOGETHER.items():
+                if all(re.search(rf"\b{n}: ", m.group(2)) for n in names):
+                    found[point].append(f"{name}:{text[: m.start()].count(chr(10)) + 1}: fn {m.group(1)}")
         for m in re.finditer(r"enum (\w+)(?:<[^>]*>)? \{\n((?:[^}]|\n)*?)\n\}", text):
             cases = [c.strip() for c in m.group(2).split("\n") if c.strip() and not c.strip().startswith("//")]
             if len(cases) == 2 and sum("(" in c for c in cases) == 1:

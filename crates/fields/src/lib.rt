@@ -40,7 +40,8 @@ fn extent_is_good(s: &Sheet, i: usize, room: usize) -> bool
     slot_is_good && s.zero_field(i) == 0 && size <= limits::MOST_LENGTH && end <= room
 }
 
-// An operation that names a slot, and nothing else.
+// An operation that names a slot, and nothing else. (Here and below a flag is a byte of the format: that it is 0 or 1 is for these
+// rules to find out.)
 fn wait_is_good(s: &Sheet, i: usize) -> bool
     requires { i < N_of (sheet_in s.now) }
     ensures { result ≡ wait_good (op (sheet_in s.now) i) }

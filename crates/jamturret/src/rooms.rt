@@ -1,4 +1,5 @@
-// Refusals 1 to 8 of a call: the sheet's, else the first lent room that is short (document 01, "When the desk says no").
+// A call's sheet laid out, or refusals 1 to 8: the sheet's, else the first lent room that is short (document 01, "When the desk
+// says no").
 #![tactic(auto, unfolding(rules::specs::Service::room_refusal, rules::specs::Service::run_refusal, rules::specs::Refusal::or_else, rules::specs::Refusal::refusal, rules::specs::Service::Answers))]
 
 ghost use Rattle.std.specs.Prelude.{◌≡◌, IfOk};
@@ -37,7 +38,7 @@ fn short(
     ensure(limits::SCRATCH_SIZE <= scratch, Rule::Rooms, 4)
 }
 
-// The sheet's refusal, or a room's.
+// The sheet laid out, where it and the rooms are accepted; else its refusal, or the first short room's.
 pub fn refusal(
     bytes: &[u8],
     inbox: usize,

@@ -15,7 +15,8 @@ pub struct Outcome {
     pub control: Control,
 }
 
-// The order followed from the start of a job, in scratch alone.
+// The order followed from the start of a job, in scratch alone. Valid is a clause and no type of sheets: steps and report ask only
+// Represented, so that each sheet would be taken out of the type again before its first step.
 pub fn follow(s: &Sheet, order: &[u8], c: &mut Scratch) -> Outcome
     requires { Valid (sheet_in s.now) }
     ensures { Follows s.now order.now c.new result }

@@ -20,11 +20,7 @@ fn charge(s: &Sheet, w: Store, i: usize) -> usize
     ensures { WordSum (cond (kept_in (stands_for w) (op (sheet_in s.now) i))
         (charge_of (stands_for w) (op (sheet_in s.now) i)) 0) result }
 {
-    if s.keeps(w, i) {
-        s.charge(w, i)
-    } else {
-        0
-    }
+    if s.keeps(w, i) { s.charge(w, i) } else { 0 }
 }
 
 // The charges of all sends of board r that are kept there.

@@ -12,10 +12,10 @@ mod cover;
 use account::Store;
 use cover::{is_covering, is_none_or_covering};
 use refusals::check;
-use sheet::refusal::{Refusal, Rule, first_broken};
 use sheet::Sheet;
+use sheet::refusal::{Refusal, Rule, first_broken};
 
-// Why a sheet that passes check is not calm: 20 no receive or probe is from any source; 21 no send is ready; 22 attached buffers cover
+// Whether a sheet that passes check is calm: 20 no receive or probe is from any source; 21 no send is ready; 22 attached buffers cover
 // the sends that are kept there; 23 nothing is queried (document 02, K9); 24 so do standard rooms, or they are 0 and nothing is kept.
 fn calm(s: &Sheet) -> Result<(), Refusal>
     requires { Tabled (sheet_in s.now) }

@@ -12,7 +12,8 @@ use crate::{boards, header, scripts};
 use sheet::Sheet;
 use sheet::refusal::{Refusal, Rule, ensure};
 
-// Refusal 7: the rules of slots and areas over the whole sheet, and behind them forgotten requests (document 02, K7).
+// Refusal 7: the rules of slots and areas over the whole sheet, and behind them forgotten requests (document 02, K7). What is settled
+// on the way (Tabled, then Fielded) is a clause and no type of sheets: each type would want the readers of Sheet once more.
 fn requests(s: &Sheet) -> Result<(), Refusal>
     requires { Tabled (sheet_in s.now) × Fielded (sheet_in s.now) }
     ensures { Refuses (requests_refusal (sheet_in s.now)) result }

@@ -243,7 +243,7 @@ fn receive_at(s: &Sheet, c: &Scratch, i: usize) -> bool
     s.is_receive(i) && c.is_in(i, State::Pending)
 }
 
-// Whether its message was cut.
+// Whether its message was cut. (A byte of the report's format, in which 1 says so.)
 #[tactic(auto, unfolding(crate::specs::ReportCounts::cut_row))]
 fn cut_at(c: &Scratch, i: usize) -> bool
     requires { i < most_ops }

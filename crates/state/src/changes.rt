@@ -91,8 +91,7 @@ impl Scratch<'_> {
         self.put_place(r, q.with_figures(w, figures));
     }
 
-    // A store of board r, of the size, is charged n bytes where it has room, and says whether: the account is lent and changed where
-    // it stands.
+    // A store of board r, of the size, is charged n bytes where it has room, and says whether.
     pub fn charge(&mut self, r: usize, w: Store, size: usize, n: usize) -> bool
         requires { (r < most_boards) × (size < 65536) }
         ensures { Charges (stands_for w) self.old self.new r size n result }

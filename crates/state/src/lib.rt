@@ -103,7 +103,8 @@ pub struct Control {
     pub stop: Option<Stop>,
 }
 
-// One of the two waiting lists: pending messages in order of arrival, posted receives in order of posting.
+// One of the two waiting lists: pending messages in order of arrival, posted receives in order of posting. Where it is asked which, a
+// match picks a field, a place or a pair of operations; no step hangs on it that a closure could be.
 #[derive(Clone, Copy)]
 pub enum Queue {
     Messages,

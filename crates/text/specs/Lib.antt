@@ -3,7 +3,9 @@
 --   Vectors   a line that was written by hand
 --   Lines     a line that is written item by item
 --   Lengths   how long a text is
+--   Digits    digits in a base
 pub mod Text
 pub mod Vectors
 pub mod Lines
 pub mod Lengths
+pub mod Digits

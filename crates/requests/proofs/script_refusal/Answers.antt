@@ -28,18 +28,18 @@ module _ (c : In-loop-i) where
   there = slotted c.args.s.now c.known.ensures c.requires.0 c.requires.1
 
   -- the table's answer is rule 7's
-  answered : table_good c.loop-i.starts c.loop-i.ends (op (sheet_in c.args.s.now) c.loop-i.i) ≡ request_good (sheet_in c.args.s.now) c.loop-i.i
+  answered : table_good c.loop-i.table.starts c.loop-i.table.ends (op (sheet_in c.args.s.now) c.loop-i.i) ≡ request_good (sheet_in c.args.s.now) c.loop-i.i
   answered = table_answer c.loop-i.invariant.1 ranked (λ j l. (there j (omega (arith, inside))).slot_small)
 
-pub table_is_good-requires : goal.table_is_good-requires
-table_is_good-requires c =
-    let d = (goal.at.table_is_good-requires c).In-loop-i in
+pub is_good-requires : goal.is_good-requires
+is_good-requires c =
+    let d = (goal.at.is_good-requires c).In-loop-i in
     (inside d, there d _ (inside d))
 
-pub returns-then-not-table_is_good : goal.returns-then-not-table_is_good
-returns-then-not-table_is_good c =
-    let d = (goal.at.returns-then-not-table_is_good c).In-loop-i in
-    searched_bad c.loop-i.invariant.0 c.loop-i-test.true (c.table_is_good.ensures ∙ answered d) (ap not c.if-not-table_is_good.true)
+pub returns-then-not-is_good : goal.returns-then-not-is_good
+returns-then-not-is_good c =
+    let d = (goal.at.returns-then-not-is_good c).In-loop-i in
+    searched_bad c.loop-i.invariant.0 c.loop-i-test.true (c.is_good.ensures ∙ answered d) (ap not c.if-not-is_good.true)
 
 pub note-requires : goal.note-requires
 note-requires c =
@@ -49,10 +49,10 @@ note-requires c =
 pub loop-i-preserved : goal.loop-i-preserved
 loop-i-preserved c =
     let d = (goal.at.loop-i-preserved c).In-loop-i in
-    let good = c.table_is_good.ensures in (
-      searched_more c.loop-i.invariant.0 c.loop-i-test.true (good ∙ answered d) (ap not c.if-not-table_is_good.false),
+    let good = c.is_good.ensures in (
+      searched_more c.loop-i.invariant.0 c.loop-i-test.true (good ∙ answered d) (ap not c.if-not-is_good.false),
       subst₂ (λ (x y : List ℕ). Kept (sheet_in c.args.s.now) c.args.r (c.loop-i.i + 1) x y) (sym c.note.ensures.0) (sym c.note.ensures.1)
-          (kept_more c.loop-i.invariant.1 (ranked d) (there d _ (inside d)) (sym good ∙ c.if-not-table_is_good.false)),
+          (kept_more c.loop-i.invariant.1 (ranked d) (there d _ (inside d)) (sym good ∙ c.if-not-is_good.false)),
     )
 
 pub returns : goal.returns

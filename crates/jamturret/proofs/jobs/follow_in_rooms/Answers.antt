@@ -1,6 +1,6 @@
 -- `jamturret::jobs::follow_in_rooms` meets its contract: a refused order leaves inbox and report, an accepted one is delivered and
 -- reported from what scratch holds. Assumes nothing.
-use Rattle.std.proofs.Common.{Option, ap, arith, replicate, sym, ℕ, ◌∙◌}
+use Rattle.std.proofs.Common.{Option, ap, arith, replicate, ℕ, ◌∙◌}
 use Rattle.rules.specs.Order.{followed}
 use Rattle.orders.specs.Jobs.{represented}
 use Rattle.orders.specs.Follows.{Answered}

@@ -12,4 +12,3 @@ abbrev pub invariant-loop-j : goal.invariant-loop-j
 invariant-loop-j l =
     (l.j ≤ l.n) × (l.total ≤ l.j * most_ops)
     × (l.total + sum_places (sheet_in l.s) (words_in l.c (base_of Messages) l.count) (l.i + l.j) (l.n - l.j) ≡ sum_places (sheet_in l.s) (words_in l.c (base_of Messages) l.count) l.i l.n)
-
