@@ -13,7 +13,8 @@ use orders::follow;
 use sheet::Sheet;
 use state::{Queue, Scratch};
 
-// The places that n receives from operation i on find among `count` pending messages, added up.
+// The places that n receives from operation i on find among `count` pending messages, added up; one that finds nothing counts with
+// their number.
 fn places(s: &Sheet, c: &Scratch, count: usize, i: usize, n: usize) -> usize
     requires { Readable s.now c.now × Listed s.now c.now Messages count × (i + n ≤ N_of (sheet_in s.now)) }
     ensures { result ≡ sum_places (sheet_in s.now) (words_in c.now (base_of Messages) count) i n }
