@@ -6,21 +6,29 @@ use crate::lent;
 use jamturret::{jamturret_check, jamturret_follow, jamturret_premise, jamturret_run};
 use sheet::Answer;
 use std::fs::File;
-use std::io;
-use std::io::Read;
+use std::io::{ErrorKind, Read};
+use std::{io, str};
 
 // Check, premise and run, then follow with the order that run wrote down. A file that cannot be opened is told on standard error.
-pub fn job(rt: &HostRuntime, path: &str) -> io::Result<()> {
+pub fn job(rt: &HostRuntime, path: &[u8]) -> io::Result<()> {
     let mut input = lent::input();
-    let n = match File::open(rt, path) {
+    let n = match open(rt, path) {
         Ok(mut file) => read_full(&mut file, &mut input),
         Err(e) => return fail(rt, path, e),
     };
     let sheet = &input[..n];
-    print!(rt; "{path}")?;
+    rt.write_all(path)?;
     answer(rt, ": check ", jamturret_check(sheet))?;
     answer(rt, "  premise ", jamturret_premise(sheet))?;
     run(rt, sheet)
+}
+
+// A path that is no text names no file that std opens.
+fn open(rt: &HostRuntime, path: &[u8]) -> io::Result<File> {
+    match str::from_utf8(path) {
+        Ok(name) => File::open(rt, name),
+        Err(_) => Err(io::Error::from(ErrorKind::InvalidInput)),
+    }
 }
 
 // Reads until the room is full, the file ends or a read fails; answers how many bytes stand at the start of the room.
@@ -39,10 +47,11 @@ fn read_full(file: &mut File, room: &mut [u8]) -> usize
 }
 
 // The file's name and why it cannot be opened.
-fn fail(rt: &HostRuntime, path: &str, e: io::Error) -> io::Result<()> {
+fn fail(rt: &HostRuntime, path: &[u8], e: io::Error) -> io::Result<()> {
     let said = format!(in rt.alloc(); "{e}")?;
     let words = system_words(said.as_str());
-    eprintln!(rt; "{path}: {words}")
+    rt.stderr().write_all(path)?;
+    eprintln!(rt; ": {words}")
 }
 
 // The system's words, without the number that std puts behind them.

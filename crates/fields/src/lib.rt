@@ -56,12 +56,13 @@ fn wait_is_good(s: &Sheet, i: usize) -> bool
         && s.slot(i) < limits::SLOT_LIMIT
 }
 
-// A probe has an envelope, and nothing else (document 02, K9).
+// A probe has an envelope, and nothing else (document 02, K9). By `&`, so that one answer has the whole test and its edit fails there.
 fn probe_is_good(s: &Sheet, i: usize) -> bool
     requires { i < N_of (sheet_in s.now) }
     ensures { result ≡ probe_good (op (sheet_in s.now) i) }
 {
-    s.flag(i) == 0 && s.zero_field(i) == 0 && s.offset(i) == 0 && s.long(i) == 0 && s.slot(i) == 0
+    ((s.flag(i) == 0) & (s.zero_field(i) == 0))
+        & (((s.offset(i) == 0) & (s.long(i) == 0)) & (s.slot(i) == 0))
 }
 
 // A receive's room is its board's inbox, a send's the payload.

@@ -1,6 +1,6 @@
 -- What follow and run do once sheet and rooms are accepted, and from that the whole outcome of a call (rules' Service).
 -- Assumes nothing.
---   Finished                  deliveries, report and scratch at the end of a job
+--   Finished                deliveries and report at the end of a job
 --   FollowDoes, RunDoes     the outcome past sheet and rooms
 --   early, unrefused, ready   a refusal of sheet or rooms, and what is settled where there is none
 --   follow_done, run_done     the whole outcome; follow_refused, run_refused: of a refusal of sheet or rooms

@@ -8,7 +8,7 @@ ghost use Rattle.search.specs.Candidates.{Asks, sides_fit, message_beside, recei
 
 use limits::ANY;
 use sheet::Sheet;
-use state::{Queue, Scratch};
+use state::{Queue, ranks};
 
 // What an operation asks of those that wait: its own rank, whom it names, its communicator and its tag.
 #[derive(Clone, Copy)]
@@ -20,12 +20,12 @@ pub struct Asked {
 }
 
 // What operation i asks for.
-pub fn asked_by(s: &Sheet, c: &Scratch, i: usize) -> Asked
+pub fn asked_by(s: &Sheet, c: &[u8], i: usize) -> Asked
     requires { Readable s.now c.now × (i < N_of (sheet_in s.now)) }
     ensures { Asks (sheet_in s.now) i result }
 {
     Asked {
-        rank: c.rank_at(i),
+        rank: ranks::rank_at(c, i),
         peer: s.peer(i),
         communicator: s.comm(i),
         tag: s.tag(i),
@@ -33,22 +33,22 @@ pub fn asked_by(s: &Sheet, c: &Scratch, i: usize) -> Asked
 }
 
 // Message m fits a receive.
-fn message_fits(s: &Sheet, c: &Scratch, a: Asked, m: usize) -> bool
+fn message_fits(s: &Sheet, c: &[u8], a: Asked, m: usize) -> bool
     requires { Readable s.now c.now × (m < N_of (sheet_in s.now)) }
     ensures { result ≡ sides_fit (message_beside (sheet_in s.now) a m) }
 {
-    (a.peer == ANY || a.peer == c.rank_at(m))
+    (a.peer == ANY || a.peer == ranks::rank_at(c, m))
         && s.peer(m) == a.rank
         && (a.tag == ANY || a.tag == s.tag(m))
         && s.comm(m) == a.communicator
 }
 
 // Posted receive q fits a send.
-fn receive_fits(s: &Sheet, c: &Scratch, a: Asked, q: usize) -> bool
+fn receive_fits(s: &Sheet, c: &[u8], a: Asked, q: usize) -> bool
     requires { Readable s.now c.now × (q < N_of (sheet_in s.now)) }
     ensures { result ≡ sides_fit (receive_beside (sheet_in s.now) a q) }
 {
-    a.peer == c.rank_at(q)
+    a.peer == ranks::rank_at(c, q)
         && waiting::asks_for(s.tag(q), a.tag)
         && waiting::asks_for(s.peer(q), a.rank)
         && a.communicator == s.comm(q)
@@ -56,7 +56,7 @@ fn receive_fits(s: &Sheet, c: &Scratch, a: Asked, q: usize) -> bool
 
 // Operation j of a list fits.
 #[tactic(auto, unfolding(crate::specs::Candidates::candidate_fits))]
-pub fn candidate_fits(s: &Sheet, c: &Scratch, list: Queue, a: Asked, j: usize) -> bool
+pub fn candidate_fits(s: &Sheet, c: &[u8], list: Queue, a: Asked, j: usize) -> bool
     requires { Readable s.now c.now × (j < N_of (sheet_in s.now)) }
     ensures { result ≡ candidate_fits list (sheet_in s.now) a j }
 {

@@ -21,7 +21,7 @@ fn places(s: &Sheet, c: &Scratch, count: usize, i: usize, n: usize) -> usize
 {
     let mut total = 0;
     for j in 0..n {
-        total += search::find(s, c, Queue::Messages, count, i + j).unwrap_or(count);
+        total += search::find(s, c.bytes(), Queue::Messages, count, i + j).unwrap_or(count);
     }
     total
 }

@@ -23,8 +23,16 @@ fn at(s: &[u8], i: usize) -> usize
 }
 
 impl Sheet<'_> {
-    // Its kind, for the tests of roles below.
-    pub fn kind(&self, i: usize) -> Result<Kind, UnknownKind>
+    // Its kind as the byte that stands there, which need be no kind's number before refusal 6 is asked.
+    pub fn kind(&self, i: usize) -> usize
+        requires { i < N_of (sheet_in self.now) }
+        ensures { Byte (op (sheet_in self.now) i).kind result }
+    {
+        words::byte_at(self.bytes, at(self.bytes, i))
+    }
+
+    // Its kind by name, for the tests of roles below.
+    pub fn named_kind(&self, i: usize) -> Result<Kind, UnknownKind>
         requires { i < N_of (sheet_in self.now) }
         ensures { Names (op (sheet_in self.now) i).kind result }
     {
@@ -36,7 +44,7 @@ impl Sheet<'_> {
         requires { i < N_of (sheet_in self.now) }
         ensures { result ≡ eqb (op (sheet_in self.now) i).kind (kind_number k) }
     {
-        self.kind(i) == Ok(k)
+        self.named_kind(i) == Ok(k)
     }
 
     // Its flag: 0 blocking, 1 nonblocking.
@@ -224,6 +232,6 @@ impl Sheet<'_> {
         requires { i < N_of (sheet_in self.now) }
         ensures { result ≡ frees_slot (op (sheet_in self.now) i) }
     {
-        self.is(i, Kind::Wait)
+        self.is(i, Kind::Wait) // a query leaves it held
     }
 }

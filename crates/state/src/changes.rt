@@ -91,28 +91,32 @@ impl Scratch<'_> {
         self.put_place(r, q.with_figures(w, figures));
     }
 
-    // A store of board r, of the size, is charged n bytes where it has room, and says whether.
+    // A store of board r, of the size, is charged n bytes where it has room, and says whether. Its account is lent and changed where
+    // it stands; a place has the figures in two bytes each.
     pub fn charge(&mut self, r: usize, w: Store, size: usize, n: usize) -> bool
         requires { (r < most_boards) × (size < 65536) }
         ensures { Charges (stands_for w) self.old self.new r size n result }
     {
         let q = self.place_of(r);
-        let Some(after) = q.figures(w).account(size).take(n) else {
+        let figures = q.figures(w);
+        let mut account = figures.account(size);
+        if !account.charge(n) {
             return false;
-        };
-        self.put_account(r, q, w, after);
+        }
+        self.put_account(r, q, w, account);
         true
     }
 
-    // A charge of n bytes to a store goes.
+    // A charge of n bytes to a store goes: its account is lent as in `charge`.
     pub fn release(&mut self, r: usize, w: Store, size: usize, n: usize)
         requires { r < most_boards }
         ensures { Changes self.old self.new (λ s x. r < P_of s)
             (λ s x. with_place r (released_in (stands_for w) n (place_at x r)) x) }
     {
         let q = self.place_of(r);
-        let left = q.figures(w).account(size).give_back(n);
-        self.put_account(r, q, w, left);
+        let mut account = q.figures(w).account(size);
+        account.release(n);
+        self.put_account(r, q, w, account);
     }
 
     // Board r has finished one operation more.

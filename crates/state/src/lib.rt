@@ -7,14 +7,14 @@ ghost use Rattle.rules.specs.Limits.{scratch_size};
 
 use std::marker::Model;
 
-mod changes;
-mod controls;
-mod lists;
-mod places;
-mod ranks;
-mod rows;
-mod start;
-mod waits;
+pub mod changes;
+pub mod controls;
+pub mod lists;
+pub mod places;
+pub mod ranks;
+pub mod rows;
+pub mod start;
+pub mod waits;
 
 // Where each part stands; another limit changes a number of `limits`, and the layout follows.
 const PLACES: usize = limits::OP_ROW_SIZE * limits::MOST_OPS;

@@ -42,16 +42,7 @@ impl Scratch<'_> {
         requires { r < most_boards }
         ensures { PlaceRead (place_in self.now (seat_at r)) result }
     {
-        let finished = self.finished_of(r);
-        let waiting = self.waiting_of(r);
-        let attached = self.figures_of(r, Store::Attached);
-        let room = self.figures_of(r, Store::Room);
-        BoardPlace {
-            finished,
-            waiting,
-            attached,
-            room,
-        }
+        place_of(self.bytes, r)
     }
 
     // The whole place of board r, put.
@@ -83,6 +74,23 @@ fn figures_in(c: &[u8], r: usize, w: Store) -> StoreFigures
     let in_use = words::two_at(c, at);
     let peak = words::two_at(c, at + 2);
     StoreFigures { in_use, peak }
+}
+
+// The whole place of board r, read from the bytes of scratch, which need be lent for reading alone.
+pub fn place_of(c: &[u8], r: usize) -> BoardPlace
+    requires { (r < most_boards) × (scratch_size ≤ length c.now) }
+    ensures { PlaceRead (place_in c.now (seat_at r)) result }
+{
+    let finished = words::two_at(c, PLACES + SEAT_SIZE * r);
+    let waiting = words::byte_at(c, PLACES + SEAT_SIZE * r + 6) == 1;
+    let attached = figures_in(c, r, Store::Attached);
+    let room = figures_in(c, r, Store::Room);
+    BoardPlace {
+        finished,
+        waiting,
+        attached,
+        room,
+    }
 }
 
 // The whole place of board r, put into the bytes of scratch.

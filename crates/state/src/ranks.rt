@@ -1,11 +1,19 @@
 // The rank of each operation, a byte each: a table that is written once, so that a search need not look a rank up.
-ghost use Rattle.std.specs.Prelude.{◌≡◌, [], ◌∷◌, ◌+◌, ◌<◌, ◌≤◌, get_or, replicate};
-ghost use Rattle.rules.specs.Limits.{most_ops};
+ghost use Rattle.std.specs.Prelude.{◌≡◌, [], ◌∷◌, ◌+◌, ◌<◌, ◌≤◌, length, get_or, replicate};
+ghost use Rattle.rules.specs.Limits.{most_ops, scratch_size};
 ghost use Rattle.rules.specs.Step.{splice};
 ghost use Rattle.state.specs.Layout.{rank_at};
 ghost use Rattle.words.specs.Read.{Byte};
 
 use crate::{RANKS, Scratch};
+
+// The rank of operation i, in the bytes of scratch, which a search reads as they are lent.
+pub fn rank_at(c: &[u8], i: usize) -> usize
+    requires { (i < most_ops) × (scratch_size ≤ length c.now) }
+    ensures { Byte (get_or c.now (rank_at i) 0) result }
+{
+    words::byte_at(c, RANKS + i)
+}
 
 impl Scratch<'_> {
     // The rank of operation i.
@@ -13,7 +21,7 @@ impl Scratch<'_> {
         requires { i < most_ops }
         ensures { Byte (get_or self.now (rank_at i) 0) result }
     {
-        words::byte_at(self.bytes, RANKS + i)
+        rank_at(self.bytes, i)
     }
 
     // The rank of one operation.

@@ -62,12 +62,11 @@ impl Scratch<'_> {
     }
 
     // A row with neither partner nor status.
-    #[tactic(auto, unfolding(rules::specs::Job::bare_entry))]
     pub fn put_bare(&mut self, i: usize, state: State)
         requires { i < most_ops }
         ensures { self.new ≡ splice self.old (row_at i) (op_row (bare_entry (state_number state))) }
     {
-        put_row(self.bytes, i, state, false, ABSENT, ABSENT, ABSENT, 0);
+        put_bare(self.bytes, i, u8::from(state));
     }
 
     // The row of message m, matched with receive r.
@@ -75,7 +74,16 @@ impl Scratch<'_> {
         requires { m < most_ops }
         ensures { self.new ≡ splice self.old (row_at m) (op_row (entry 3 0 r absent absent 0)) }
     {
-        put_row(self.bytes, m, State::Matched, false, r, ABSENT, ABSENT, 0);
+        put_row(
+            self.bytes,
+            m,
+            u8::from(State::Matched),
+            0,
+            r,
+            ABSENT,
+            ABSENT,
+            0,
+        );
     }
 
     // The row of receive r, matched with message m, with its status.
@@ -91,7 +99,7 @@ impl Scratch<'_> {
         requires { r < most_ops }
         ensures { self.new ≡ splice self.old (row_at r) (op_row (entry 3 (cond cut 1 0) m source tag long)) }
     {
-        put_row(self.bytes, r, State::Matched, cut, m, source, tag, long);
+        put_received(self.bytes, r, u8::from(cut), m, source, tag, long);
     }
 
     // The row of operation i, finished, with what it tells (document 02, K9).
@@ -102,8 +110,8 @@ impl Scratch<'_> {
         put_row(
             self.bytes,
             i,
-            State::Finished,
-            false,
+            u8::from(State::Finished),
+            0,
             ABSENT,
             source,
             tag,
@@ -113,12 +121,12 @@ impl Scratch<'_> {
 }
 
 // State and cut, a byte each, and the partner: the first four bytes of a row.
-fn put_front(c: &mut [u8], at: usize, state: State, cut: bool, partner: usize)
+fn put_front(c: &mut [u8], at: usize, state: u8, cut: u8, partner: usize)
     requires { at + 4 ≤ length c.old }
-    ensures { c.new ≡ splice c.old at (state_number state ∷ cond cut 1 0 ∷ low_two partner) }
+    ensures { c.new ≡ splice c.old at (state ∷ cut ∷ low_two partner) }
 {
-    words::put_byte(c, at, u8::from(state));
-    words::put_byte(c, at + 1, u8::from(cut));
+    words::put_byte(c, at, state);
+    words::put_byte(c, at + 1, cut);
     words::put_two(c, at + 2, partner);
 }
 
@@ -127,19 +135,44 @@ fn put_front(c: &mut [u8], at: usize, state: State, cut: bool, partner: usize)
 fn put_row(
     c: &mut [u8],
     i: usize,
-    state: State,
-    cut: bool,
+    state: u8,
+    cut: u8,
     partner: usize,
     source: usize,
     tag: usize,
     long: usize,
 )
     requires { (i < most_ops) × (scratch_size ≤ length c.old) }
-    ensures { c.new ≡ splice c.old (row_at i)
-        (op_row (entry (state_number state) (cond cut 1 0) partner source tag long)) }
+    ensures { c.new ≡ splice c.old (row_at i) (op_row (entry state cut partner source tag long)) }
 {
     let at = limits::OP_ROW_SIZE * i;
     put_front(c, at, state, cut, partner);
     words::put_pair(c, at + 4, source, tag);
     words::put_pair(c, at + 8, long, 0);
+}
+
+// A row with neither partner nor status, in the bytes of scratch. This function and the next put any byte as a state or a cut: what a
+// job's states are, their callers say.
+#[tactic(auto, unfolding(rules::specs::Job::bare_entry))]
+pub fn put_bare(c: &mut [u8], i: usize, v: u8)
+    requires { (i < most_ops) × (scratch_size ≤ length c.old) }
+    ensures { c.new ≡ splice c.old (row_at i) (op_row (bare_entry v)) }
+{
+    put_row(c, i, v, 0, ABSENT, ABSENT, ABSENT, 0);
+}
+
+// The row of receive r, matched with message m, with its status.
+pub fn put_received(
+    c: &mut [u8],
+    r: usize,
+    cut: u8,
+    m: usize,
+    source: usize,
+    tag: usize,
+    long: usize,
+)
+    requires { (r < most_ops) × (scratch_size ≤ length c.old) }
+    ensures { c.new ≡ splice c.old (row_at r) (op_row (entry 3 cut m source tag long)) }
+{
+    put_row(c, r, u8::from(State::Matched), cut, m, source, tag, long);
 }

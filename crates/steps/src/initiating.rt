@@ -30,7 +30,7 @@ pub fn begin(s: &Sheet, c: &mut Scratch, t: Control, r: usize, i: usize) -> Cont
 {
     let receives = s.is_receive(i);
     let list = searched(receives);
-    match search::find(s, c, list, t.count(list), i) {
+    match search::find(s, c.bytes(), list, t.count(list), i) {
         Some(k) => matching::pair(s, c, t, list, r, i, k),
         None if receives => parts::pend(s, c, t, Queue::Receives, r, i, State::Pending),
         None => sends::leave(s, c, t, r, i),

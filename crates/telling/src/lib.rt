@@ -19,7 +19,7 @@ fn found_at(s: &Sheet, c: &Scratch, t: Control, i: usize) -> Option<usize>
     requires { Holds s.now c.now t (Looks i) }
     ensures { Finds s.now c.now t i result }
 {
-    search::find(s, c, Queue::Messages, t.messages, i)
+    search::find(s, c.bytes(), Queue::Messages, t.messages, i)
 }
 
 // The step of operation i, which tells, can be taken: a query's always, a probe's where a pending message fits it.

@@ -1,7 +1,11 @@
--- A number in decimal is its fewest digits in base 10, the most significant first. Assumes nothing.
+-- A number in decimal is its fewest digits in base 10, the most significant first, and it is the text that std prints of it.
+-- Assumes nothing.
 use Rattle.std.specs.Prelude.{◌≡◌, Bool, cond, List, [], ◌∷◌, ◌++◌, ℕ, zero, suc, ◌+◌, ◌-◌, ◌/◌, ◌%◌, ◌^◌, ◌<◌, ◌≤◌}
 use Rattle.std.proofs.Common.{sym, ◌∙◌, ap, ap₂, subst, arith, pow-suc, pow-add, lt-ltb, le-ltb}
 use Rattle.std.proofs.Math.Decide.{dec_le}
+use Rattle.std.specs.Fmt as fmt
+use Rattle.std.proofs.lemmas.Fmt.{length-decimal-le, AppendsLastDigit, decimal_from_appends}
+use Rattle.std.proofs.lemmas.Bool.Decides.{nat_tests}
 use Rattle.text.specs.Digits.{hex_digit_ascii, last_digits, IsDigitCount}
 use Rattle.text.specs.Text.{digit_of, decimal_in, decimal, most_digits}
 
@@ -48,3 +52,12 @@ fewest_most k n small f = go (dec_le k most_digits)
 pub decimal_is : (k n : ℕ) → n < 2 ^ 64 → IsDigitCount 10 1 n k → decimal n ≡ last_digits 10 k n
 unfolding decimal
 decimal_is k n small f = decimal_fewest most_digits k n (fewest_most k n small f) f
+
+appends : AppendsLastDigit decimal_in
+unfolding decimal_in digit_of
+appends = record { one = λ k n h. grind (arith, nat_tests); more = λ k n h. grind (arith, nat_tests) }
+
+-- what std prints of a number, and with it itoa, is the number in decimal
+pub decimal_printed : (n : ℕ) → n < 2 ^ 64 → decimal n ≡ fmt.decimal n
+unfolding decimal
+decimal_printed n h = decimal_from_appends decimal_in appends most_digits n h (length-decimal-le most_digits n (omega arith) (omega arith) h)

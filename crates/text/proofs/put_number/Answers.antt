@@ -2,7 +2,7 @@
 use Rattle.std.proofs.Common.{sym, ◌∙◌, ap, List, ℕ, [], ◌∷◌, ◌++◌, length, arith, length-append}
 use Rattle.rules.specs.Step.{splice}
 use Rattle.text.specs.Text.{number, decimal}
-use Rattle.text.proofs.Printed.{decimal_printed}
+use Rattle.text.proofs.Decimals.{decimal_printed}
 use Rattle.text.proofs.put_number.Goals as goal
 
 pub returns : goal.returns

@@ -1,5 +1,6 @@
 -- `requests::forgotten::script_refusal` meets its contract: each way leaves the walk at the operation before i. Assumes nothing.
 use Rattle.std.proofs.Common.{arith, ◌-◌}
+use Rattle.std.proofs.lemmas.Bool.Decides.{nat_tests}
 use Rattle.rules.specs.Sheet.{sheet_in, op}
 use Rattle.requests.specs.Slots.{Slotted}
 use Rattle.requests.specs.Requests.{slotted}
@@ -27,11 +28,11 @@ loop-i-preserved-then-frees_slot c =
 
 pub loop-i-preserved-then-takes_slot-freed : goal.loop-i-preserved-then-takes_slot-freed
 loop-i-preserved-then-takes_slot-freed c =
-    walked_forgotten c.loop-i.invariant (omega arith) (there (goal.at.loop-i-preserved-then-takes_slot-freed c).In-loop-i) (cc) (cc)
+    walked_forgotten c.loop-i.invariant (omega arith) (there (goal.at.loop-i-preserved-then-takes_slot-freed c).In-loop-i) (cc) (grind (arith, nat_tests))
 
 pub loop-i-preserved : goal.loop-i-preserved
 loop-i-preserved c =
-    walked_on c.loop-i.invariant (omega arith) (there (goal.at.loop-i-preserved c).In-loop-i) (cc) (cc)
+    walked_on c.loop-i.invariant (omega arith) (there (goal.at.loop-i-preserved c).In-loop-i) (cc) (grind (arith, nat_tests))
 
 pub returns : goal.returns
 returns c = walked_all c.loop-i.invariant (omega arith)

@@ -18,12 +18,12 @@ returns c =
     let a = c.args in
     let old = c.place_of-q in
     let f = c.figures in
-    let left = c.give_back-left in
-    let back = left.ensures ∙ ap (λ (b : Account). given_back b a.n) c.account.ensures in
+    let left = c.release in
+    let back = left.ensures ∙ ap (λ (b : Account). given_back b a.n) c.account-account.ensures in
     let w = stands_for a.w in
     let put = c.put_account in
     place_change s a.self.now t x d (released_in w a.n) a.r old.result put.new.self l old.ensures
     (released_fits w a.n (place_of old.result) old.ensures.fits)
     (put.ensures
     ∙ ap (λ (p : Place). splice a.self.now (seat_at a.r) (place_row p))
-    (released_as w a.size a.n old.result f.result f.ensures left.result back))
+    (released_as w a.size a.n old.result f.result f.ensures left.new.self back))

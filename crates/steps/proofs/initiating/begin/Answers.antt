@@ -1,5 +1,5 @@
 -- `steps::initiating::begin` meets its contract: by what the search found, each way is the definition's. Assumes nothing.
-use Rattle.std.proofs.Common.{Bool, None, Option, Some, ap, arith, false, length, subst, sym, true, ℕ, ◌<◌, ◌∙◌, ◌≡◌}
+use Rattle.std.proofs.Common.{Bool, List, None, Option, Some, ap, arith, false, length, subst, sym, true, ℕ, ◌<◌, ◌∙◌, ◌≡◌}
 use mathlib.Core.Option.{none, some}
 use Rattle.rules.specs.Sheet.{Sheet, sheet_in, two}
 use Rattle.rules.specs.Job.{Job}
@@ -9,7 +9,7 @@ use Rattle.state.specs.Layout.{word_at}
 use Rattle.state.specs.Queues.{base_of, count_of, list_of, with_list, pended}
 use Rattle.state.specs.Decodes.{Decodes}
 use Rattle.state.proofs.Decodes.{list_length}
-use Rattle.search.specs.Search.{Listed, FirstBelow, First, pair_fits}
+use Rattle.search.specs.Search.{Readable, Listed, FirstBelow, First, pair_fits}
 use Rattle.search.specs.Held.{holds_reads, listed_in, found_is, missing_is}
 use Rattle.steps.specs.Pairing.{searched, matched_with}
 use Rattle.steps.specs.Initiate.{begins_unentered, begins_pairs, initiating_found, initiating_posted, initiating_left}
@@ -25,9 +25,11 @@ find-requires c =
     let a = c.args in
     let p = c.requires in
     let list = c.searched-list.result in
-    let there = listed_in a.s.now a.c.now a.t p.job p.decodes list p.valid p.fine.board.reached in (
-      holds_reads p,
-      subst (λ (n : ℕ). Listed a.s.now a.c.now list n) (sym c.count.ensures) there,
+    let there = listed_in a.s.now a.c.now a.t p.job p.decodes list p.valid p.fine.board.reached in
+    let same = sym c.bytes.ensures in (
+      subst (λ (b : List ℕ). Readable a.s.now b) same (holds_reads p),
+      subst (λ (b : List ℕ). Listed a.s.now b list c.count.result) same
+          (subst (λ (n : ℕ). Listed a.s.now a.c.now list n) (sym c.count.ensures) there),
       (begins_unentered p.valid p.fine).inside,
     )
 
@@ -49,7 +51,9 @@ module _ (c : After-find) where
   first : (o : Option ℕ) → c.find.result ≡ o → First fits_at (count_of list c.args.t) o
   first o e =
       subst (λ (p : Option ℕ). First fits_at (count_of list c.args.t) p) e
-      (subst (λ (n : ℕ). First fits_at n c.find.result) c.count.ensures c.find.ensures)
+      (subst (λ (n : ℕ). First fits_at n c.find.result) c.count.ensures
+      (subst (λ (b : List ℕ). First (λ i. pair_fits list s c.args.i (two b (word_at (base_of list) i))) c.count.result c.find.result)
+      c.bytes.ensures c.find.ensures))
 
   module _ (k : ℕ) (e : c.find.result ≡ Some k) (x : Job) (d : Decodes s c.args.c.now c.args.t x) where
     abbrev j : ℕ
